@@ -1,0 +1,9 @@
+pub mod Names
+pub mod Mailboxes
+pub mod Effects
+pub mod Spelling
+pub mod Journals
+pub mod Views
+pub mod Sessions
+pub mod Transcripts
+pub mod Texts

@@ -1,0 +1,102 @@
+-- What a run of commands is: each is answered by the rules over a prefix of one log.
+use Rattle.std.specs.Prelude.{◌≡◌, ◌⊎◌, ℕ, ◌+◌, ◌<◌, ◌≤◌, Bool, true, cond, List, [], ◌∷◌, length, take, drop, Some, None, slice_get, nat_eq}
+use Rattle.dv_model.specs.declared.types.Command.{Command}
+use Rattle.dv_model.specs.declared.types.Command.TheVariants as command
+use Rattle.dv_model.specs.declared.types.Mailbox.{Mailbox}
+use Rattle.dv_model.specs.declared.types.Reply.{Reply}
+use Rattle.dv_model.specs.declared.types.Reply.TheVariants as reply
+use Rattle.dv_model.specs.Journals.{Log, Held, at, mark_of, new_guid}
+use Rattle.dv_model.specs.Sessions.{State, new_session, answer, group_of, refusal_of, is_write}
+use Rattle.dv_model.specs.Views.{View}
+
+-- ---- one command
+
+-- an appended message is the log's message of its UID, with a GUID of its own
+abbrev pub KeepsMessage : Log → Command → Mailbox → Type 0
+KeepsMessage log (command.Append flags keywords message) m =
+    (log.mail m.next_uid ≡ Held message) × ((received : ℕ) × (log.guid m.next_uid ≡ new_guid log.indexid m.uid_validity m.next_uid received))
+KeepsMessage log c m = Unit {0}
+
+-- its group is the entry behind those that it met
+pub record HasWritten (log : Log) (author met q : ℕ) (view : View) (c : Command) (m : Mailbox) : Type 0 where
+  pub behind : q ≡ met + 1
+  pub some : 1 ≤ length (group_of c view m log.guid).records
+  pub entry : slice_get log.entries met ≡ Some (record { author = author; group = group_of c view m log.guid })
+  pub message : KeepsMessage log c m
+
+-- it wrote its group as one entry, or has none to write
+abbrev pub Wrote : Log → ℕ → ℕ → ℕ → View → Command → Mailbox → Type 0
+Wrote log author met q view c m = HasWritten log author met q view c m ⊎ ((q ≡ met) × ((group_of c view m log.guid).records ≡ []))
+
+-- it was answered after q entries of the log
+pub record IsTold (log : Log) (author met q : ℕ) (x : State) (c : Command) (replies : List Reply) (y : State) : Type 0 where
+  pub before : Mailbox
+  pub was_there : at log met ≡ Some before
+  pub allowed : refusal_of x c before (mark_of log met) log.guid ≡ None
+  pub wrote : Wrote log author met q x.view c before
+  pub mailbox : Mailbox
+  pub is_there : at log q ≡ Some mailbox
+  pub seen : (x.told ≤ q) × (q ≤ length log.entries)
+  pub is : answer log.mail x c before q mailbox (mark_of log q) ≡ record { replies = replies; next = y }
+
+-- it was refused, by one line, and the session is as before
+pub record IsRefused (log : Log) (met q : ℕ) (x : State) (c : Command) (replies : List Reply) (y : State) : Type 0 where
+  pub before : Mailbox
+  pub was_there : at log met ≡ Some before
+  pub line : Reply
+  pub refusal : refusal_of x c before (mark_of log met) log.guid ≡ Some line
+  pub one_line : replies ≡ line ∷ []
+  pub nothing_written : q ≡ met
+  pub stays : y ≡ x
+
+-- the command reaches the disk
+abbrev pub touches_disk : Command → Bool
+touches_disk c = is_write c
+
+-- the disk failed, more often than before the run, and the session is as before (RFC 5530, UNAVAILABLE)
+pub record IsUnavailable (log : Log) (base met q : ℕ) (x : State) (c : Command) (replies : List Reply) (y : State) : Type 0 where
+  pub before : Mailbox
+  pub was_there : at log met ≡ Some before
+  pub allowed : refusal_of x c before (mark_of log met) log.guid ≡ None
+  pub touches : touches_disk c ≡ true
+  pub faults : ℕ
+  pub above : base < faults
+  pub one_line : replies ≡ reply.Unavailable faults ∷ []
+  pub nothing_written : q ≡ met
+  pub stays : y ≡ x
+
+-- the command is answered so, where the log had `met` entries before and has q behind
+abbrev pub Answered : Log → ℕ → ℕ → ℕ → ℕ → State → Command → List Reply → State → Type 0
+Answered log base author met q x c replies y = IsRefused log met q x c replies y ⊎ IsUnavailable log base met q x c replies y ⊎ IsTold log author met q x c replies y
+
+-- ---- a whole run, one command after another
+
+-- a line of a run names a session by its number
+abbrev pub Line : Type 0
+Line = ℕ × Command
+
+-- one session is changed
+abbrev pub with_state : (ℕ → State) → ℕ → State → ℕ → State
+with_state states s y t = cond (nat_eq s t) y (states t)
+
+-- each of these lines is answered, one after another, from these states and so many entries to those
+abbrev pub Runs : Log → ℕ → (ℕ → State) → ℕ → List Line → List (List Reply) → (ℕ → State) → ℕ → Type 0
+Runs log base states met [] [] after q = (after ≡ states) × (q ≡ met)
+Runs log base states met [] (replies ∷ rest) after q = ⊥
+Runs log base states met (line ∷ lines) [] after q = ⊥
+Runs log base states met (line ∷ lines) (replies ∷ rest) after q =
+    (k : ℕ) × (y : State) × Answered log base line.0 met k (states line.0) line.1 replies y × Runs log base (with_state states line.0 y) k lines rest after q
+
+-- the log ends where the answered lines ended, or one entry later by a line that wasn't answered
+abbrev pub EndsAt : Log → (ℕ → State) → ℕ → List Line → Type 0
+EndsAt log states met [] = length log.entries ≡ met
+EndsAt log states met (line ∷ lines) =
+    (length log.entries ≡ met)
+    ⊎ ((m : Mailbox) × (at log met ≡ Some m) × (length log.entries ≡ met + 1) × (slice_get log.entries met ≡ Some (record { author = line.0; group = group_of line.1 (states line.0).view m log.guid })))
+
+-- the first lines are answered, one after another, and the log ends behind them
+pub record Serial (log : Log) (base : ℕ) (lines : List Line) (replies : List (List Reply)) : Type 0 where
+  pub states : ℕ → State
+  pub written : ℕ
+  pub answered : Runs log base (λ s. new_session) 0 (take (length replies) lines) replies states written
+  pub ends : EndsAt log states written (drop (length replies) lines)

@@ -1,0 +1,15 @@
+//! The values of a mailbox, of its transaction log and of its sessions, and what they mean.
+#![tactic(auto)]
+
+mod copies;
+mod list;
+mod memory;
+mod types;
+
+pub use list::{Bytes, List};
+pub use memory::{Duplicate, NoMemory};
+pub use sqlite_items::{Boxed, Items};
+pub use types::{
+    Body, Change, Command, Current, End, Entry, Extension, Group, GuidRow, How, Intro, Item, Key,
+    Mailbox, Mark, NewRow, Pair, Part, Record, Reply, Row, Shown, Span, Step, Value, Word,
+};

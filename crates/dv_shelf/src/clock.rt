@@ -1,0 +1,20 @@
+ghost use Rattle.std.specs.Prelude.{◌≡◌, ℕ};
+ghost use Rattle.dv_shelf.specs.Clocks.{behind};
+
+/// A clock, by its readings to come.
+pub trait Clock {
+    ghost tells: { Self → Type 0 };
+
+    /// The reading after so many others.
+    ghost upcoming: { Self → ℕ → ℕ };
+
+    fn now(&mut self) -> u32
+        ensures told { tells self.old → tells self.new }
+        ensures reading { tells self.old → result ≡ upcoming self.old 0 }
+        ensures later { tells self.old → upcoming self.new ≡ behind (upcoming self.old) 1 };
+}
+
+/// What is called before each command of a session.
+pub trait Gate {
+    fn before(&self, session: u32, command: u32);
+}
