@@ -1,0 +1,5 @@
+pub mod Transcripts
+pub mod Appends
+pub mod Speaking
+pub mod Searching
+pub mod Clients

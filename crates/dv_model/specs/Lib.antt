@@ -2,8 +2,13 @@ pub mod Names
 pub mod Mailboxes
 pub mod Effects
 pub mod Spelling
+pub mod Fields
+pub mod BoxTexts
 pub mod Journals
 pub mod Views
+pub mod Sets
+pub mod Searches
 pub mod Sessions
 pub mod Transcripts
 pub mod Texts
+pub mod Laws

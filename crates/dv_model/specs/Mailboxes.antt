@@ -18,13 +18,16 @@ pub record IsRowOf (m : Mailbox) (row : Row) : Type 0 where
   pub parts : map length row.parts ≡ map (λ e. e.record_size) m.extensions
   pub modseq : (1 ≤ row.modseq) × (row.modseq ≤ m.highest)
 
--- at most 16 extensions, 1,024 bytes of a row and 65,536 of a header; `keywords` names none
+-- at most 16 extensions, 1,024 bytes of a row and 65,536 of a header; each has a name of its own, which isn't `keywords`
 pub record AreExtensions (es : List Extension) : Type 0 where
   pub count : length es ≤ 16
   pub record_sizes : sum_by (λ e. e.record_size) es ≤ 1024
   pub headers : All (λ e. length e.header ≤ 65536) es
   pub names : All (λ e. (1 ≤ length e.name) × (length e.name ≤ 255) × (e.name ≢ codes "keywords")) es
+  pub distinct : AllPairs (λ a b. a.name ≢ b.name) es
 
+-- UIDs are assigned in a strictly ascending fashion (RFC 3501, section 2.3.1.1) and are below the UIDNEXT, keyword names
+-- are distinct, each row has one part for each extension, and no row was changed after the mailbox
 pub record IsValid (m : Mailbox) : Type 0 where
   pub next_uid : (1 ≤ m.next_uid) × (m.next_uid < 2 ^ 32)
   pub rising : IsStrictlyIncreasing (map (λ row. row.uid) m.rows)

@@ -16,9 +16,11 @@ spaced [] = []
 spaced (w ∷ []) = w
 spaced (w ∷ ws) = w ++ 32 ∷ spaced ws
 
+-- the flag's name where its bit is set
 abbrev pub flag_when : ℕ → ℕ → List ℕ → List (List ℕ)
 flag_when flags bit name = if nat_eq (bit_and flags bit) 0 then [] else name ∷ []
 
+-- the system flags in the order of their bits (RFC 3501, section 2.3.2)
 abbrev pub flag_words : ℕ → List (List ℕ)
 flag_words flags =
     flag_when flags 1 (codes "\\Answered") ++ flag_when flags 2 (codes "\\Flagged") ++ flag_when flags 4 (codes "\\Deleted") ++ flag_when flags 8 (codes "\\Seen") ++ flag_when flags 16 (codes "\\Draft")
@@ -27,6 +29,7 @@ flag_words flags =
 abbrev pub literal : List ℕ → List ℕ
 literal bytes = codes "{" ++ decimal (length bytes) ++ codes "}" ++ 10 ∷ bytes
 
+-- a value of a FETCH with its name (RFC 3501, section 7.4.2; MODSEQ of RFC 7162, section 3.1.5)
 abbrev pub value_text : Value → List ℕ
 value_text (value.Flags flags keywords) = codes "FLAGS (" ++ spaced (flag_words flags ++ keywords) ++ codes ")"
 value_text (value.Size n) = codes "RFC822.SIZE " ++ decimal n
@@ -35,9 +38,11 @@ value_text (value.Field name (Some bytes)) = codes "FIELD " ++ name ++ codes " "
 value_text (value.Field name None) = codes "FIELD " ++ name ++ codes " NIL"
 value_text (value.Modseq n) = codes "MODSEQ (" ++ decimal n ++ codes ")"
 
+-- a place of the log: the file's sequence number and the offset
 abbrev pub mark_text : Mark → List ℕ
 mark_text mark = codes "MARK " ++ decimal mark.file_seq ++ codes ":" ++ decimal mark.offset
 
+-- the name of a command
 abbrev pub word_text : Word → List ℕ
 word_text word.Select = codes "SELECT"
 word_text word.Noop = codes "NOOP"
@@ -52,6 +57,7 @@ word_text word.UidStore = codes "UID STORE"
 word_text word.UidSearch = codes "UID SEARCH"
 word_text word.UidRemove = codes "UID REMOVE"
 
+-- APPENDUID with UIDVALIDITY and UID (RFC 4315, section 3)
 abbrev pub given_text : Option (ℕ × ℕ) → List ℕ
 given_text None = []
 given_text (Some given) = codes "[APPENDUID " ++ decimal given.0 ++ codes " " ++ decimal given.1 ++ codes "] "
@@ -67,6 +73,7 @@ abbrev pub modified_text : List ℕ → List ℕ
 modified_text [] = []
 modified_text ns = codes "[MODIFIED " ++ with_commas ns ++ codes "] "
 
+-- a reply without its session and its line end
 abbrev pub reply_text : Reply → List ℕ
 reply_text (reply.Exists n) = codes "* " ++ decimal n ++ codes " EXISTS"
 reply_text (reply.Expunge n) = codes "* " ++ decimal n ++ codes " EXPUNGE"

@@ -1,12 +1,13 @@
 -- What a run of commands is: each is answered by the rules over a prefix of one log.
-use Rattle.std.specs.Prelude.{◌≡◌, ◌⊎◌, ℕ, ◌+◌, ◌<◌, ◌≤◌, Bool, true, cond, List, [], ◌∷◌, length, take, drop, Some, None, slice_get, nat_eq}
+use Rattle.std.specs.Prelude.{◌≡◌, ◌⊎◌, ℕ, ◌+◌, ◌<◌, ◌≤◌, Bool, true, ◌||◌, cond, List, [], ◌∷◌, length, map, take, drop, All, Any, Some, None, slice_get, nat_eq}
 use Rattle.dv_model.specs.declared.types.Command.{Command}
 use Rattle.dv_model.specs.declared.types.Command.TheVariants as command
+use Rattle.dv_model.specs.declared.types.Entry.{Entry}
 use Rattle.dv_model.specs.declared.types.Mailbox.{Mailbox}
 use Rattle.dv_model.specs.declared.types.Reply.{Reply}
 use Rattle.dv_model.specs.declared.types.Reply.TheVariants as reply
 use Rattle.dv_model.specs.Journals.{Log, Held, at, mark_of, new_guid}
-use Rattle.dv_model.specs.Sessions.{State, new_session, answer, group_of, refusal_of, is_write}
+use Rattle.dv_model.specs.Sessions.{State, new_session, answer, group_of, refusal_of, is_write, reads_mail}
 use Rattle.dv_model.specs.Views.{View}
 
 -- ---- one command
@@ -49,11 +50,12 @@ pub record IsRefused (log : Log) (met q : ℕ) (x : State) (c : Command) (replie
   pub nothing_written : q ≡ met
   pub stays : y ≡ x
 
--- the command reaches the disk
+-- the command reaches the disk: it writes, or it reads messages
 abbrev pub touches_disk : Command → Bool
-touches_disk c = is_write c
+touches_disk c = is_write c || reads_mail c
 
--- the disk failed, more often than before the run, and the session is as before (RFC 5530, UNAVAILABLE)
+-- a temporary failure because a subsystem is down (RFC 5530, UNAVAILABLE): the disk failed, more often than before the
+-- run, and the session is as before
 pub record IsUnavailable (log : Log) (base met q : ℕ) (x : State) (c : Command) (replies : List Reply) (y : State) : Type 0 where
   pub before : Mailbox
   pub was_there : at log met ≡ Some before
@@ -100,3 +102,85 @@ pub record Serial (log : Log) (base : ℕ) (lines : List Line) (replies : List (
   pub written : ℕ
   pub answered : Runs log base (λ s. new_session) 0 (take (length replies) lines) replies states written
   pub ends : EndsAt log states written (drop (length replies) lines)
+
+-- ---- one session beside others
+
+-- A command of a session and what came of it: the session's state before and after, how many entries of the log the
+-- command met, and after how many it was answered.
+pub record Turn : Type 0 where
+  pub before : State
+  pub command : Command
+  pub met : ℕ
+  pub behind : ℕ
+  pub replies : List Reply
+  pub after : State
+
+-- it met no fewer entries than the session was told of, and was answered by the rules
+pub record IsTurn (log : Log) (base author : ℕ) (t : Turn) : Type 0 where
+  pub met : (t.before.told ≤ t.met) × (t.met ≤ length log.entries)
+  pub answered : Answered log base author t.met t.behind t.before t.command t.replies t.after
+
+-- each turn begins where the one before it ended
+abbrev pub LeadsTo : State → List Turn → State → Type 0
+LeadsTo x [] y = y ≡ x
+LeadsTo x (t ∷ turns) y = (t.before ≡ x) × LeadsTo t.after turns y
+
+-- one of the turns wrote the entry behind the first k
+abbrev pub WroteEntry : List Turn → ℕ → Type 0
+WroteEntry turns k = Any (λ t. (t.met ≡ k) × (t.behind ≡ k + 1)) turns
+
+-- the entry behind the first k is the author's, and isn't one of the first that the session began with
+pub record IsOwn (log : Log) (author start k : ℕ) : Type 0 where
+  pub later : start ≤ k
+  pub entry : Entry
+  pub is : slice_get log.entries k ≡ Some entry
+  pub by : entry.author ≡ author
+
+-- the last entry of the author is the group of a command that wasn't answered
+pub record IsLeft (log : Log) (author k : ℕ) (view : View) (c : Command) : Type 0 where
+  pub mailbox : Mailbox
+  pub met : at log k ≡ Some mailbox
+  pub entry : slice_get log.entries k ≡ Some (record { author = author; group = group_of c view mailbox log.guid })
+  pub last : (j : ℕ) → IsOwn log author k j → j ≡ k
+
+-- that command is the first that wasn't answered
+abbrev pub IsNextLeft : Log → ℕ → ℕ → State → List Command → Type 0
+IsNextLeft log author k x [] = ⊥
+IsNextLeft log author k x (c ∷ commands) = (x.told ≤ k) × IsLeft log author k x.view c
+
+-- that command was answered by the disk's failure
+abbrev pub IsFailedLeft : Log → ℕ → ℕ → List Turn → Type 0
+IsFailedLeft log author k turns = Any (λ t. ((n : ℕ) × (t.replies ≡ reply.Unavailable n ∷ [])) × IsLeft log author k t.before.view t.command) turns
+
+-- each of the author's entries was written by a turn
+abbrev pub AreWritten : Log → ℕ → ℕ → List Turn → Type 0
+AreWritten log author start turns = (k : ℕ) → IsOwn log author start k → WroteEntry turns k
+
+-- each but the one behind the first `last`
+abbrev pub AreWrittenBut : Log → ℕ → ℕ → List Turn → ℕ → Type 0
+AreWrittenBut log author start turns last = (k : ℕ) → IsOwn log author start k → WroteEntry turns k ⊎ (k ≡ last)
+
+-- what is common to both kinds of transcripts: the first commands were answered in turn
+pub record Speaks (log : Log) (base author : ℕ) (commands : List Command) (replies : List (List Reply)) : Type 0 where
+  -- the session was made when the log had so many entries
+  pub start : ℕ
+  pub there : start ≤ length log.entries
+  pub turns : List Turn
+  pub each : All (IsTurn log base author) turns
+  pub state : State
+  pub leads : LeadsTo (record new_session { told = start }) turns state
+  pub replied : map (λ t. t.replies) turns ≡ replies
+  pub sent : map (λ t. t.command) turns ≡ take (length replies) commands
+
+-- A transcript of one session: its entries are those that its turns wrote, but that the last one may be that of the
+-- first command that wasn't answered.
+pub record Spoken (log : Log) (base author : ℕ) (commands : List Command) (replies : List (List Reply)) : Type 0 where
+  pub speaks : Speaks log base author commands replies
+  pub entries : AreWritten log author speaks.start speaks.turns
+      ⊎ ((last : ℕ) × IsNextLeft log author last speaks.state (drop (length replies) commands) × AreWrittenBut log author speaks.start speaks.turns last)
+
+-- the same where a crash ended the session: the last entry may also be that of a write that the disk's failure answered
+pub record SpokenUntilCrash (log : Log) (base author : ℕ) (commands : List Command) (replies : List (List Reply)) : Type 0 where
+  pub speaks : Speaks log base author commands replies
+  pub entries : AreWritten log author speaks.start speaks.turns
+      ⊎ ((last : ℕ) × (IsNextLeft log author last speaks.state (drop (length replies) commands) ⊎ IsFailedLeft log author last speaks.turns) × AreWrittenBut log author speaks.start speaks.turns last)

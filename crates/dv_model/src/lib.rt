@@ -2,10 +2,12 @@
 #![tactic(auto)]
 
 mod copies;
+mod laws;
 mod list;
 mod memory;
 mod types;
 
+pub use laws::{client_has_view, runs_go_on, transcripts_go_on};
 pub use list::{Bytes, List};
 pub use memory::{Duplicate, NoMemory};
 pub use sqlite_items::{Boxed, Items};
