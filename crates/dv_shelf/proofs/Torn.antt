@@ -35,7 +35,7 @@ torn_file None at bytes = patched_torn [] at bytes
 torn_file (Some old) at bytes = patched_torn old at bytes
 
 -- two names with one number are one
-one_name : (a b : Name) → name_number a ≡ name_number b → a ≡ b
+pub one_name : (a b : Name) → name_number a ≡ name_number b → a ≡ b
 one_name name.Index name.Index is = refl
 one_name name.Log name.Log is = refl
 one_name name.Log2 name.Log2 is = refl

@@ -3,3 +3,13 @@ pub mod Folders
 pub mod Crashes
 pub mod Streams
 pub mod Clocks
+pub mod Failures
+pub mod MemStreams
+pub mod MemClocks
+pub mod Disks
+pub mod Images
+pub mod Records
+pub mod MemShelves
+pub mod Laws
+pub mod Rooms
+pub mod Samples

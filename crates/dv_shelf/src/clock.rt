@@ -3,11 +3,13 @@ ghost use Rattle.dv_shelf.specs.Clocks.{behind};
 
 /// A clock, by its readings to come.
 pub trait Clock {
+    /// It tells its readings. The member below speaks of a clock that does.
     ghost tells: { Self → Type 0 };
 
     /// The reading after so many others.
     ghost upcoming: { Self → ℕ → ℕ };
 
+    /// The time in Unix seconds. It never fails.
     fn now(&mut self) -> u32
         ensures told { tells self.old → tells self.new }
         ensures reading { tells self.old → result ≡ upcoming self.old 0 }
@@ -16,5 +18,6 @@ pub trait Clock {
 
 /// What is called before each command of a session.
 pub trait Gate {
+    /// Called before a command of a session, each by its number.
     fn before(&self, session: u32, command: u32);
 }

@@ -2,9 +2,22 @@
 #![tactic(auto)]
 
 mod clock;
+mod failures;
+mod files;
+mod images;
+mod mem_clock;
+mod mem_shelf;
+mod mem_streams;
+mod record;
+mod sends;
 mod shelf;
 mod streams;
+#[cfg(test)]
+mod tests;
 
 pub use clock::{Clock, Gate};
+pub use mem_clock::{MemClock, OpenGate};
+pub use mem_shelf::{Folder, MemShelf};
+pub use mem_streams::{MemSink, MemSource};
 pub use shelf::{Failed, Name, Shelf, ShelfFault};
 pub use streams::{Sink, Source};

@@ -1,0 +1,113 @@
+-- A disk, by the writing calls that it was given.
+use Rattle.std.specs.Prelude.{ℕ, ◌+◌, ◌/◌, Bool, true, false, not, ◌&&◌, ◌||◌, cond, List, [], ◌∷◌, ◌++◌, length, take, map, fold, Option, Some, None, unwrap_or}
+use Rattle.dv_shelf.specs.declared.shelf.Name.{Name}
+use Rattle.dv_shelf.specs.declared.record.Deed.{Deed}
+use Rattle.dv_shelf.specs.declared.record.Deed.TheVariants.{Write, Sync, Replace, Remove}
+use Rattle.dv_shelf.specs.Folders.{Folder, patched, same_name}
+
+-- a writing call, whether it answered Ok, and the bytes that it was handed
+pub record Made : Type 0 where
+  pub name : Name
+  pub deed : Deed
+  pub done : Bool
+  pub bytes : List ℕ
+
+-- bytes written from one place up to another
+pub record Range : Type 0 where
+  pub from : ℕ
+  pub upto : ℕ
+
+-- A state that a crash may find a file in: its bytes, its base length, the ranges written since
+-- its last sync or replace that answered Ok, and whether a write made it since then.
+pub data Version : Type 0 where
+  Gone : Version
+  There : (bytes : List ℕ) (base : ℕ) (written : List Range) (new : Bool) → Version
+
+abbrev pub version_bytes : Version → Option (List ℕ)
+version_bytes Gone = None
+version_bytes (There bytes base written new) = Some bytes
+
+-- The states of a file. The first is the one that a read gives, the others are what failed
+-- replaces and removes may have left.
+pub record Versions : Type 0 where
+  pub first : Version
+  pub others : List Version
+
+abbrev pub as_read : Versions → Option (List ℕ)
+as_read versions = version_bytes versions.first
+
+-- a state without loose ranges
+abbrev pub settled_version : Option (List ℕ) → Version
+settled_version None = Gone
+settled_version (Some bytes) = There bytes (length bytes) [] false
+
+-- a file without loose ranges
+abbrev pub settled : Option (List ℕ) → Versions
+settled file = record { first = settled_version file; others = [] }
+
+-- how many of the bytes reads see after a write: half of them where it failed
+abbrev pub stuck : Bool → List ℕ → List ℕ
+stuck true bytes = bytes
+stuck false bytes = take (length bytes / 2) bytes
+
+-- a write over a state
+abbrev pub version_written : ℕ → ℕ → List ℕ → Version → Version
+version_written at n stuck Gone = There (patched [] at stuck) 0 (record { from = at; upto = at + n } ∷ []) true
+version_written at n stuck (There bytes base written new) = There (patched bytes at stuck) base (written ++ record { from = at; upto = at + n } ∷ []) new
+
+-- what a call on the file makes of its states
+abbrev pub versions_then : Deed → Bool → List ℕ → Versions → Versions
+versions_then (Write at) done bytes versions = record {
+  first = version_written at (length bytes) (stuck done bytes) versions.first;
+  others = map (version_written at (length bytes) (stuck done bytes)) versions.others;
+}
+versions_then Sync true bytes versions = settled (as_read versions)
+versions_then Replace true bytes versions = settled (Some bytes)
+versions_then Remove true bytes versions = settled None
+versions_then Sync false bytes versions = versions
+versions_then Replace false bytes versions = record { first = versions.first; others = versions.others ++ settled_version (Some bytes) ∷ [] }
+versions_then Remove false bytes versions = record { first = versions.first; others = versions.others ++ settled_version None ∷ [] }
+
+-- whether a call leaves the file of a name without loose ranges
+abbrev pub settles_file : Name → Name → Deed → Bool → Bool
+settles_file file name (Write at) done = false
+settles_file file name Sync done = done && same_name name file
+settles_file file name Replace done = done && same_name name file
+settles_file file name Remove done = done && same_name name file
+
+abbrev pub Disk : Type 0
+Disk = Name → Versions
+
+-- no file is there
+abbrev pub new_disk : Disk
+new_disk = λ n. settled None
+
+abbrev pub disk_then : Disk → Made → Disk
+disk_then disk made = λ n. cond (same_name made.name n) (versions_then made.deed made.done made.bytes (disk n)) (disk n)
+
+abbrev pub disk_after : List Made → Disk
+disk_after calls = fold disk_then new_disk calls
+
+-- a whole file that was put there
+abbrev pub put_call : Name × List ℕ → Made
+put_call file = record { name = file.0; deed = Replace; done = true; bytes = file.1 }
+
+-- the files as a read gives them
+abbrev pub files_after : List Made → Folder
+files_after calls = λ n. as_read (disk_after calls n)
+
+-- a file as a read gives it, after one more call on it
+abbrev pub file_then : Deed → Bool → List ℕ → Option (List ℕ) → Option (List ℕ)
+file_then (Write at) done bytes file = Some (patched (unwrap_or file []) at (stuck done bytes))
+file_then Sync done bytes file = file
+file_then Replace true bytes file = Some bytes
+file_then Remove true bytes file = None
+file_then Replace false bytes file = file
+file_then Remove false bytes file = file
+
+-- whether a file is there, after one more call on it
+abbrev pub there_then : Deed → Bool → Bool → Bool
+there_then (Write at) done there = true
+there_then Sync done there = there
+there_then Replace done there = done || there
+there_then Remove done there = not done && there

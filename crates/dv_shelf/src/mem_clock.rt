@@ -1,0 +1,51 @@
+ghost use Rattle.std.specs.Prelude.{◌≡◌, ◌<◌, ℕ, length};
+ghost use Rattle.dv_shelf.specs.Clocks.{reading, behind};
+
+use crate::{Clock, Gate};
+use dv_model::List;
+use std::alloc::Global;
+
+/// A clock that gives the readings of a list in turn, and then the last one again and again.
+#[derive(Drop)]
+pub struct MemClock {
+    readings: List<u32>,
+    at: usize,
+    ghost some: { at < length readings },
+}
+
+impl MemClock {
+    ghost use Rattle.dv_shelf.specs.MemClocks.{readings_to_come};
+
+    /// A clock with these readings, in Unix seconds.
+    pub fn new(_alloc: Global, readings: List<u32>) -> MemClock
+        requires { 0 < length readings }
+        ensures { readings_to_come result ≡ reading readings }
+    {
+        MemClock { readings, at: 0 }
+    }
+}
+
+impl Clock for MemClock {
+    ghost use Rattle.dv_shelf.specs.MemClocks.{readings_to_come};
+
+    ghost tells = { λ c. Unit {0} };
+
+    ghost upcoming = { readings_to_come };
+
+    fn now(&mut self) -> u32 {
+        let readings = self.readings.as_slice();
+        let now = readings[self.at];
+        if self.at + 1 < readings.len() {
+            self.at += 1;
+        }
+        now
+    }
+}
+
+/// A gate that does nothing.
+#[derive(Clone, Copy)]
+pub struct OpenGate;
+
+impl Gate for OpenGate {
+    fn before(&self, _session: u32, _command: u32) {}
+}

@@ -1,0 +1,239 @@
+ghost use Rattle.std.specs.Prelude.{◌≡◌, ◌≢◌, ◌↔◌, ◌+◌, ◌^◌, ◌<◌, ◌≤◌, [], length, Some, None, map, IfOk, OnOk, OnErr, is_err, IsErr, IsErrOf};
+ghost use Rattle.dv_shelf.specs.Causes.{HasCause, HasCauseOf};
+ghost use Rattle.dv_shelf.specs.Folders.{counted, mail_reads_of};
+
+use crate::failures::{Failures, Turn};
+use crate::record::{Deed, Record};
+use crate::{Failed, Name, Shelf, ShelfFault};
+use dv_model::{Bytes, List, NoMemory};
+use std::alloc::Global;
+
+/// The files of a folder, by their names.
+pub type Folder = List<(Name, Bytes)>;
+
+/// A folder in memory, by a record of the writing calls that made it.
+#[derive(Drop)]
+pub struct MemShelf {
+    record: Record,
+    failures: Failures,
+    mail_reads: u64,
+}
+
+impl MemShelf {
+    ghost use Rattle.dv_shelf.specs.Failures.{untried, turn_of, after_answer, after_fault};
+    ghost use Rattle.dv_shelf.specs.MemShelves.{calls_of, files_of, shelf_room, IsAnswered};
+    ghost use Rattle.dv_shelf.specs.Folders.{no_files, folder_of};
+    ghost use Rattle.dv_shelf.specs.Crashes.{Only};
+    ghost use Rattle.dv_shelf.specs.Disks.{put_call};
+    ghost use Rattle.dv_shelf.specs.Samples.{AreSamples};
+    ghost use Rattle.dv_shelf.specs.Images.{LeftBy};
+
+    /// An empty folder with room for so many bytes: a writing call takes 64 and one for each
+    /// byte. The calls that `fails` lists fail, of which the first is number 1, those behind the
+    /// first `stop`, and writing calls for which no room is left.
+    pub fn new(
+        alloc: Global,
+        room: u32,
+        fails: List<u32>,
+        stop: Option<u32>,
+    ) -> Result<MemShelf, NoMemory>
+        ensures files { IfOk result (λ shelf. files_of shelf ≡ no_files) }
+        ensures settled { IfOk result (λ shelf. Only (files_of shelf) (LeftBy (calls_of shelf))) }
+        ensures calls { IfOk result (λ shelf. calls_of shelf ≡ []) }
+        ensures room { IfOk result (λ shelf. shelf_room shelf ≡ room) }
+        ensures fails { IfOk result (λ shelf. shelf.failures ≡ untried fails stop) }
+        ensures reads { IfOk result (λ shelf. shelf.mail_reads ≡ 0) }
+    {
+        Ok(MemShelf {
+            record: Record::new(alloc, room as usize)?,
+            failures: Failures::new(fails, stop),
+            mail_reads: 0,
+        })
+    }
+
+    /// A folder with these files, of which the last counts where a name stands twice. Its room
+    /// and its calls are as those of `new`.
+    pub fn of(
+        alloc: Global,
+        folder: &Folder,
+        room: u32,
+        fails: List<u32>,
+        stop: Option<u32>,
+    ) -> Result<MemShelf, NoMemory>
+        ensures files { IfOk result (λ shelf. files_of shelf ≡ folder_of folder.now) }
+        ensures settled { IfOk result (λ shelf. Only (files_of shelf) (LeftBy (calls_of shelf))) }
+        ensures calls { IfOk result (λ shelf. calls_of shelf ≡ map put_call folder.now) }
+        ensures room { IfOk result (λ shelf. shelf_room shelf ≡ room) }
+        ensures fails { IfOk result (λ shelf. shelf.failures ≡ untried fails stop) }
+        ensures reads { IfOk result (λ shelf. shelf.mail_reads ≡ 0) }
+    {
+        Ok(MemShelf {
+            record: Record::of(alloc, folder.as_slice(), room as usize)?,
+            failures: Failures::new(fails, stop),
+            mail_reads: 0,
+        })
+    }
+
+    /// Sample images for tests: the files as a read gives them, and for each unsynced write of
+    /// some bytes the old bytes, the new bytes, and the new bytes with 0x80, 0x00 and 0x37 as the
+    /// first one.
+    pub fn images(&self, alloc: Global) -> Result<List<Folder>, NoMemory>
+        ensures { IfOk result (λ images. AreSamples (calls_of self.now) images) }
+    {
+        self.record.images(alloc)
+    }
+
+    /// A writing call.
+    fn write(&mut self, name: Name, deed: Deed, bytes: &[u8]) -> Result<(), Failed>
+        ensures made { IsAnswered self.old self.new result name deed bytes.now }
+        ensures cause { HasCause self.old.failures.faults self.new.failures.faults result }
+    {
+        let turn = self.failures.count_call();
+        if turn == Turn::Stopped || !self.record.fits(bytes.len()) {
+            return self.fail();
+        }
+        let done = turn == Turn::Passes;
+        self.record.add(name, deed, done, bytes);
+        if done { Ok(()) } else { self.fail() }
+    }
+
+    /// Counts a fault.
+    fn fail(&mut self) -> Result<(), Failed>
+        ensures err { IsErr result }
+        ensures counted { self.new ≡ record self.old { failures = after_fault self.old.failures } }
+        ensures cause { HasCause self.old.failures.faults self.new.failures.faults result }
+    {
+        self.failures.count_fault();
+        Err(Failed)
+    }
+}
+
+impl Shelf for MemShelf {
+    ghost use Rattle.dv_shelf.specs.Images.{LeftBy, LeftSince};
+    ghost use Rattle.dv_shelf.specs.Failures.{turn_of};
+    ghost use Rattle.dv_shelf.specs.MemShelves.{calls_of, files_of, IsAnswered, IsLook};
+    ghost use Rattle.dv_shelf.specs.Folders.{Folder, with_file, contents, patched, Lists, ChangesOnly, TornFile, IsEither};
+    ghost use Rattle.dv_shelf.specs.Crashes.{Follows, FollowsNone, Elapses};
+    ghost use Rattle.dv_shelf.specs.Laws.{left_now, left_last};
+
+    ghost tells = { λ s. Unit {0} };
+
+    ghost files = { files_of };
+
+    ghost may_leave = { λ s. LeftBy (calls_of s) };
+
+    ghost moment = { λ s. length (calls_of s) };
+
+    ghost left_since = { λ s. LeftSince (calls_of s) };
+
+    ghost fault_count = { λ s. s.failures.faults };
+
+    ghost mail_reads = { λ s. s.mail_reads };
+
+    ghost counts_now = { λ s t c le is. left_now (calls_of s) t c le is };
+
+    ghost only_now = { λ s c told had. left_last (calls_of s) c had };
+
+    fn read(&mut self, alloc: Global, name: Name) -> Result<Option<Bytes>, ShelfFault>
+        ensures found { IfOk result (λ bytes. bytes ≡ files_of self.old name) }
+        ensures files { files_of self.new ≡ files_of self.old }
+        ensures crash { FollowsNone (LeftBy (calls_of self.old)) (LeftBy (calls_of self.new)) }
+        ensures time { Elapses (length (calls_of self.old)) (length (calls_of self.new)) (LeftSince (calls_of self.old)) (LeftSince (calls_of self.new)) (LeftBy (calls_of self.new)) }
+        ensures reads { self.new.mail_reads ≡ counted self.old.mail_reads (mail_reads_of name) }
+        ensures cause { HasCauseOf ShelfFault.Failed self.old.failures.faults self.new.failures.faults result }
+        ensures seen { IsLook self.old self.new }
+        ensures fails { IsErrOf result ShelfFault.Failed ↔ (turn_of self.old.failures ≢ Turn.Passes) }
+    {
+        self.mail_reads = count_read(self.mail_reads, name);
+        let Ok(()) = self.failures.call() else {
+            return Err(ShelfFault::Failed);
+        };
+        match self.record.file(alloc, name) {
+            Ok(file) => Ok(file),
+            Err(_) => Err(ShelfFault::NoMemory),
+        }
+    }
+
+    fn list(&mut self, alloc: Global) -> Result<List<Name>, ShelfFault>
+        ensures found { IfOk result (λ names. Lists (files_of self.old) names) }
+        ensures files { files_of self.new ≡ files_of self.old }
+        ensures crash { FollowsNone (LeftBy (calls_of self.old)) (LeftBy (calls_of self.new)) }
+        ensures time { Elapses (length (calls_of self.old)) (length (calls_of self.new)) (LeftSince (calls_of self.old)) (LeftSince (calls_of self.new)) (LeftBy (calls_of self.new)) }
+        ensures reads { self.new.mail_reads ≡ self.old.mail_reads }
+        ensures cause { HasCauseOf ShelfFault.Failed self.old.failures.faults self.new.failures.faults result }
+        ensures seen { IsLook self.old self.new }
+        ensures fails { IsErrOf result ShelfFault.Failed ↔ (turn_of self.old.failures ≢ Turn.Passes) }
+    {
+        let Ok(()) = self.failures.call() else {
+            return Err(ShelfFault::Failed);
+        };
+        match self.record.names(alloc) {
+            Ok(names) => Ok(names),
+            Err(_) => Err(ShelfFault::NoMemory),
+        }
+    }
+
+    fn write_at(&mut self, name: Name, at: u32, bytes: &[u8]) -> Result<(), Failed>
+        ensures ok { OnOk result (files_of self.new ≡ with_file (files_of self.old) name (Some (patched (contents (files_of self.old) name) at bytes.now))) }
+        ensures err { OnErr result (ChangesOnly name (TornFile at (length bytes.now)) (files_of self.old) (files_of self.new)) }
+        ensures crash { Follows (ChangesOnly name (TornFile at (length bytes.now))) (LeftBy (calls_of self.old)) (LeftBy (calls_of self.new)) }
+        ensures time { Elapses (length (calls_of self.old)) (length (calls_of self.new)) (LeftSince (calls_of self.old)) (LeftSince (calls_of self.new)) (LeftBy (calls_of self.new)) }
+        ensures reads { self.new.mail_reads ≡ self.old.mail_reads }
+        ensures cause { HasCause self.old.failures.faults self.new.failures.faults result }
+        ensures made { IsAnswered self.old self.new result name (Deed.Write at) bytes.now }
+    {
+        self.write(name, Deed::Write { at }, bytes)
+    }
+
+    fn sync(&mut self, name: Name) -> Result<(), Failed>
+        ensures durable { OnOk result ((c : Folder) → LeftBy (calls_of self.new) c → c name ≡ files_of self.new name) }
+        ensures files { files_of self.new ≡ files_of self.old }
+        ensures crash { FollowsNone (LeftBy (calls_of self.old)) (LeftBy (calls_of self.new)) }
+        ensures time { Elapses (length (calls_of self.old)) (length (calls_of self.new)) (LeftSince (calls_of self.old)) (LeftSince (calls_of self.new)) (LeftBy (calls_of self.new)) }
+        ensures reads { self.new.mail_reads ≡ self.old.mail_reads }
+        ensures cause { HasCause self.old.failures.faults self.new.failures.faults result }
+        ensures made { IsAnswered self.old self.new result name Deed.Sync [] }
+    {
+        self.write(name, Deed::Sync, &[])
+    }
+
+    fn replace(&mut self, name: Name, bytes: &[u8]) -> Result<(), Failed>
+        ensures ok { OnOk result (files_of self.new ≡ with_file (files_of self.old) name (Some bytes.now)) }
+        ensures err { OnErr result (ChangesOnly name (IsEither (Some bytes.now)) (files_of self.old) (files_of self.new)) }
+        ensures durable { OnOk result ((c : Folder) → LeftBy (calls_of self.new) c → c name ≡ Some bytes.now) }
+        ensures crash { Follows (ChangesOnly name (IsEither (Some bytes.now))) (LeftBy (calls_of self.old)) (LeftBy (calls_of self.new)) }
+        ensures time { Elapses (length (calls_of self.old)) (length (calls_of self.new)) (LeftSince (calls_of self.old)) (LeftSince (calls_of self.new)) (LeftBy (calls_of self.new)) }
+        ensures reads { self.new.mail_reads ≡ self.old.mail_reads }
+        ensures cause { HasCause self.old.failures.faults self.new.failures.faults result }
+        ensures made { IsAnswered self.old self.new result name Deed.Replace bytes.now }
+    {
+        self.write(name, Deed::Replace, bytes)
+    }
+
+    fn remove(&mut self, name: Name) -> Result<(), Failed>
+        ensures ok { OnOk result (files_of self.new ≡ with_file (files_of self.old) name None) }
+        ensures err { OnErr result (ChangesOnly name (IsEither None) (files_of self.old) (files_of self.new)) }
+        ensures durable { OnOk result ((c : Folder) → LeftBy (calls_of self.new) c → c name ≡ None) }
+        ensures crash { Follows (ChangesOnly name (IsEither None)) (LeftBy (calls_of self.old)) (LeftBy (calls_of self.new)) }
+        ensures time { Elapses (length (calls_of self.old)) (length (calls_of self.new)) (LeftSince (calls_of self.old)) (LeftSince (calls_of self.new)) (LeftBy (calls_of self.new)) }
+        ensures reads { self.new.mail_reads ≡ self.old.mail_reads }
+        ensures cause { HasCause self.old.failures.faults self.new.failures.faults result }
+        ensures made { IsAnswered self.old self.new result name Deed.Remove [] }
+    {
+        self.write(name, Deed::Remove, &[])
+    }
+
+    fn faults(&self) -> u64 {
+        self.failures.faults
+    }
+}
+
+/// The count of reads of message files after a read of this name.
+fn count_read(reads: u64, name: Name) -> u64
+    ensures { result ≡ counted reads (mail_reads_of name) }
+{
+    match name {
+        Name::Mail(_) => reads.saturating_add(1),
+        _ => reads,
+    }
+}
