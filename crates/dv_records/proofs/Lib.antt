@@ -1,0 +1,14 @@
+pub mod InTurn
+pub mod Payloads
+pub mod Loop
+pub mod Fronts
+pub mod Resets
+pub mod Codes
+pub mod Keywords
+pub mod Sizes
+pub mod Places
+pub mod Readings
+pub mod Apart
+pub mod Valid
+pub mod Written
+pub mod Decoded

@@ -1,0 +1,190 @@
+ghost use Rattle.std.specs.Prelude.{◌≡◌, List, ℕ, ◌+◌, ◌-◌, ◌<◌, ◌^◌, ◌||◌, not, nat_eq, nat_lt, Option, length};
+ghost use Rattle.dv_model.specs.Spelling.{IsPair, IsNewRow, IsChange, IsGuidRow, IsPart, IsIntro, padded};
+ghost use Rattle.dv_records.specs.Fronts.{GivesFront, pair_front, new_row_front, change_front, guid_row_front, part_front, intro_front};
+
+use crate::fault::{DecodeEnd, RecordFault};
+use dv_model::{Change, GuidRow, Intro, List, NewRow, Pair, Part};
+use dv_num::{u16_at, u32_at};
+use std::alloc::Global;
+
+/// What isn't of the form of its record's type.
+pub const BAD: DecodeEnd = DecodeEnd::Fault(RecordFault::BadPayload);
+
+/// An item of a record's payload.
+pub trait Read: Drop + Sized {
+    ghost spelled: { Self → List ℕ → Type 0 };
+
+    ghost size: { Self → ℕ };
+
+    ghost front: { List ℕ → Option Self };
+
+    /// The item that begins these bytes, and how many of them it takes.
+    fn read(alloc: Global, bytes: &[u8]) -> Result<(Self, usize), DecodeEnd>
+        ensures { GivesFront size result (front bytes.now) };
+}
+
+// Whether these are the ends of a range of UIDs.
+fn are_ends(first: u32, last: u32) -> bool
+    ensures { result ≡ not (nat_eq first 0 || nat_lt last first) }
+{
+    first != 0 && first <= last
+}
+
+// Whether a message can have this UID.
+fn is_uid(uid: u32) -> bool
+    ensures { result ≡ not (nat_eq uid 0 || nat_eq uid (2 ^ 32 - 1)) }
+{
+    uid != 0 && uid != u32::MAX
+}
+
+impl Read for Pair {
+    ghost spelled = { IsPair };
+
+    ghost size = { λ pair. 8 };
+
+    ghost front = { pair_front };
+
+    #[tactic(auto, unfolding(crate::specs::Fronts::pair_front))]
+    fn read(_: Global, bytes: &[u8]) -> Result<(Pair, usize), DecodeEnd> {
+        if bytes.len() < 8 {
+            return Err(BAD);
+        }
+        let first = u32_at(bytes, 0);
+        let last = u32_at(bytes, 4);
+        if !are_ends(first, last) {
+            return Err(BAD);
+        }
+        Ok((Pair { first, last }, 8))
+    }
+}
+
+impl Read for NewRow {
+    ghost spelled = { IsNewRow };
+
+    ghost size = { λ row. 8 };
+
+    ghost front = { new_row_front };
+
+    #[tactic(auto, unfolding(crate::specs::Fronts::new_row_front))]
+    fn read(_: Global, bytes: &[u8]) -> Result<(NewRow, usize), DecodeEnd> {
+        if bytes.len() < 8 {
+            return Err(BAD);
+        }
+        let uid = u32_at(bytes, 0);
+        if !is_uid(uid) {
+            return Err(BAD);
+        }
+        let flags = bytes[4];
+        Ok((NewRow { uid, flags }, 8))
+    }
+}
+
+impl Read for Change {
+    ghost spelled = { IsChange };
+
+    ghost size = { λ change. 12 };
+
+    ghost front = { change_front };
+
+    #[tactic(auto, unfolding(crate::specs::Fronts::change_front))]
+    fn read(_: Global, bytes: &[u8]) -> Result<(Change, usize), DecodeEnd> {
+        if bytes.len() < 12 {
+            return Err(BAD);
+        }
+        let first = u32_at(bytes, 0);
+        let last = u32_at(bytes, 4);
+        if !are_ends(first, last) {
+            return Err(BAD);
+        }
+        let change = Change {
+            first,
+            last,
+            add: bytes[8],
+            remove: bytes[9],
+        };
+        Ok((change, 12))
+    }
+}
+
+impl Read for GuidRow {
+    ghost spelled = { IsGuidRow };
+
+    ghost size = { λ row. 20 };
+
+    ghost front = { guid_row_front };
+
+    #[tactic(auto, unfolding(crate::specs::Fronts::guid_row_front))]
+    fn read(_: Global, bytes: &[u8]) -> Result<(GuidRow, usize), DecodeEnd> {
+        if bytes.len() < 20 {
+            return Err(BAD);
+        }
+        let uid = u32_at(bytes, 0);
+        if !is_uid(uid) {
+            return Err(BAD);
+        }
+        let mut guid = [0; 16];
+        guid.copy_from_slice(&bytes[4..20]);
+        Ok((GuidRow { uid, guid }, 20))
+    }
+}
+
+impl Read for Part {
+    ghost spelled = { IsPart };
+
+    ghost size = { λ part. padded (4 + length part.bytes) };
+
+    ghost front = { part_front };
+
+    #[tactic(auto, unfolding(crate::specs::Fronts::part_front))]
+    fn read(alloc: Global, bytes: &[u8]) -> Result<(Part, usize), DecodeEnd> {
+        if bytes.len() < 4 {
+            return Err(BAD);
+        }
+        let offset = u16_at(bytes, 0);
+        let len = usize::from(u16_at(bytes, 2));
+        let size = padded(4 + len);
+        if bytes.len() < size {
+            return Err(BAD);
+        }
+        let bytes = List::from_slice(alloc, &bytes[4..4 + len])?;
+        Ok((Part { offset, bytes }, size))
+    }
+}
+
+impl Read for Intro {
+    ghost spelled = { IsIntro };
+
+    ghost size = { λ intro. padded (20 + length intro.name) };
+
+    ghost front = { intro_front };
+
+    #[tactic(auto, unfolding(crate::specs::Fronts::intro_front))]
+    fn read(alloc: Global, bytes: &[u8]) -> Result<(Intro, usize), DecodeEnd> {
+        if bytes.len() < 20 {
+            return Err(BAD);
+        }
+        let len = usize::from(u16_at(bytes, 18));
+        let size = padded(20 + len);
+        if bytes.len() < size {
+            return Err(BAD);
+        }
+        let intro = Intro {
+            ext_id: u32_at(bytes, 0),
+            reset_id: u32_at(bytes, 4),
+            hdr_size: u32_at(bytes, 8),
+            record_size: u16_at(bytes, 12),
+            record_align: u16_at(bytes, 14),
+            flags: u16_at(bytes, 16),
+            name: List::from_slice(alloc, &bytes[20..20 + len])?,
+        };
+        Ok((intro, size))
+    }
+}
+
+/// The next multiple of four.
+pub fn padded(n: usize) -> usize
+    requires { n < 2 ^ 32 }
+    ensures { result ≡ padded n }
+{
+    n + (4 - n % 4) % 4
+}

@@ -1,0 +1,19 @@
+//! Records of the transaction log as bytes (Dovecot's `mail-transaction-log.h`).
+#![tactic(auto)]
+
+mod bodies;
+mod decoding;
+mod encoding;
+mod fault;
+mod items;
+mod keyword;
+mod lists;
+mod types;
+mod writing;
+
+pub use decoding::{decode, one_reading, spelled_is_valid};
+pub use encoding::encode;
+pub use fault::{DecodeEnd, RecordFault};
+
+#[cfg(test)]
+mod tests;
