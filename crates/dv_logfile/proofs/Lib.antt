@@ -1,0 +1,9 @@
+mod Counted
+mod Moments
+mod Gate
+pub mod Groups
+mod Images
+pub mod Logs
+pub mod Patches
+pub mod Reading
+pub mod OneLog
