@@ -1,0 +1,2 @@
+//! Worked examples of the definitions, each a theorem that holds by computing both sides.
+#![tactic(auto)]

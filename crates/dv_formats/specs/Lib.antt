@@ -1,0 +1,5 @@
+pub mod Scripts
+pub mod Printing
+pub mod Snapshots
+pub mod Feeds
+pub mod Laws

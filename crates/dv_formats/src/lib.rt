@@ -1,0 +1,10 @@
+//! The texts that a mailbox folder's program reads and writes, as definitions: scripts, the index's
+//! snapshot, and the words that sessions share.
+#![tactic(auto)]
+
+ghost use Rattle.dv_formats.specs.Laws.{SnapshotIsOne};
+
+/// A text is of one snapshot: one version, one mailbox, one identifier and one place of the log.
+pub fn snapshot_is_one()
+    ensures { SnapshotIsOne }
+{}
