@@ -1,0 +1,31 @@
+use dv_shelf::Clock;
+use std::time::{SystemTime, UNIX_EPOCH};
+
+/// The system's clock, in seconds since 1970.
+#[derive(Drop)]
+pub struct SystemClock {
+    rt: HostRuntime,
+}
+
+impl SystemClock {
+    pub fn new(rt: HostRuntime) -> SystemClock {
+        SystemClock { rt }
+    }
+}
+
+impl Clock for SystemClock {
+    ghost tells = { λ _. ⊥ };
+
+    ghost upcoming = { λ _ _. 0 };
+
+    /// 0 where the system can't say, and 4294967295 from the year 2106 on.
+    fn now(&mut self) -> u32 {
+        let Ok(now) = SystemTime::now(&self.rt) else {
+            return 0;
+        };
+        match now.duration_since(UNIX_EPOCH) {
+            Ok(since) => u32::try_from(since.as_secs()).unwrap_or(u32::MAX),
+            Err(_) => 0,
+        }
+    }
+}

@@ -1,0 +1,57 @@
+ghost use Rattle.std.specs.Prelude.{◌≡◌, ◌++◌, decimal, flat_map, IfOk, OnOk};
+
+use dv_model::{Bytes, List, NoMemory};
+use itoa::Buffer;
+use std::alloc::Global;
+
+/// The number in decimal digits, without leading zeros.
+pub fn decimal_text(alloc: Global, n: u64) -> Result<Bytes, NoMemory>
+    ensures { IfOk result (λ text. text ≡ decimal n) }
+{
+    let mut text = List::new(alloc);
+    put_number(&mut text, n)?;
+    Ok(text)
+}
+
+pub(crate) fn put(text: &mut Bytes, bytes: &[u8]) -> Result<(), NoMemory>
+    ensures { OnOk result (text.new ≡ text.old ++ bytes.now) }
+{
+    text.extend(bytes)?;
+    Ok(())
+}
+
+pub(crate) fn put_number(text: &mut Bytes, n: u64) -> Result<(), NoMemory>
+    ensures { OnOk result (text.new ≡ text.old ++ decimal n) }
+{
+    let mut buffer = Buffer::new();
+    put(text, buffer.format(n).as_bytes())
+}
+
+pub(crate) fn put_before(text: &mut Bytes, before: &[u8], n: u64) -> Result<(), NoMemory>
+    ensures { OnOk result (text.new ≡ text.old ++ (before.now ++ decimal n)) }
+{
+    put(text, before)?;
+    put_number(text, n)
+}
+
+pub(crate) fn put_around(
+    text: &mut Bytes,
+    before: &[u8],
+    n: u64,
+    behind: &[u8],
+) -> Result<(), NoMemory>
+    ensures { OnOk result (text.new ≡ text.old ++ (before.now ++ decimal n ++ behind.now)) }
+{
+    put_before(text, before, n)?;
+    put(text, behind)
+}
+
+// Each number behind the same bytes.
+pub(crate) fn put_numbers(text: &mut Bytes, before: &[u8], numbers: &[u32]) -> Result<(), NoMemory>
+    ensures { OnOk result (text.new ≡ text.old ++ flat_map (λ n. before.now ++ decimal n) numbers.now) }
+{
+    for number in numbers {
+        put_before(text, before, *number as u64)?;
+    }
+    Ok(())
+}
