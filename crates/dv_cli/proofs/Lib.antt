@@ -1,0 +1,14 @@
+pub mod RowLines
+pub mod Steps
+pub mod Serves
+pub mod Serials
+pub mod Concluding
+pub mod LineLaws
+pub mod NewFolders
+pub mod Runs
+pub mod Parsed
+pub mod FolderRuns
+pub mod Counted
+pub mod Ends
+pub mod Left
+pub mod Outputs

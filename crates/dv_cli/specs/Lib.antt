@@ -1,0 +1,9 @@
+pub mod Standings
+pub mod Found
+pub mod Running
+pub mod Servings
+pub mod Endings
+pub mod Readings
+pub mod Lines
+pub mod Creating
+pub mod Runs

@@ -1,0 +1,14 @@
+-- What is read of a script.
+use Rattle.std.specs.Prelude.{◌≡◌, ℕ}
+use Rattle.dv_shelf.specs.Causes.{Rose}
+use Rattle.dv_cli.specs.declared.reading.ReadEnd.{ReadEnd}
+use Rattle.dv_cli.specs.declared.reading.ReadEnd.TheVariants.{Source, NoMemory}
+
+-- one byte more than the longest script, which shows that it is too long
+abbrev pub read_limit : ℕ
+read_limit = 67108865
+
+-- the source's count rose, and is the number said
+abbrev pub IsSourceFault : ReadEnd → ℕ → ℕ → Type 0
+IsSourceFault (Source n) before now = Rose before now × (n ≡ now)
+IsSourceFault NoMemory before now = Unit {0}

@@ -1,0 +1,149 @@
+ghost use Rattle.std.specs.Prelude.{◌≡◌, ◌⊎◌, ◌++◌, ◌∷◌, [], ℕ, codes, decimal, IfOk};
+ghost use Rattle.std.specs.Prelude.{◌<◌, ◌≤◌, false};
+ghost use Rattle.dv_shelf.specs.Causes.{Rose};
+ghost use Rattle.dv_shelf.specs.Streams.{Appends, AppendsFront};
+ghost use Rattle.dv_cli.specs.declared.ending.End.TheVariants as how;
+ghost use Rattle.dv_cli.specs.Endings.{status_of, text_of, Concludes, IsStatus, is_plain};
+ghost use Rattle.dv_cli.specs.Running.{end_text, disk_text, source_text, script_text, memory_text};
+
+use dv_model::{Bytes, List, Mark, NoMemory};
+use dv_script::{ScriptEnd, decimal_text, mark_text};
+use dv_shelf::Sink;
+use std::alloc::Global;
+
+/// How a run ends, before its last line is written.
+#[derive(Clone, Copy)]
+pub enum End {
+    /// Every command was answered: the log's end, and the number of groups written.
+    Answered { mark: Mark, groups: u64 },
+    /// The words aren't those of a run.
+    Usage,
+    /// A call on the folder failed; the count of its faults.
+    Disk(u64),
+    /// The folder has a mailbox, which isn't opened yet.
+    Later,
+    NoMemory,
+    /// The script is refused.
+    Script(ScriptEnd),
+    /// The script couldn't be read; the count of its faults.
+    Source(u64),
+    /// The output failed.
+    Sink,
+}
+
+/// The exit status of a run that ends so, from 0 to 7.
+fn status(end: &End) -> u8
+    ensures { result ≡ status_of end.now }
+{
+    match end {
+        End::Answered { .. } => 0,
+        End::Usage => 1,
+        End::Disk(_) => 2,
+        End::Later => 3,
+        End::NoMemory => 4,
+        End::Script(ScriptEnd::NoMemory) => 4,
+        End::Script(_) => 5,
+        End::Source(_) => 6,
+        End::Sink => 7,
+    }
+}
+
+/// A line of some words and a number.
+fn numbered_line(alloc: Global, words: &[u8], number: u64) -> Result<Bytes, NoMemory>
+    ensures { IfOk result (λ line. line ≡ words.now ++ decimal number ++ 10 ∷ []) }
+{
+    let mut line = List::from_slice(alloc, words)?;
+    line.extend(decimal_text(alloc, number)?.as_slice())?;
+    line.push(b'\n')?;
+    Ok(line)
+}
+
+/// The last line of a run that answered every command.
+fn end_line(alloc: Global, mark: Mark, groups: u64) -> Result<Bytes, NoMemory>
+    ensures { IfOk result (λ line. line ≡ end_text mark groups) }
+{
+    let mut line = List::from_slice(alloc, b"END 0 ")?;
+    line.extend(mark_text(alloc, mark)?.as_slice())?;
+    line.extend(b" GROUPS ")?;
+    line.extend(decimal_text(alloc, groups)?.as_slice())?;
+    line.push(b'\n')?;
+    Ok(line)
+}
+
+/// The last line of a run whose script is refused.
+fn script_line(alloc: Global, end: ScriptEnd) -> Result<Bytes, NoMemory>
+    ensures { IfOk result (λ line. line ≡ script_text end) }
+{
+    match end {
+        ScriptEnd::BadLine { line } => numbered_line(alloc, b"FAULT 5 LINE ", u64::from(line)),
+        ScriptEnd::TooLong => Ok(List::from_slice(alloc, b"FAULT 5 TOO LONG\n")?),
+        ScriptEnd::ShortLiteral { line } => {
+            numbered_line(alloc, b"FAULT 5 SHORT LITERAL ", u64::from(line))
+        }
+        ScriptEnd::NoMemory => Ok(List::from_slice(alloc, b"FAULT 4 MEMORY\n")?),
+    }
+}
+
+/// The last line of a run that ends so.
+fn last_line(alloc: Global, end: &End) -> Result<Bytes, NoMemory>
+    ensures { IfOk result (λ line. line ≡ text_of end.now) }
+{
+    match end {
+        End::Answered { mark, groups } => end_line(alloc, *mark, *groups),
+        End::Usage => Ok(List::from_slice(alloc, b"FAULT 1 USAGE\n")?),
+        End::Disk(faults) => numbered_line(alloc, b"FAULT 2 DISK ", *faults),
+        End::Later => Ok(List::from_slice(alloc, b"FAULT 3 LATER\n")?),
+        End::NoMemory => Ok(List::from_slice(alloc, b"FAULT 4 MEMORY\n")?),
+        End::Script(fault) => script_line(alloc, *fault),
+        End::Source(faults) => numbered_line(alloc, b"FAULT 6 SOURCE ", *faults),
+        End::Sink => Ok(List::new(alloc)),
+    }
+}
+
+/// Writes the last line and gives the status, or 7 where the output fails.
+fn write_last<O: Sink>(out: &mut O, line: &[u8], status: u8) -> u8
+    requires { status < 7 }
+    ensures text { O.tells out.old → ((result ≡ status) × Appends (O.taken out.old) (O.taken out.new) line.now) ⊎ ((result ≡ 7) × AppendsFront (O.taken out.old) (O.taken out.new) line.now) }
+    ensures status { (result ≡ status) ⊎ (result ≡ 7) }
+    ensures told { O.tells out.old → O.tells out.new }
+    ensures later { O.fault_count out.old ≤ O.fault_count out.new }
+    ensures cause { result ≡ 7 → Rose (O.fault_count out.old) (O.fault_count out.new) }
+{
+    match out.write_all(line) {
+        Ok(()) => status,
+        Err(_) => 7,
+    }
+}
+
+/// Writes the last line of a run that ends so, where the output hasn't failed before, and gives
+/// the run's status. Where memory for the line runs out the line is that of status 4.
+pub fn conclude<O: Sink>(alloc: Global, out: &mut O, end: &End) -> u8
+    ensures text { O.tells out.old → Concludes end.now result (O.taken out.old) (O.taken out.new) }
+    ensures status { IsStatus end.now result }
+    ensures told { O.tells out.old → O.tells out.new }
+    ensures later { O.fault_count out.old ≤ O.fault_count out.new }
+    ensures cause { result ≡ 7 → (end.now ≡ how.Sink) ⊎ Rose (O.fault_count out.old) (O.fault_count out.new) }
+{
+    match end {
+        End::Usage => write_last(out, b"FAULT 1 USAGE\n", 1),
+        End::Later => write_last(out, b"FAULT 3 LATER\n", 3),
+        End::NoMemory => write_last(out, b"FAULT 4 MEMORY\n", 4),
+        End::Sink => 7,
+        _ => write_formatted(alloc, out, end),
+    }
+}
+
+/// Writes a last line that takes memory.
+fn write_formatted<O: Sink>(alloc: Global, out: &mut O, end: &End) -> u8
+    requires { is_plain end.now ≡ false }
+    ensures text { O.tells out.old → Concludes end.now result (O.taken out.old) (O.taken out.new) }
+    ensures status { IsStatus end.now result }
+    ensures told { O.tells out.old → O.tells out.new }
+    ensures later { O.fault_count out.old ≤ O.fault_count out.new }
+    ensures cause { result ≡ 7 → Rose (O.fault_count out.old) (O.fault_count out.new) }
+{
+    match last_line(alloc, end) {
+        Ok(line) => write_last(out, line.as_slice(), status(end)),
+        Err(_) => write_last(out, b"FAULT 4 MEMORY\n", 4),
+    }
+}
