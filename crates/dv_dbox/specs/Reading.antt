@@ -14,6 +14,7 @@ use Rattle.dv_dbox.specs.declared.message.Message.{Message}
 abbrev pub texts : List (Bor (List ℕ)) → List (List ℕ)
 texts slices = map (λ slice. slice.now) slices
 
+-- the message as the format has it
 abbrev pub content_of : Message → BoxContent
 content_of m = record { stamp = m.stamp; bytes = m.bytes; guid = m.guid; received = m.received; physical = m.physical; virtual_size = m.virtual_size; others = m.others }
 
@@ -22,6 +23,7 @@ abbrev pub written_content : ℕ → List ℕ → ℕ → List ℕ → BoxConten
 written_content stamp guid received message =
     record { stamp = stamp; bytes = message; guid = Some guid; received = Some received; physical = Some (physical_size message); virtual_size = Some (virtual_size message); others = [] }
 
+-- the fault as the format names it
 abbrev pub broken : BoxFault → Broken
 broken faults.BadHeader = HeaderBroken
 broken faults.BadMessageHeader = MessageHeaderBroken
@@ -39,6 +41,7 @@ abbrev pub Fails : {Y : Type 0} → BoxEnd → Result Y Broken → Type 0
 Fails ends.NoMemory read = Unit {0}
 Fails (ends.Fault fault) read = read ≡ Err (broken fault)
 
+-- the answer of a reader that takes memory, seen by view
 abbrev pub Gives : {X Y : Type 0} → (X → Y) → Result X BoxEnd → Result Y Broken → Type 0
 Gives view (Ok x) read = read ≡ Ok (view x)
 Gives view (Err end) read = Fails end read

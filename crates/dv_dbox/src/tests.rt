@@ -188,3 +188,17 @@ fn first_broken_part_is_named(rt: HostRuntime) -> Result<(), Fail> {
     }
     Ok(())
 }
+
+// The longest message that is taken, of line feeds alone: sent, each has two bytes.
+#[test]
+fn message_of_32_mebibytes_both_ways(rt: HostRuntime) -> Result<(), Fail> {
+    let message = vec![in rt.alloc(); b'\n'; 33_554_432]?;
+    let text = write(rt.alloc(), 1001, &FIRST_GUID, 1001, &message)?;
+    let m = read(rt.alloc(), text.as_slice())?;
+    assert_eq!(rt;
+        (m.physical, m.virtual_size),
+        (Some(33_554_432), Some(67_108_864))
+    );
+    assert!(rt; m.bytes.as_slice() == message.as_slice());
+    Ok(())
+}

@@ -84,3 +84,24 @@ fn sizes_of_line_ends(rt: HostRuntime) {
         assert_eq!(rt; virtual_size(message), as_sent);
     }
 }
+
+// The longest messages that are taken: a million lines of 32 bytes, each a field or all of one.
+#[test]
+fn header_of_a_million_lines(rt: HostRuntime) -> Result<(), Fail> {
+    let lines: [&[u8]; 2] = [
+        b"X-Some-Field: abcdefghijklmnop\r\n",
+        b" abcdefghijklmnopqrstuvwxyz123\r\n",
+    ];
+    for line in lines {
+        let mut message = b"A: 1\r\n".to_vec(rt.alloc())?;
+        for _ in 0..1_000_000 {
+            message.extend_from_slice(line)?;
+        }
+        message.extend_from_slice(b"Subject: end\r\n\r\n")?;
+        let subject = value(rt.alloc(), &message, b"subject")?;
+        assert_eq!(rt; subject.as_slice(), b"end".as_slice());
+        assert_eq!(rt; physical(&message), 32_000_022);
+        assert_eq!(rt; virtual_size(&message), 32_000_022);
+    }
+    Ok(())
+}

@@ -3,6 +3,7 @@ use Rattle.std.specs.Prelude.{ℕ, ◌^◌, ◌<◌, List, ◌++◌, codes, deci
 use Rattle.dv_shelf.specs.declared.shelf.Name.{Name}
 use Rattle.dv_shelf.specs.declared.shelf.Name.TheVariants as name
 
+-- the name of the file in the folder
 abbrev pub file_name : Name → List ℕ
 file_name name.Index = codes "dovecot.index"
 file_name name.Log = codes "dovecot.index.log"

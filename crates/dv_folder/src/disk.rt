@@ -1,3 +1,7 @@
+ghost use Rattle.std.specs.Prelude.{◌≡◌, ◌++◌, IfOk, OnOk, string_bytes};
+ghost use Rattle.dv_folder.specs.Names.{file_name};
+ghost use Rattle.dv_folder.specs.Paths.{folder_path};
+
 use crate::names::{name_of, push_name};
 use dv_model::{Bytes, List};
 use dv_shelf::Name;
@@ -35,7 +39,9 @@ struct OpenFile {
 }
 
 impl Disk {
-    pub(crate) fn new(alloc: Global, rt: HostRuntime, path: &str) -> Result<Disk, AllocError> {
+    pub(crate) fn new(alloc: Global, rt: HostRuntime, path: &str) -> Result<Disk, AllocError>
+        ensures { IfOk result (λ disk. string_bytes disk.folder ≡ folder_path path.now) }
+    {
         let mut folder = String::from_str(alloc, if path.is_empty() { "." } else { path })?;
         folder.push_str("/")?;
         let path = String::with_capacity(alloc, folder.len().saturating_add(LONGEST_NAME))?;
@@ -122,7 +128,11 @@ impl Disk {
         Ok(())
     }
 
-    fn set_path(&mut self, name: Name) -> Result<(), AllocError> {
+    /// Sets the path of the file of this name.
+    fn set_path(&mut self, name: Name) -> Result<(), AllocError>
+        ensures path { OnOk result (string_bytes self.new.path ≡ string_bytes self.old.folder ++ file_name name) }
+        ensures folder { self.new.folder ≡ self.old.folder }
+    {
         self.path.clear();
         self.path.push_str(self.folder.as_str())?;
         push_name(&mut self.path, name)

@@ -1,5 +1,6 @@
 ghost use Rattle.std.specs.Prelude.{◌≡◌, ◌^◌, ◌-◌, None, IfOk};
 ghost use Rattle.dv_shelf.specs.Causes.{HasCause, HasCauseOf};
+ghost use Rattle.dv_folder.specs.Paths.{folder_path, path_of};
 
 use crate::disk::Disk;
 use dv_model::{Bytes, List, NoMemory};
@@ -18,7 +19,8 @@ impl Folder {
     /// The folder at a path, which is made by the first write where it is missing. This call
     /// touches nothing of the disk.
     pub fn new(alloc: Global, rt: HostRuntime, path: &str) -> Result<Folder, NoMemory>
-        ensures { IfOk result (λ shelf. shelf.faults ≡ 0) }
+        ensures faults { IfOk result (λ shelf. shelf.faults ≡ 0) }
+        ensures path { IfOk result (λ shelf. path_of shelf ≡ folder_path path.now) }
     {
         let disk = Disk::new(alloc, rt, path)?;
         Ok(Folder { disk, faults: 0 })

@@ -174,7 +174,7 @@ module _ (v : ℕ) (f g : Fields) (hi hi' ts ts' rs rs' : List ℕ) (p : AreWord
 
 -- ---- what is known of a snapshot
 
-each_of_all : {X : Type 0} (P Q : X → Type 0) → ((x : X) → P x → Q x) → (xs : List X) → All P xs → AllByRecursion Q xs
+pub each_of_all : {X : Type 0} (P Q : X → Type 0) → ((x : X) → P x → Q x) → (xs : List X) → All P xs → AllByRecursion Q xs
 each_of_all P Q weaker [] all = tt
 each_of_all P Q weaker (x ∷ xs) all = (weaker x (All-head P x xs all), each_of_all P Q weaker xs (All-tail P x xs all))
 
@@ -187,21 +187,21 @@ rise_behind : (n : ℕ) (ns : List ℕ) → IsStrictlyIncreasing (n ∷ ns) → 
 rise_behind n [] up = tt
 rise_behind n (m ∷ ns) up = let step = up 0 (omega arith) in (omega (arith, step), rise_behind m ns (rising_tail n (m ∷ ns) up))
 
-rise_of : (ns : List ℕ) → IsStrictlyIncreasing ns → Rise 0 ns
+pub rise_of : (ns : List ℕ) → IsStrictlyIncreasing ns → Rise 0 ns
 rise_of [] up = tt
 rise_of (n ∷ ns) up = (omega arith, rise_behind n ns up)
 
-below_of : (n : ℕ) (ks : List ℕ) → All (λ k. k < n) ks → Below n ks
+pub below_of : (n : ℕ) (ks : List ℕ) → All (λ k. k < n) ks → Below n ks
 below_of n [] all = tt
 below_of n (k ∷ ks) all = (All-head (λ j. j < n) k ks all, below_of n ks (All-tail (λ j. j < n) k ks all))
 
 -- rising numbers below a bound are no more than the bound
-few : (n bound : ℕ) (rows : List Row) → n ≤ bound → Rise n (map (λ row. row.uid) rows) → AllByRecursion (λ row. row.uid < bound) rows → n + length rows ≤ bound
+pub few : (n bound : ℕ) (rows : List Row) → n ≤ bound → Rise n (map (λ row. row.uid) rows) → AllByRecursion (λ row. row.uid < bound) rows → n + length rows ≤ bound
 few n bound [] le rise below = omega arith
 few n bound (row ∷ rows) le rise below = let low = below.0 in let rest = few (row.uid + 1) bound rows (omega arith) rise.1 below.1 in omega (arith, rest, rise.0)
 
 -- each keyword takes bytes of the tables
-names_in_tables : (ns : List (List ℕ)) → length ns ≤ length (flat_map keyword_text ns)
+pub names_in_tables : (ns : List (List ℕ)) → length ns ≤ length (flat_map keyword_text ns)
 names_in_tables [] = omega arith
 names_in_tables (n ∷ ns) =
     let rest = names_in_tables ns in

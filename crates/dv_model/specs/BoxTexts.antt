@@ -28,9 +28,11 @@ pub data BoxFault : Type 0 where
 
 -- ---- hexadecimal digits, of both cases when read and of lower case when written
 
+-- a digit, or a letter from A to F of either case
 abbrev pub is_hex : ℕ → Bool
 is_hex b = nat_lt (digit_value b) 16
 
+-- digits alone
 abbrev pub are_hex : List ℕ → Bool
 are_hex text = list_all is_hex text
 
@@ -62,10 +64,12 @@ pairs_text bytes = flat_map (λ b. digit_char (b / 16) ∷ digit_char (b % 16) �
 
 -- ---- items: a key letter and a value, as the fields of the first line and the lines of the metadata are
 
+-- it begins with a letter of ASCII, the key
 abbrev pub is_item : List ℕ → Bool
 is_item [] = false
 is_item (key ∷ value) = is_ascii_alphabetic key
 
+-- an item of this key
 abbrev pub has_key : ℕ → List ℕ → Bool
 has_key key [] = false
 has_key key (k ∷ value) = k == key
@@ -76,9 +80,11 @@ value_of key items = option_map (drop 1) (find (has_key key) items)
 
 -- ---- the first line: the version, and fields behind a space each
 
+-- a space, which stands before each field of the first line
 abbrev pub is_space : ℕ → Bool
 is_space b = b == 32
 
+-- a line feed, which ends a line
 abbrev pub is_feed : ℕ → Bool
 is_feed b = b == 10
 
@@ -96,6 +102,7 @@ abbrev pub fields_of : List (List ℕ) → Option (List (List ℕ))
 fields_of [] = None
 fields_of (version ∷ fields) = if bytes_eq version (codes "2") then Some fields else None
 
+-- the time of the file's making, as the first line says it
 abbrev pub line_stamp : List ℕ → Option ℕ
 line_stamp line = option_and_then stamp_of (fields_of (slice_split is_space line))
 
@@ -105,11 +112,13 @@ first_line text = option_map (λ i. (take i text, drop (i + 1) text)) (position 
 
 -- ---- reading: what a part says, and the bytes behind it, or the fault
 
+-- go on with what a part says; the first fault ends the reading
 infixl 10 ◌>>=◌
 abbrev pub ◌>>=◌ : {A B : Type 0} → Result A BoxFault → (A → Result B BoxFault) → Result B BoxFault
 (Ok x) >>= f = f x
 (Err fault) >>= f = Err fault
 
+-- the first line: the time of the file's making
 abbrev pub header_at : List ℕ → Result (ℕ × List ℕ) BoxFault
 header_at b = do
   line ← ok_or (first_line b) BadHeader
@@ -122,17 +131,21 @@ header_size head =
     if length head == 30 && bytes_eq (take 4 head) (1 ∷ 2 ∷ 78 ∷ 32 ∷ []) && slice_index head 12 == 32 && slice_index head 29 == 10
     then hex_number 16 (take 16 (drop 13 head)) else None
 
+-- the message header: the message's size
 abbrev pub size_at : List ℕ → Result (ℕ × List ℕ) BoxFault
 size_at b = do
   size ← ok_or (header_size (take 30 b)) BadMessageHeader
   Ok (size, drop 30 b)
 
+-- the message's bytes, so many
 abbrev pub message_at : ℕ → List ℕ → Result (List ℕ × List ℕ) BoxFault
 message_at size b = if nat_lt (length b) size then Err BadSize else Ok (take size b, drop size b)
 
+-- behind the message: a line feed, 01 03, a line feed
 abbrev pub trailer : List ℕ
 trailer = 10 ∷ 1 ∷ 3 ∷ 10 ∷ []
 
+-- the trailer, which says nothing
 abbrev pub end_at : List ℕ → Result (List ℕ) BoxFault
 end_at b = if bytes_eq (take 4 b) trailer then Ok (drop 4 b) else Err BadEnd
 
@@ -151,6 +164,7 @@ abbrev pub read_at : {A : Type 0} → (List ℕ → Option A) → Option (List �
 read_at read None = Ok None
 read_at read (Some value) = ok_or (option_map (λ x. Some x) (read value)) BadMetadata
 
+-- the value of a key, which may be absent
 abbrev pub value_at : {A : Type 0} → (List ℕ → Option A) → ℕ → List (List ℕ) → Result (Option A) BoxFault
 value_at read key entries = read_at read (value_of key entries)
 
@@ -179,9 +193,11 @@ box_content b = do
 
 -- ---- the format as a relation, part behind part
 
+-- an item without a space or a line feed
 abbrev pub is_field : List ℕ → Bool
 is_field field = is_item field && list_all (λ b. not (is_space b) && not (is_feed b)) field
 
+-- an item without a line feed
 abbrev pub is_entry : List ℕ → Bool
 is_entry entry = is_item entry && list_all (λ b. not (is_feed b)) entry
 
@@ -207,12 +223,15 @@ pub record IsMessageHeader (size : ℕ) (filler sized : List ℕ) : Type 0 where
   pub hex : are_hex sized ≡ true
   pub same : digits_value 16 sized ≡ size
 
+-- the first line of these fields
 abbrev pub fields_text : List (List ℕ) → List ℕ
 fields_text fields = codes "2" ++ (flat_map (λ field. 32 ∷ field) fields ++ 10 ∷ [])
 
+-- the message header of these bytes and this size
 abbrev pub size_text : List ℕ → List ℕ → List ℕ
 size_text filler sized = 1 ∷ 2 ∷ 78 ∷ 32 ∷ (filler ++ 32 ∷ (sized ++ 10 ∷ []))
 
+-- the metadata of these lines, with the empty line behind them
 abbrev pub entries_text : List (List ℕ) → List ℕ
 entries_text entries = flat_map (λ entry. entry ++ 10 ∷ []) entries ++ 10 ∷ []
 
@@ -230,15 +249,19 @@ pub record BoxText (m : BoxContent) (b : List ℕ) : Type 0 where
 
 -- ---- the text that is written
 
+-- the first line, from the time of the file's making
 abbrev pub first_line_text : ℕ → List ℕ
 first_line_text stamp = codes "2 M1e C" ++ hex_text stamp ++ 10 ∷ []
 
+-- the message header, from the message's size
 abbrev pub message_header_text : ℕ → List ℕ
 message_header_text size = 1 ∷ 2 ∷ codes "N          " ++ wide_hex_text size ++ 10 ∷ []
 
+-- a line of the metadata, from its key and value
 abbrev pub entry_text : ℕ → List ℕ → List ℕ
 entry_text key value = key ∷ value ++ 10 ∷ []
 
+-- the metadata, from GUID, time of receipt and both sizes
 abbrev pub metadata_text : List ℕ → ℕ → ℕ → ℕ → List ℕ
 metadata_text guid received physical as_sent =
     entry_text 71 (pairs_text guid) ++ (entry_text 82 (hex_text received) ++ (entry_text 90 (hex_text physical) ++ (entry_text 86 (hex_text as_sent) ++ 10 ∷ [])))

@@ -11,6 +11,7 @@ use Rattle.std.specs.Str.Lines.{lines}
 abbrev pub is_blank : ℕ → Bool
 is_blank b = b == 32 || b == 9
 
+-- a line of the header: the empty line isn't one
 abbrev pub is_text_line : List ℕ → Bool
 is_text_line line = not (length line == 0)
 
@@ -35,12 +36,15 @@ unfolded (line ∷ more) = folded_onto line (unfolded more)
 
 -- ---- fields
 
+-- a colon, which ends a name
 abbrev pub is_colon : ℕ → Bool
 is_colon b = b == 58
 
+-- without white space at the front
 abbrev pub without_front_blanks : List ℕ → List ℕ
 without_front_blanks text = drop (prefix_len is_blank text) text
 
+-- without white space at the end
 abbrev pub without_end_blanks : List ℕ → List ℕ
 without_end_blanks text = take (length text - suffix_len is_blank text) text
 
@@ -52,6 +56,7 @@ trimmed text = without_end_blanks (without_front_blanks text)
 abbrev pub field_name : List ℕ → List ℕ
 field_name field = before_first is_colon field
 
+-- what stands behind the first colon, without white space at both ends
 abbrev pub field_value : List ℕ → List ℕ
 field_value field = trimmed (after_first is_colon field)
 

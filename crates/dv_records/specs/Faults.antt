@@ -14,6 +14,7 @@ abbrev pub size_or_zero : Option ℕ → ℕ
 size_or_zero None = 0
 size_or_zero (Some n) = n
 
+-- the size that the first four bytes give, or 0 where they give none
 abbrev pub size_at : List ℕ → ℕ
 size_at b = size_or_zero (size_value b)
 
@@ -37,6 +38,7 @@ payload_at b = drop 8 (take (size_at b) b)
 abbrev pub IsBodyOf : ℕ → List ℕ → Body → Type 0
 IsBodyOf code payload body = (code_of body ≡ code) × IsPayload body payload
 
+-- each fault comes only where the tests before it passed
 abbrev pub IsFault : RecordFault → List ℕ → Type 0
 IsFault Closed b = IsTrue (is_closed b)
 IsFault BadSize b = IsFalse (is_closed b) × IsTrue (has_bad_size b)

@@ -14,10 +14,11 @@ use Rattle.dv_records.specs.declared.fault.DecodeEnd.{DecodeEnd}
 use Rattle.dv_records.specs.declared.fault.DecodeEnd.TheVariants.{Fault, NoMemory}
 use Rattle.dv_records.specs.declared.fault.RecordFault.TheVariants.{BadPayload}
 
--- the numbers of two and of four bytes from a place on
+-- the number of two bytes from a place on
 abbrev pub half_at : List ℕ → ℕ → ℕ
 half_at b at = from_le_bytes w16 (take 2 (drop at b))
 
+-- the number of four bytes from a place on
 abbrev pub word_at : List ℕ → ℕ → ℕ
 word_at b at = from_le_bytes w32 (take 4 (drop at b))
 

@@ -9,9 +9,11 @@ use Rattle.dv_model.specs.declared.types.Part.{Part}
 abbrev pub IsShort : List ℕ → Type 0
 IsShort bytes = length bytes < 2 ^ 16
 
+-- a part's bytes are short
 abbrev pub IsShortPart : Part → Type 0
 IsShortPart part = IsShort part.bytes
 
+-- an extension's name is short
 abbrev pub IsShortIntro : Intro → Type 0
 IsShortIntro intro = IsShort intro.name
 

@@ -248,3 +248,27 @@ fn keyword_names_end_at_255_bytes(rt: HostRuntime) -> Result<(), Fail> {
     }
     Ok(())
 }
+
+/// Whether the text is that of a record, and the one that is written of it.
+fn goes_both_ways(alloc: Global, text: &[u8]) -> Result<bool, Fail> {
+    let read = decode(alloc, text, 0);
+    let (record, behind) = read.ok().ok_or("the bytes are a record")?;
+    let mut written = List::new(alloc);
+    let done = encode(alloc, &record, &mut written);
+    Ok(done.is_ok() && behind == text.len() && written.as_slice() == text)
+}
+
+// The longest record, and an append of as many rows as one is written with at most.
+#[test]
+fn long_records_both_ways(rt: HostRuntime) -> Result<(), Fail> {
+    let mut longest = List::from_slice(rt.alloc(), &[0x80, 0xff, 0xff, 0xff, 0, 2, 0, 0])?;
+    longest.extend(&vec![in rt.alloc(); 7; 8_388_596]?)?;
+    assert!(rt; goes_both_ways(rt.alloc(), longest.as_slice())?);
+    let mut append = List::from_slice(rt.alloc(), &[0x80, 0x88, 0x80, 0x82, 2, 0, 0, 0x10])?;
+    for uid in 1..=65_536_u32 {
+        append.extend(&uid.to_le_bytes())?;
+        append.extend(&[8, 0, 0, 0])?;
+    }
+    assert!(rt; goes_both_ways(rt.alloc(), append.as_slice())?);
+    Ok(())
+}

@@ -23,6 +23,7 @@ pub data Version : Type 0 where
   Gone : Version
   There : (bytes : List ℕ) (base : ℕ) (written : List Range) (new : Bool) → Version
 
+-- the state's bytes, where the file is there
 abbrev pub version_bytes : Version → Option (List ℕ)
 version_bytes Gone = None
 version_bytes (There bytes base written new) = Some bytes
@@ -33,6 +34,7 @@ pub record Versions : Type 0 where
   pub first : Version
   pub others : List Version
 
+-- the file as a read gives it
 abbrev pub as_read : Versions → Option (List ℕ)
 as_read versions = version_bytes versions.first
 
@@ -75,6 +77,7 @@ settles_file file name Sync done = done && same_name name file
 settles_file file name Replace done = done && same_name name file
 settles_file file name Remove done = done && same_name name file
 
+-- the states of the file of each name
 abbrev pub Disk : Type 0
 Disk = Name → Versions
 
@@ -82,9 +85,11 @@ Disk = Name → Versions
 abbrev pub new_disk : Disk
 new_disk = λ n. settled None
 
+-- the disk behind one more call
 abbrev pub disk_then : Disk → Made → Disk
 disk_then disk made = λ n. cond (same_name made.name n) (versions_then made.deed made.done made.bytes (disk n)) (disk n)
 
+-- the disk behind some calls, from no file on
 abbrev pub disk_after : List Made → Disk
 disk_after calls = fold disk_then new_disk calls
 

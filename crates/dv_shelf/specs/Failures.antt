@@ -10,6 +10,7 @@ use Rattle.dv_shelf.specs.declared.failures.Turn.TheVariants.{Passes, Fails, Sto
 abbrev pub next_call : Failures → ℕ
 next_call failures = counted failures.calls 1
 
+-- a call that the list lets fail
 abbrev pub is_listed : List ℕ → ℕ → Bool
 is_listed listed call = list_any (λ k. nat_eq k call) listed
 

@@ -33,6 +33,7 @@ IsFileImage Gone (Some image) = ⊥
 IsFileImage (There bytes base written new) None = IsTrue new
 IsFileImage (There bytes base written new) (Some image) = IsTornImage bytes base written image
 
+-- an image of one of these states
 abbrev pub IsImageOfOne : List Version → Option (List ℕ) → Type 0
 IsImageOfOne [] file = ⊥
 IsImageOfOne (version ∷ versions) file = IsFileImage version file ⊎ IsImageOfOne versions file

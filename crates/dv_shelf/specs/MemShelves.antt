@@ -14,17 +14,21 @@ use Rattle.dv_shelf.specs.Records.{made_calls, room_left}
 abbrev pub calls_of : MemShelf → List Made
 calls_of shelf = made_calls shelf.record
 
+-- its files as a read gives them
 abbrev pub files_of : MemShelf → Folder
 files_of shelf = files_after (calls_of shelf)
 
+-- the room that it has left
 abbrev pub shelf_room : MemShelf → ℕ
 shelf_room shelf = room_left shelf.record
 
+-- the call may answer Ok
 abbrev pub passes : Turn → Bool
 passes Passes = true
 passes Fails = false
 passes Stopped = false
 
+-- the call isn't behind the stop
 abbrev pub is_reached : Turn → Bool
 is_reached Passes = true
 is_reached Fails = true

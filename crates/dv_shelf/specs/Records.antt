@@ -8,8 +8,10 @@ use Rattle.dv_shelf.specs.Disks.{Made}
 abbrev pub made_call : List ℕ → Call → Made
 made_call bytes call = record { name = call.name; deed = call.deed; done = call.done; bytes = take call.len (drop call.from bytes) }
 
+-- the calls that it holds, in turn
 abbrev pub made_calls : Record → List Made
 made_calls kept = map (made_call kept.bytes.items) kept.calls.items
 
+-- the room that it has left
 abbrev pub room_left : Record → ℕ
 room_left kept = kept.left

@@ -7,6 +7,7 @@ use Rattle.dv_shelf.specs.Folders.{Folder, folder_of, with_file, contents, patch
 use Rattle.dv_shelf.specs.Disks.{Made, files_after}
 use Rattle.dv_shelf.specs.Images.{LeftBy, settles}
 
+-- folders, each a list of names with their bytes
 abbrev pub Images : Type 0
 Images = List (List (Name × List ℕ))
 
