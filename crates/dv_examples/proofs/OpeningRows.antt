@@ -8,7 +8,8 @@ use Rattle.dv_model.specs.Sessions.{external_record, internal_record}
 use Rattle.dv_logfile.specs.declared.header.LogHeader.{LogHeader}
 use Rattle.dv_logfile.specs.Layout.{new_header}
 use Rattle.dv_formats.specs.Snapshots.{snapshot_text}
-use Rattle.dv_openings.specs.Openings.{Spot, LogFile, Missing, Good, BadSpot, BadHeader, Snapshot, Finds, NoLog, BadLogHeader, BadRecord, BadIndex, Gap, found_in, mended}
+use Rattle.dv_logfile.specs.Scans.{Spot, GoodLog, Missing, Good, BadSpot, BadHeader}
+use Rattle.dv_openings.specs.Openings.{Snapshot, Finds, NoLog, BadLogHeader, BadRecord, BadIndex, Gap, found_in, mended}
 
 abbrev mark : ℕ → ℕ → Mark
 mark file_seq offset = record { file_seq = file_seq; offset = offset }
@@ -23,14 +24,14 @@ spots =
     ∷ record { place = 72; is = external_record (body.FlagUpdate (record { first = 1; last = 1; add = 8; remove = 0 } ∷ [])) }
     ∷ []
 
-abbrev first_log : LogFile
+abbrev first_log : GoodLog
 first_log = record { header = new_header 1000; spots = spots; end = 92 }
 
 -- a second file without records
 abbrev second_header : LogHeader
 second_header = record (new_header 1000) { file_seq = 2; prev_file_seq = 1; prev_file_offset = 92; initial_modseq = 4 }
 
-abbrev second_log : LogFile
+abbrev second_log : GoodLog
 second_log = record { header = second_header; spots = []; end = 40 }
 
 -- the message with these flags, after the record of that number

@@ -7,14 +7,14 @@ use Rattle.dv_model.specs.Mailboxes.{empty_mailbox}
 use Rattle.dv_model.specs.Sessions.{external_record}
 use Rattle.dv_model.specs.Spelling.{group_text}
 use Rattle.dv_logfile.specs.Layout.{new_header}
-use Rattle.dv_openings.specs.Openings.{LogFile, Missing, Spot}
+use Rattle.dv_logfile.specs.Scans.{GoodLog, Missing, Spot}
 use Rattle.dv_openings.specs.Salvages.{Salvaged, header_record, rebuilt_records, salvaged_in}
 
 abbrev append_at : ℕ → ℕ → Spot
 append_at place uid = record { place = place; is = external_record (body.Append (record { uid = uid; flags = 0 } ∷ [])) }
 
 -- four messages, the second of which was seen; what follows at 140 has a fault
-abbrev cut_log : LogFile
+abbrev cut_log : GoodLog
 cut_log = record {
   header = new_header 1000;
   spots =

@@ -10,7 +10,8 @@ use Rattle.dv_shelf.specs.Folders.{Folder, no_files, with_file}
 use Rattle.dv_logfile.specs.Layout.{IsHeader, closing, log_text, new_header}
 use Rattle.dv_formats.specs.Printing.{script_text}
 use Rattle.dv_formats.specs.Scripts.{AreFlags, IsAppendStart, IsLiteral, IsPiece, IsScript, IsSession, IsShortLine, NamedLine, Piece, is_session_byte}
-use Rattle.dv_openings.specs.Openings.{Finds, Good, IsFound, IsGood, LogFile, Missing}
+use Rattle.dv_logfile.specs.Scans.{Good, GoodLog, IsGood, Missing}
+use Rattle.dv_openings.specs.Openings.{Finds, IsFound}
 
 -- ---- a script
 
@@ -89,7 +90,7 @@ new_log_bytes = refl
 abbrev new_folder : Folder
 new_folder = with_file no_files name.Log (Some new_log)
 
-abbrev new_file : LogFile
+abbrev new_file : GoodLog
 new_file = record { header = new_header 1000; spots = record { place = 40; is = validity_record 1000 } ∷ []; end = 56 }
 
 header_taken : IsHeader (new_header 1000) new_log

@@ -13,6 +13,7 @@ use Rattle.dv_model.specs.Sessions.{Answer, State, new_session, answer, group_of
 use Rattle.dv_model.specs.Texts.{line_text}
 use Rattle.dv_model.specs.Transcripts.{with_state}
 
+-- where a script stands: the mailbox, its mark, the groups, the messages, each session's state, and what was said so far
 pub record Play : Type 0 where
   pub mailbox : Mailbox
   pub mark : Mark
@@ -36,6 +37,7 @@ created = record {
 abbrev pub guid : ℕ → List ℕ
 guid uid = new_guid 1000 1000 uid 1000
 
+-- the messages with that of the command, which gets the next UID
 abbrev pub with_message : Play → Command → ℕ → Mail
 with_message play (command.Append flags keywords message) uid = cond (nat_eq uid play.mailbox.next_uid) (Held message) (play.mail uid)
 with_message play c uid = play.mail uid
@@ -48,6 +50,7 @@ Line = List ℕ × ℕ × Command
 abbrev pub and_group : List Group → Group → List Group
 and_group groups g = cond (nat_eq (length g.records) 0) groups (groups ++ g ∷ [])
 
+-- behind a command that made this mailbox by this group
 abbrev pub answered : Play → Line → Option Mailbox → Group → Play
 answered play line None g = play
 answered play line (Some m) g =
@@ -63,12 +66,14 @@ answered play line (Some m) g =
       said = play.said ++ flat_map (line_text line.0) a.replies;
     }
 
+-- behind a line, which may be refused
 abbrev pub after_line : Play → Line → Option Reply → Play
 after_line play line (Some refusal) = record play { said = play.said ++ line_text line.0 refusal }
 after_line play line None =
     let g = group_of line.2 (play.states line.1).view play.mailbox guid in
     answered play line (applied play.mailbox g.records) g
 
+-- behind some lines, in turn
 abbrev pub played : Play → List Line → Play
 played play [] = play
 played play (line ∷ lines) = played (after_line play line (refusal_of (play.states line.1) line.2 play.mailbox play.mark guid)) lines

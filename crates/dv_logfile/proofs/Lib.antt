@@ -7,3 +7,5 @@ pub mod Logs
 pub mod Patches
 pub mod Reading
 pub mod OneLog
+pub mod OneScan
+pub mod Spots

@@ -35,6 +35,7 @@ pub record IsOpen (old : Folder) (e : ℕ) (text : List ℕ) (folder : Folder) :
   pub kept : KeepsFront old e (e + length text) folder
   pub group : bytes_at e (length text) kept.log ≡ text
 
+-- the gate is as it was, or the whole group stands behind it
 abbrev pub IsBeforeOrAfter : Folder → ℕ → List ℕ → Folder → Type 0
 IsBeforeOrAfter old e text folder = IsShut old e text folder ⊎ IsStaged old e text folder
 

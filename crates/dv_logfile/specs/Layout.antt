@@ -5,10 +5,11 @@ use Rattle.dv_model.specs.declared.types.Record.{Record}
 use Rattle.dv_model.specs.Spelling.{Spells, written, is_closed}
 use Rattle.dv_logfile.specs.declared.header.LogHeader.{LogHeader}
 
--- the longest file, and the last place where a record may end, so that four bytes more fit
+-- the longest file
 abbrev pub longest_log : ℕ
 longest_log = 1073741824
 
+-- the last place where a record may end, so that four bytes more fit
 abbrev pub last_end : ℕ
 last_end = 1073741820
 

@@ -1,3 +1,4 @@
 pub mod Layout
 pub mod Gates
 pub mod Reading
+pub mod Scans

@@ -37,6 +37,7 @@ pub record ReadsWith (e : ℕ) (text : List ℕ) (old new : Folder) : Type 0 whe
   pub keeps : Keeps e old new
   pub log : (h : LogHeader) (rs group : List Record) (end : ℕ) → Begins h rs e (contents old Log) → Spelled group text closing → end + 4 ≡ e + length text → IsLog h (rs ++ group) end (contents new Log)
 
+-- it is a log of the records up to e, or of those and the group's
 abbrev pub ReadsEither : ℕ → List ℕ → Folder → Folder → Type 0
 ReadsEither e text old new = ReadsAs e old new ⊎ ReadsWith e text old new
 

@@ -1,4 +1,5 @@
-//! The file of the transaction log: its texts, and groups of records that one byte makes visible.
+//! The file of the transaction log: its texts, what a file holds, and groups of records that one
+//! byte makes visible.
 //!
 //! Behind the log's last record stands the gate, a byte that begins no record. A commit writes a
 //! group's bytes behind it and syncs them; then it writes the group's first byte, 0x80, at the
@@ -9,10 +10,14 @@
 mod commit;
 mod counting;
 mod header;
+mod outcome;
+mod scanning;
 #[cfg(test)]
 mod tests;
 mod texts;
 
 pub use commit::{CommitFault, Debt, LogFile};
-pub use header::LogHeader;
+pub use header::{LogHeader, read_header};
+pub use outcome::{Scan, ScanEnd};
+pub use scanning::{log_is_good, one_scan, scan};
 pub use texts::{create, group_text, one_log};

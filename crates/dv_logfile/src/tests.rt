@@ -2,9 +2,11 @@ ghost use Rattle.std.specs.Prelude.{◌≤◌, All, length, IfOk};
 ghost use Rattle.dv_model.specs.Spelling.{IsRecord};
 ghost use Rattle.dv_logfile.specs.Layout.{IsGroupText};
 
-use crate::{CommitFault, Debt, LogFile, LogHeader, create, group_text};
+mod scans;
+
+use crate::{CommitFault, Debt, LogFile, LogHeader, create, group_text, scan};
 use dv_model::{Bytes, Group, List, Mark, Record};
-use dv_records::{DecodeEnd, RecordFault, decode};
+use dv_records::decode;
 use dv_shelf::{MemShelf, Name, Shelf};
 use std::alloc::Global;
 use std::test::Fail;
@@ -89,28 +91,13 @@ fn shelf_of(alloc: Global, log: &[u8], fails: &[u32], stop: Option<u32>) -> Resu
 }
 
 // Where the records of a log end.
-fn end_of(alloc: Global, log: &[u8]) -> Result<usize, Fail> {
-    let mut at = 40;
-    for _ in 0..log.len() {
-        if at > log.len() {
-            return Err(Fail::from("past the end"));
-        }
-        match decode(alloc, log, at) {
-            Ok((_, behind)) => at = behind,
-            Err(DecodeEnd::Fault(RecordFault::Closed)) => return Ok(at),
-            Err(_) => return Err(Fail::from("no record")),
-        }
-    }
-    Err(Fail::from("no end"))
+fn end_of(alloc: Global, log: &[u8]) -> Result<u32, Fail> {
+    let found = scan(alloc, log).ok().ok_or("no log")?;
+    Ok(found.end)
 }
 
 // How many images of the log end at each of the two places.
-fn ends_of(
-    alloc: Global,
-    shelf: &MemShelf,
-    before: usize,
-    after: usize,
-) -> Result<(u32, u32), Fail> {
+fn ends_of(alloc: Global, shelf: &MemShelf, before: u32, after: u32) -> Result<(u32, u32), Fail> {
     let images = shelf.images(alloc)?;
     let mut first = 0u32;
     let mut second = 0u32;

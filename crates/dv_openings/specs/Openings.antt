@@ -1,70 +1,16 @@
 -- What opening finds in a folder: in its log, in the snapshot of the index, and in a rotated log.
-use Rattle.std.specs.Prelude.{◌≡◌, ℕ, ◌+◌, ◌-◌, ◌≤◌, ◌<◌, min, max, Bool, false, true, ◌&&◌, List, [], ◌∷◌, ◌++◌, length, map, drop, take, slice_index, Option, Some, None, nat_eq, if◌then◌else◌}
+use Rattle.std.specs.Prelude.{◌≡◌, ℕ, ◌+◌, ◌-◌, min, max, Bool, ◌&&◌, List, [], ◌∷◌, ◌++◌, length, map, take, slice_index, Option, Some, None, nat_eq, if◌then◌else◌}
 use Rattle.dv_model.specs.declared.types.Mailbox.{Mailbox}
 use Rattle.dv_model.specs.declared.types.Mark.{Mark}
-use Rattle.dv_model.specs.declared.types.Record.{Record}
 use Rattle.dv_model.specs.declared.types.Row.{Row}
 use Rattle.dv_model.specs.Effects.{after_record}
 use Rattle.dv_model.specs.Mailboxes.{empty_mailbox, last_modseq}
-use Rattle.dv_model.specs.Spelling.{Spells, is_closed}
 use Rattle.dv_shelf.specs.declared.shelf.Name.TheVariants as name
 use Rattle.dv_shelf.specs.Folders.{Folder}
 use Rattle.dv_logfile.specs.declared.header.LogHeader.{LogHeader}
-use Rattle.dv_logfile.specs.Layout.{IsHeader, closing, last_end}
+use Rattle.dv_logfile.specs.Layout.{closing}
+use Rattle.dv_logfile.specs.Scans.{Spot, GoodLog, Scanned, Missing, BadHeader, BadSpot, Good, IsScanned}
 use Rattle.dv_formats.specs.Snapshots.{IsSnapshot}
-
--- ---- what a log file holds
-
--- a record with its place in the file
-pub record Spot : Type 0 where
-  pub place : ℕ
-  pub is : Record
-
--- a good file: its header, its records, and the closed place behind them
-pub record LogFile : Type 0 where
-  pub header : LogHeader
-  pub spots : List Spot
-  pub end : ℕ
-
--- the file is missing, its header is refused, a record at a place has a fault, or it is good
-pub data Scanned : Type 0 where
-  Missing : Scanned
-  BadHeader : Scanned
-  BadSpot : ℕ → Scanned
-  Good : LogFile → Scanned
-
--- spellings of records one after another, from a place on, none of which ends past the last end; and then the rest
-abbrev pub AreSpots : ℕ → List Spot → List ℕ → ℕ → List ℕ → Type 0
-AreSpots from [] b end rest = (end ≡ from) × (rest ≡ b)
-AreSpots from (spot ∷ spots) b end rest =
-    (spot.place ≡ from) × ((text behind : List ℕ) × (b ≡ text ++ behind) × Spells spot.is text × (from + length text ≤ last_end) × AreSpots (from + length text) spots behind end rest)
-
--- these bytes don't stand closed, and no record begins them that ends in time
-pub record IsFaulty (from : ℕ) (b : List ℕ) : Type 0 where
-  pub begun : is_closed b ≡ false
-  pub none : (r : Record) (text behind : List ℕ) → b ≡ text ++ behind → Spells r text → last_end < from + length text
-
--- behind good records one has a fault
-pub record HasFault (h : LogHeader) (b : List ℕ) (place : ℕ) : Type 0 where
-  pub spots : List Spot
-  pub rest : List ℕ
-  pub before : AreSpots h.hdr_size spots (drop h.hdr_size b) place rest
-  pub fault : IsFaulty place rest
-
--- the file has a good header, good records and a closed place behind them
-pub record IsGood (file : LogFile) (b : List ℕ) : Type 0 where
-  pub taken : IsHeader file.header b
-  pub rest : List ℕ
-  pub records : AreSpots file.header.hdr_size file.spots (drop file.header.hdr_size b) file.end rest
-  pub closed : is_closed rest ≡ true
-
--- what a file holds, by its bytes
-abbrev pub IsScanned : Option (List ℕ) → Scanned → Type 0
-IsScanned None Missing = Unit {0}
-IsScanned (Some b) BadHeader = (h : LogHeader) → IsHeader h b → ⊥
-IsScanned (Some b) (BadSpot place) = (h : LogHeader) × IsHeader h b × HasFault h b place
-IsScanned (Some b) (Good file) = IsGood file b
-IsScanned file scanned = ⊥
 
 -- ---- the index's snapshot
 
@@ -112,15 +58,15 @@ abbrev pub raised : LogHeader → Mailbox → Mailbox
 raised h m = record m { highest = max m.highest (file_number h) }
 
 -- all of a file's records
-abbrev pub file_applied : LogFile → Mailbox → Applied
+abbrev pub file_applied : GoodLog → Mailbox → Applied
 file_applied file m = spots_applied (raised file.header m) file.spots
 
 -- a file's records from a place on; from the first place on means all of them
-abbrev pub applied_from : LogFile → ℕ → List Spot → Mailbox → Applied
+abbrev pub applied_from : GoodLog → ℕ → List Spot → Mailbox → Applied
 applied_from file from spots m = if nat_eq from file.header.hdr_size then file_applied file m else spots_applied m spots
 
 -- all of the next file's records, behind others
-abbrev pub then_file : LogFile → Applied → Applied
+abbrev pub then_file : GoodLog → Applied → Applied
 then_file file (Gives m) = file_applied file m
 then_file file (Refused place) = Refused place
 
@@ -130,7 +76,7 @@ spots_from end from [] = if nat_eq from end then Some [] else None
 spots_from end from (spot ∷ spots) = if nat_eq from spot.place then Some (spot ∷ spots) else spots_from end from spots
 
 -- those of a file
-abbrev pub records_from : LogFile → ℕ → Option (List Spot)
+abbrev pub records_from : GoodLog → ℕ → Option (List Spot)
 records_from file from = spots_from file.end from file.spots
 
 -- ---- a snapshot's modification sequences
@@ -148,29 +94,29 @@ abbrev pub with_numbers : Snapshot → ℕ → Mailbox
 with_numbers s n = if nat_eq s.version 1 then all_numbered n s.mailbox else s.mailbox
 
 -- the file's number, and one for each record before those that are left
-abbrev pub number_before : LogFile → List Spot → ℕ
+abbrev pub number_before : GoodLog → List Spot → ℕ
 number_before file left = min (file_number file.header + (length file.spots - length left)) last_modseq
 
 -- ---- joining
 
 -- the rotated log goes before the log where it is good and the log names its number and its end
-abbrev pub joins : LogFile → LogFile → Bool
+abbrev pub joins : GoodLog → GoodLog → Bool
 joins log rotated =
     nat_eq rotated.header.indexid log.header.indexid && nat_eq (rotated.header.file_seq + 1) log.header.file_seq
     && nat_eq log.header.prev_file_seq rotated.header.file_seq && nat_eq log.header.prev_file_offset rotated.end
 
 -- the rotated log, where it takes part
-abbrev pub joining : LogFile → Scanned → Option LogFile
+abbrev pub joining : GoodLog → Scanned → Option GoodLog
 joining log (Good rotated) = if joins log rotated then Some rotated else None
 joining log scanned = None
 
 -- a snapshot of another mailbox counts as none
-abbrev pub counted : LogFile → Option Snapshot → Option Snapshot
+abbrev pub counted : GoodLog → Option Snapshot → Option Snapshot
 counted log None = None
 counted log (Some s) = if nat_eq s.indexid log.header.indexid then Some s else None
 
 -- the snapshot's mark is a place in the log
-abbrev pub in_log : LogFile → Snapshot → Option Applied
+abbrev pub in_log : GoodLog → Snapshot → Option Applied
 in_log log s = if nat_eq s.mark.file_seq log.header.file_seq then from_there (records_from log s.mark.offset) else None
   where
     from_there : Option (List Spot) → Option Applied
@@ -178,7 +124,7 @@ in_log log s = if nat_eq s.mark.file_seq log.header.file_seq then from_there (re
     from_there (Some spots) = Some (applied_from log s.mark.offset spots (with_numbers s (number_before log spots)))
 
 -- or a place in the rotated log, whose records from there on stand before all of the log's
-abbrev pub in_rotated : LogFile → Option LogFile → Snapshot → Option Applied
+abbrev pub in_rotated : GoodLog → Option GoodLog → Snapshot → Option Applied
 in_rotated log None s = None
 in_rotated log (Some rotated) s = if nat_eq (s.mark.file_seq + 1) log.header.file_seq then from_there (records_from rotated s.mark.offset) else None
   where
@@ -187,7 +133,7 @@ in_rotated log (Some rotated) s = if nat_eq (s.mark.file_seq + 1) log.header.fil
     from_there (Some spots) = Some (then_file log (applied_from rotated s.mark.offset spots (with_numbers s (number_before rotated spots))))
 
 -- or the end of the file before the log, as the log's header names it
-abbrev pub before_log : LogFile → Snapshot → Option Applied
+abbrev pub before_log : GoodLog → Snapshot → Option Applied
 before_log log s =
     if nat_eq (s.mark.file_seq + 1) log.header.file_seq && nat_eq s.mark.offset log.header.prev_file_offset && nat_eq s.mark.file_seq log.header.prev_file_seq
     then Some (file_applied log (with_numbers s (file_number log.header))) else None
@@ -199,20 +145,20 @@ first_of_three None (Some two) three = Some two
 first_of_three None None three = three
 
 -- the place behind the log's last record
-abbrev pub end_mark : LogFile → Mark
+abbrev pub end_mark : GoodLog → Mark
 end_mark log = record { file_seq = log.header.file_seq; offset = log.end }
 
 -- the place of the log's first record
-abbrev pub first_mark : LogFile → Mark
+abbrev pub first_mark : GoodLog → Mark
 first_mark log = record { file_seq = log.header.file_seq; offset = log.header.hdr_size }
 
 -- the mailbox is found at the log's end
-abbrev pub at_end : LogFile → Applied → Found
+abbrev pub at_end : GoodLog → Applied → Found
 at_end log (Gives m) = Finds m (end_mark log)
 at_end log (Refused place) = BadRecord place
 
 -- from a snapshot
-abbrev pub from_index : LogFile → Option LogFile → Snapshot → Found
+abbrev pub from_index : GoodLog → Option GoodLog → Snapshot → Found
 from_index log rotated s = or_gap (first_of_three (in_log log s) (in_rotated log rotated s) (before_log log s))
   where
     or_gap : Option Applied → Found
@@ -220,18 +166,18 @@ from_index log rotated s = or_gap (first_of_three (in_log log s) (in_rotated log
     or_gap (Some result) = at_end log result
 
 -- from nothing: the first log of all, or the second behind the first
-abbrev pub from_nothing : LogFile → Option LogFile → Found
+abbrev pub from_nothing : GoodLog → Option GoodLog → Found
 from_nothing log rotated = if nat_eq log.header.file_seq 1 then at_end log (file_applied log start) else second rotated
   where
     start : Mailbox
     start = empty_mailbox log.header.indexid
 
-    second : Option LogFile → Found
+    second : Option GoodLog → Found
     second None = BadIndex
     second (Some first) = if nat_eq log.header.file_seq 2 then at_end log (then_file log (file_applied first start)) else BadIndex
 
 -- from a snapshot, or from nothing
-abbrev pub from_either : LogFile → Option LogFile → Option Snapshot → Found
+abbrev pub from_either : GoodLog → Option GoodLog → Option Snapshot → Found
 from_either log rotated None = from_nothing log rotated
 from_either log rotated (Some s) = from_index log rotated s
 

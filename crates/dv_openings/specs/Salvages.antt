@@ -17,19 +17,20 @@ use Rattle.dv_shelf.specs.declared.shelf.Name.TheVariants as name
 use Rattle.dv_shelf.specs.Folders.{Folder}
 use Rattle.dv_logfile.specs.declared.header.LogHeader.{LogHeader}
 use Rattle.dv_logfile.specs.Layout.{IsHeader}
-use Rattle.dv_openings.specs.Openings.{AreSpots, IsFaulty, IsIndex, IsScanned, LogFile, Scanned, Snapshot, Spot, counted, file_number, joining, number_before, raised, records_from, with_numbers}
+use Rattle.dv_logfile.specs.Scans.{AreSpots, GoodLog, IsFaulty, IsScanned, Scanned, Spot}
+use Rattle.dv_openings.specs.Openings.{IsIndex, Snapshot, counted, file_number, joining, number_before, raised, records_from, with_numbers}
 
 -- ---- what is read
 
 -- a good header, and the records up to a closed place or to one with a fault
-pub record IsFront (file : LogFile) (b : List ℕ) : Type 0 where
+pub record IsFront (file : GoodLog) (b : List ℕ) : Type 0 where
   pub taken : IsHeader file.header b
   pub rest : List ℕ
   pub records : AreSpots file.header.hdr_size file.spots (drop file.header.hdr_size b) file.end rest
   pub stops : (is_closed rest ≡ true) ⊎ IsFaulty file.end rest
 
 -- a log without a good header counts as none
-abbrev pub IsLogFront : Option (List ℕ) → Option LogFile → Type 0
+abbrev pub IsLogFront : Option (List ℕ) → Option GoodLog → Type 0
 IsLogFront None log = log ≡ None
 IsLogFront (Some b) (Some log) = IsFront log b
 IsLogFront (Some b) None = (h : LogHeader) → IsHeader h b → ⊥
@@ -63,11 +64,11 @@ abbrev pub with_spots : Salvaged → List Spot → Salvaged
 with_spots s spots = fold with_spot s spots
 
 -- all of a file's records
-abbrev pub with_file : LogFile → Salvaged → Salvaged
+abbrev pub with_file : GoodLog → Salvaged → Salvaged
 with_file file s = if s.going then with_spots (record s { mailbox = raised file.header s.mailbox }) file.spots else s
 
 -- a file's records from a place on
-abbrev pub with_file_from : LogFile → ℕ → List Spot → Salvaged → Salvaged
+abbrev pub with_file_from : GoodLog → ℕ → List Spot → Salvaged → Salvaged
 with_file_from file from spots s = if nat_eq from file.header.hdr_size then with_file file s else with_spots s spots
 
 -- a snapshot gives the UIDVALIDITY
@@ -75,14 +76,14 @@ abbrev pub from_snapshot : Mailbox → Salvaged
 from_snapshot m = record { mailbox = m; given = true; going = true }
 
 -- the snapshot's mark is a place in the log
-abbrev pub salvaged_in_log : LogFile → Snapshot → Option Salvaged
+abbrev pub salvaged_in_log : GoodLog → Snapshot → Option Salvaged
 salvaged_in_log log s = if nat_eq s.mark.file_seq log.header.file_seq then option_map from_there (records_from log s.mark.offset) else None
   where
     from_there : List Spot → Salvaged
     from_there spots = with_file_from log s.mark.offset spots (from_snapshot (with_numbers s (number_before log spots)))
 
 -- or in the rotated log
-abbrev pub salvaged_in_rotated : LogFile → Option LogFile → Snapshot → Option Salvaged
+abbrev pub salvaged_in_rotated : GoodLog → Option GoodLog → Snapshot → Option Salvaged
 salvaged_in_rotated log None s = None
 salvaged_in_rotated log (Some rotated) s = if nat_eq (s.mark.file_seq + 1) log.header.file_seq then option_map from_there (records_from rotated s.mark.offset) else None
   where
@@ -90,7 +91,7 @@ salvaged_in_rotated log (Some rotated) s = if nat_eq (s.mark.file_seq + 1) log.h
     from_there spots = with_file log (with_file_from rotated s.mark.offset spots (from_snapshot (with_numbers s (number_before rotated spots))))
 
 -- or the end of the file before the log
-abbrev pub salvaged_before_log : LogFile → Snapshot → Option Salvaged
+abbrev pub salvaged_before_log : GoodLog → Snapshot → Option Salvaged
 salvaged_before_log log s =
     if nat_eq (s.mark.file_seq + 1) log.header.file_seq && nat_eq s.mark.offset log.header.prev_file_offset && nat_eq s.mark.file_seq log.header.prev_file_seq
     then Some (with_file log (from_snapshot (with_numbers s (file_number log.header)))) else None
@@ -107,25 +108,25 @@ abbrev pub nothing : ℕ → Salvaged
 nothing indexid = record { mailbox = empty_mailbox indexid; given = false; going = true }
 
 -- without a snapshot: the rotated log before the second log, else the log's records alone
-abbrev pub salvaged_anew : LogFile → Option LogFile → Salvaged
+abbrev pub salvaged_anew : GoodLog → Option GoodLog → Salvaged
 salvaged_anew log None = with_file log (nothing log.header.indexid)
 salvaged_anew log (Some rotated) =
     if nat_eq log.header.file_seq 2 then with_file log (with_file rotated (nothing log.header.indexid)) else with_file log (nothing log.header.indexid)
 
 -- from a snapshot, or from nothing
-abbrev pub salvaged_from : LogFile → Option LogFile → Option Snapshot → Salvaged
+abbrev pub salvaged_from : GoodLog → Option GoodLog → Option Snapshot → Salvaged
 salvaged_from log rotated None = salvaged_anew log rotated
 salvaged_from log rotated (Some s) = first_salvaged (salvaged_in_log log s) (salvaged_in_rotated log rotated s) (salvaged_before_log log s) s.mailbox
 
 -- without a log the snapshot alone, where there is one
-abbrev pub salvaged_in : Option LogFile → Scanned → Option Snapshot → Salvaged
+abbrev pub salvaged_in : Option GoodLog → Scanned → Option Snapshot → Salvaged
 salvaged_in (Some log) rotated index = salvaged_from log (joining log rotated) (counted log index)
 salvaged_in None rotated (Some s) = from_snapshot s.mailbox
 salvaged_in None rotated None = nothing 0
 
 -- a rebuild of the folder salvages this
 pub record IsSalvaged (folder : Folder) (salvaged : Salvaged) : Type 0 where
-  pub log : Option LogFile
+  pub log : Option GoodLog
   pub rotated : Scanned
   pub index : Option Snapshot
   pub log_file : IsLogFront (folder name.Log) log

@@ -1,5 +1,5 @@
-use Rattle.dv_openings.proofs.Scans as scans
+use Rattle.dv_openings.proofs.FoundOnce.{found_one}
 use Rattle.dv_openings.proofs.found_is_one.Goals as goal
 
 pub returns : goal.returns
-returns c = scans.found_one
+returns c = found_one

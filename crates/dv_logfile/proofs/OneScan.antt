@@ -1,17 +1,13 @@
--- A file is scanned in one way, and so a folder is found in one way.
+-- A file holds one thing.
 use Rattle.std.proofs.Common.{◌≡◌, ℕ, ◌+◌, ◌<◌, true, false, List, [], ◌∷◌, ◌++◌, length, drop, Option, Some, None, refl, sym, ◌∙◌, ap, subst, arith}
 use Rattle.std.proofs.lemmas.List.{append_cancel_left}
 use Rattle.dv_model.specs.declared.types.Record.{Record}
 use Rattle.dv_model.specs.Spelling.{Spells, is_closed}
 use Rattle.dv_logfile.specs.declared.header.LogHeader.{LogHeader}
 use Rattle.dv_logfile.specs.Layout.{IsHeader, last_end}
+use Rattle.dv_logfile.specs.Scans.{Spot, GoodLog, Scanned, Missing, BadHeader, BadSpot, Good, AreSpots, HasFault, IsGood, IsScanned}
 use Rattle.dv_records.proofs.Apart.{not_closed}
 use Rattle.dv_records.proofs.Readings.{one_reading}
-use Rattle.dv_shelf.specs.declared.shelf.Name.TheVariants as name
-use Rattle.dv_shelf.specs.Folders.{Folder}
-use Rattle.dv_formats.specs.Snapshots.{IsSnapshot}
-use Rattle.dv_formats.proofs.Wholes.{snapshot_is_one}
-use Rattle.dv_openings.specs.Openings.{Spot, LogFile, Scanned, Missing, BadHeader, BadSpot, Good, AreSpots, HasFault, IsGood, IsScanned, Snapshot, IsIndex, Found, IsFound, found_in}
 
 false_is_not_true : {A : Type 0} → false ≡ true → A
 false_is_not_true e = absurd cc
@@ -65,12 +61,12 @@ headers_one h h' b one other = one.read ∙ sym other.read
 faults_one : (h : LogHeader) (b : List ℕ) (place place' : ℕ) → HasFault h b place → HasFault h b place' → place ≡ place'
 faults_one h b place place' one other = (spots_one h.hdr_size one.spots other.spots (drop h.hdr_size b) place place' one.rest other.rest one.before other.before one.fault.none other.fault.none).1
 
-fault_or_good : (file : LogFile) (b : List ℕ) (place : ℕ) → HasFault file.header b place → IsGood file b → ⊥
+pub fault_or_good : (file : GoodLog) (b : List ℕ) (place : ℕ) → HasFault file.header b place → IsGood file b → ⊥
 fault_or_good file b place fault good =
     let same = spots_one file.header.hdr_size fault.spots file.spots (drop file.header.hdr_size b) place file.end fault.rest good.rest fault.before good.records fault.fault.none (closed_stops file.end good.rest good.closed) in
     false_is_not_true (sym fault.fault.begun ∙ ap is_closed same.2 ∙ good.closed)
 
-files_one : (file file' : LogFile) (b : List ℕ) → IsGood file b → IsGood file' b → file ≡ file'
+files_one : (file file' : GoodLog) (b : List ℕ) → IsGood file b → IsGood file' b → file ≡ file'
 files_one file file' b one other =
     let headers = headers_one file.header file'.header b one.taken other.taken in
     let records' = subst (λ (h : LogHeader). AreSpots h.hdr_size file'.spots (drop h.hdr_size b) file'.end other.rest) (sym headers) other.records in
@@ -104,27 +100,3 @@ scans_one (Some b) (Good log) BadHeader one other = absurd (other log.header one
 scans_one (Some b) (Good log) (BadSpot place) one other =
     absurd (fault_or_good log b place (subst (λ h. HasFault h b place) (headers_one other.0 log.header b other.1 one.taken) other.2) one)
 scans_one (Some b) (Good log) (Good log') one other = ap Good (files_one log log' b one other)
-
--- ---- the index
-
-snapshots_one : (s t : Snapshot) (b : List ℕ) → IsSnapshot s.version s.mailbox s.indexid s.mark b → IsSnapshot t.version t.mailbox t.indexid t.mark b → s ≡ t
-snapshots_one s t b one other =
-    let same = snapshot_is_one s.version t.version s.mailbox t.mailbox s.indexid t.indexid s.mark t.mark b one other in
-    λ i. record { version = same.0 i; mailbox = same.1 i; indexid = same.2 i; mark = same.3 i }
-
-indexes_one : (file : Option (List ℕ)) (s t : Option Snapshot) → IsIndex file s → IsIndex file t → s ≡ t
-indexes_one None s t one other = one ∙ sym other
-indexes_one (Some b) None None one other = refl
-indexes_one (Some b) None (Some t) one other = absurd (one t other)
-indexes_one (Some b) (Some s) None one other = absurd (other s one)
-indexes_one (Some b) (Some s) (Some t) one other = ap Some (snapshots_one s t b one other)
-
--- ---- the folder
-
-pub found_one : (folder : Folder) (f g : Found) → IsFound folder f → IsFound folder g → f ≡ g
-found_one folder f g one other =
-    one.is
-    ∙ ap (λ log. found_in log one.rotated one.index) (scans_one (folder name.Log) one.log other.log one.log_file other.log_file)
-    ∙ ap (λ rotated. found_in other.log rotated one.index) (scans_one (folder name.Log2) one.rotated other.rotated one.rotated_file other.rotated_file)
-    ∙ ap (found_in other.log other.rotated) (indexes_one (folder name.Index) one.index other.index one.index_file other.index_file)
-    ∙ sym other.is
