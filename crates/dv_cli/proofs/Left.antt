@@ -7,7 +7,7 @@ use Rattle.dv_model.specs.declared.types.Entry.{Entry}
 use Rattle.dv_model.specs.declared.types.Mailbox.{Mailbox}
 use Rattle.dv_model.specs.declared.types.Mark.{Mark}
 use Rattle.dv_model.specs.Effects.{applied}
-use Rattle.dv_model.specs.Journals.{mark_of, mark_behind}
+use Rattle.dv_model.specs.Journals.{at, mark_of, mark_behind}
 use Rattle.dv_model.specs.Mailboxes.{empty_mailbox}
 use Rattle.dv_model.specs.Spelling.{IsRecord, written}
 use Rattle.dv_model.proofs.Appends.{validity_record, validity_is_record, created_is}
@@ -54,19 +54,23 @@ module _ (clock : ℕ → ℕ) where
   effect_is es m small is =
       ap (λ (o : Option Mailbox). option_and_then (λ k. applied k (flat_map (λ e. e.group.records) es)) o) (sym (applied_one (empty_mailbox n) (validity_record n)) ∙ created_is n small) ∙ is
 
-  pub finds_at : (s : Standing) (folder : Folder) → n < 2 ^ 32 → Stands clock s → HoldsLog n s.entries folder → FindsAt (log_of clock s.entries) (length s.entries) folder
-  finds_at s folder small stands holds = record {
-    mailbox = s.mailbox;
-    is = stands.mailbox;
+  -- the log of some entries, which give a mailbox
+  pub finds_entries : (es : List Entry) (m : Mailbox) (folder : Folder) → n < 2 ^ 32 → at (log_of clock es) (length es) ≡ Some m → HoldsLog n es folder → FindsAt (log_of clock es) (length es) folder
+  finds_entries es m folder small is holds = record {
+    mailbox = m;
+    is = is;
     found = record {
       header = new_header n;
-      records = log_records n s.entries;
-      log = subst (λ (k : ℕ). IsLog (new_header n) (log_records n s.entries) k (contents folder name.Log)) (sym (ap (λ (mark : Mark). mark.offset) (mark_is s.entries))) holds;
-      seq = ap (λ (mark : Mark). mark.file_seq) (mark_is s.entries);
+      records = log_records n es;
+      log = subst (λ (k : ℕ). IsLog (new_header n) (log_records n es) k (contents folder name.Log)) (sym (ap (λ (mark : Mark). mark.offset) (mark_is es))) holds;
+      seq = ap (λ (mark : Mark). mark.file_seq) (mark_is es);
       first = refl;
-      effect = effect_is s.entries s.mailbox small (sym (at_all (log_of clock s.entries)) ∙ stands.mailbox);
+      effect = effect_is es m small (sym (at_all (log_of clock es)) ∙ is);
     };
   }
+
+  pub finds_at : (s : Standing) (folder : Folder) → n < 2 ^ 32 → Stands clock s → HoldsLog n s.entries folder → FindsAt (log_of clock s.entries) (length s.entries) folder
+  finds_at s folder small stands holds = finds_entries s.entries s.mailbox folder small stands.mailbox holds
 
   stamp_some : (k : ℕ) → 1 ≤ stamp k
   stamp_some k = by (nat_eq k 0) refl
@@ -80,7 +84,7 @@ module _ (clock : ℕ → ℕ) where
           some (Rattle.std.proofs.Common.suc m) is-not = omega arith
 
   -- a mailbox that was just made
-  new_holds : (folder : Folder) → n < 2 ^ 32 → HasLog n [] folder → HoldsLog n [] folder
+  pub new_holds : (folder : Folder) → n < 2 ^ 32 → HasLog n [] folder → HoldsLog n [] folder
   new_holds folder small was =
       let rs = validity_record n ∷ [] in
       let one : All IsRecord rs = All-push IsRecord [] (validity_record n) (λ k d lt. absurd (omega arith)) (validity_is_record n) in

@@ -11,4 +11,8 @@ pub mod FolderRuns
 pub mod Counted
 pub mod Ends
 pub mod Left
+pub mod Crashes
+pub mod CrashLines
+pub mod CrashMade
+pub mod CrashRuns
 pub mod Outputs

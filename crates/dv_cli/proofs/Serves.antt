@@ -178,7 +178,7 @@ left_either F G n e rs gs text number all group_all group was end-is text-is roo
 
 module _ (guid : ℕ → List ℕ) (s : Serving) (serving : IsServing s) (selected : s.selected ≡ true) (left : s.next_uid < end_of_uids) (room : s.log.end + 16 ≤ log_limit) where
   -- the journal that the rules have behind an append
-  append_entries : (step guid (standing_of s) (command.Append 0 [] [])).standing.entries ≡ s.journal.items ++ append_entry s ∷ []
+  pub append_entries : (step guid (standing_of s) (command.Append 0 [] [])).standing.entries ≡ s.journal.items ++ append_entry s ∷ []
   append_entries = ap (λ (t : Stepped). t.standing.entries) (append_steps guid (standing_of s) (length s.journal.items) (selected_state s selected) left 0 serving.rows room)
 
   pub append_leaves : (F G : Folder) (e : ℕ) (text : List ℕ) → IsGroupText text → HasLog s.uid_validity s.journal.items F → e ≡ s.log.end → text ≡ flat_map written (append_record (mailbox_of s) 0 ∷ []) ++ closing

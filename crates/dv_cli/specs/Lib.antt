@@ -5,5 +5,7 @@ pub mod Servings
 pub mod Endings
 pub mod Readings
 pub mod Lines
+pub mod Crashing
 pub mod Creating
 pub mod Runs
+pub mod Words

@@ -1,5 +1,5 @@
 -- What a whole run answers, writes and leaves.
-use Rattle.std.specs.Prelude.{◌≡◌, ◌⊎◌, ℕ, ◌^◌, ◌<◌, Bool, true, false, List, [], ◌∷◌, ◌++◌, length, drop, Result, Ok, Err, if◌then◌else◌}
+use Rattle.std.specs.Prelude.{◌≡◌, ◌⊎◌, ℕ, ◌^◌, ◌<◌, ◌≤◌, Bool, true, false, List, [], ◌∷◌, ◌++◌, length, drop, Result, Ok, Err, if◌then◌else◌}
 use Rattle.dv_model.specs.declared.types.Entry.{Entry}
 use Rattle.dv_model.specs.declared.types.Reply.{Reply}
 use Rattle.dv_model.specs.Journals.{Log, mark_of}
@@ -208,3 +208,21 @@ pub record LeavesNext (clock : ℕ → ℕ) (lines : List Line) (journal : List 
 abbrev pub Leaves : (ℕ → ℕ) → List Line → ℕ → List Entry → Folder → Folder → Type 0
 Leaves clock lines status journal before now =
     ((journal ≡ []) × (now ≡ before)) ⊎ FindsAt (log_of clock journal) (length journal) now ⊎ (((status ≡ 2) ⊎ (status ≡ 4) ⊎ (status ≡ 7)) × LeavesNext clock lines journal now)
+
+-- ---- a crash
+
+-- The folder is as before the run. Or there was no mailbox in it, and it is found as the log behind the journal's first
+-- k groups; where the disk failed perhaps with one group more, that of the line behind the answered ones.
+abbrev pub MayLeave : (ℕ → ℕ) → List Line → Type 0 → List Entry → Folder → Folder → Type 0
+MayLeave clock lines failed journal before folder =
+    (folder ≡ before)
+    ⊎ (IsNew before × ((k : ℕ) × (k ≤ length journal) × FindsAt (log_of clock journal) k folder))
+    ⊎ (IsNew before × failed × LeavesNext clock lines journal folder)
+
+-- Behind the run: the folder is as before and no group was written. Or there was no mailbox in it, and it is found as the
+-- whole journal; where the disk failed perhaps with one group more, that of the line behind the answered ones.
+abbrev pub MayLeaveAfter : (ℕ → ℕ) → List Line → Type 0 → List Entry → Folder → Folder → Type 0
+MayLeaveAfter clock lines failed journal before folder =
+    ((journal ≡ []) × (folder ≡ before))
+    ⊎ (IsNew before × FindsAt (log_of clock journal) (length journal) folder)
+    ⊎ (IsNew before × failed × LeavesNext clock lines journal folder)

@@ -1,4 +1,8 @@
 ghost use Rattle.std.specs.Prelude.{◌≡◌, ◌⊎◌, ◌+◌, ◌-◌, ◌≤◌, ◌∷◌, [], ℕ, List, length, IfOk, IfErr, OnOk, OnErr};
+ghost use Rattle.dv_shelf.specs.Causes.{Rose};
+ghost use Rattle.dv_shelf.specs.Crashes.{LeavesOnly};
+ghost use Rattle.dv_shelf.specs.Folders.{Folder};
+ghost use Rattle.dv_cli.specs.Crashing.{RestsAt, LeavesCommand, EndsHolding};
 ghost use Rattle.dv_cli.specs.Servings.{IsServing, Steps, standing_of, HasLog, EndsWith, IsDiskFault, HasRead};
 ghost use Rattle.dv_cli.specs.Standings.{IsServed};
 
@@ -24,6 +28,9 @@ impl Serving {
         ensures validity { self.new.uid_validity ≡ self.old.uid_validity }
         ensures files { S.tells shelf.old → HasLog self.old.uid_validity self.old.journal.items (S.files shelf.old) → OnOk result (HasLog self.old.uid_validity self.new.journal.items (S.files shelf.new)) }
         ensures files_left { (guid : ℕ → List ℕ) → S.tells shelf.old → HasLog self.old.uid_validity self.old.journal.items (S.files shelf.old) → IfErr result (λ e. EndsWith e guid self.old command.now (S.files shelf.new)) }
+        ensures crash { (guid : ℕ → List ℕ) → S.tells shelf.old → RestsAt self.old.uid_validity self.old.journal.items (S.may_leave shelf.old) → LeavesOnly S.moment S.left_since shelf.old shelf.new (LeavesCommand guid self.old command.now self.new (Rose (S.fault_count shelf.old) (S.fault_count shelf.new))) }
+        ensures rest { S.tells shelf.old → RestsAt self.old.uid_validity self.old.journal.items (S.may_leave shelf.old) → OnOk result (RestsAt self.old.uid_validity self.new.journal.items (S.may_leave shelf.new)) }
+        ensures rest_left { (guid : ℕ → List ℕ) → S.tells shelf.old → RestsAt self.old.uid_validity self.old.journal.items (S.may_leave shelf.old) → IfErr result (λ e. (f : Folder) → S.may_leave shelf.new f → EndsHolding e guid self.old command.now f) }
         ensures told { S.tells shelf.old → S.tells shelf.new }
         ensures later { S.fault_count shelf.old ≤ S.fault_count shelf.new }
         ensures cause { IfErr result (λ e. IsDiskFault e (S.fault_count shelf.old) (S.fault_count shelf.new)) }

@@ -1,22 +1,20 @@
 ghost use Rattle.std.specs.Prelude.{◌≡◌, ◌⊎◌, ◌+◌, ◌-◌, ◌<◌, ◌≤◌, ◌∷◌, ◌++◌, [], ℕ, List, length, true, IfOk, IfErr, OnOk, OnErr};
 ghost use Rattle.dv_model.specs.declared.types.Command.TheVariants as command;
 ghost use Rattle.dv_model.specs.Sessions.{end_of_uids, log_limit};
+ghost use Rattle.dv_shelf.specs.Causes.{Rose};
+ghost use Rattle.dv_shelf.specs.Crashes.{LeavesOnly};
+ghost use Rattle.dv_shelf.specs.Folders.{Folder};
+ghost use Rattle.dv_cli.specs.Crashing.{RestsAt, LeavesCommand, EndsHolding};
 ghost use Rattle.dv_cli.specs.Servings.{IsServing, Steps, standing_of, HasLog, EndsWith, IsDiskFault, HasRead};
 
-use crate::serving::{Serving, StepEnd, append_group, one_line};
+use crate::serving::{APPEND_SIZE, FIRST_SESSION, Serving, StepEnd, append_group, one_line};
 use dv_logfile::{CommitFault, group_text};
 use dv_model::{Entry, List, Reply};
 use dv_shelf::{Clock, Shelf};
 use std::alloc::Global;
 
-/// The one session's number.
-const FIRST_SESSION: u32 = 1;
-
 /// The number that no UID has (RFC 3501, section 2.3.1.1: a UID is a number of 32 bits).
 const END_OF_UIDS: u32 = 4294967295;
-
-/// The bytes of the one record that an append writes.
-const APPEND_SIZE: u32 = 16;
 
 /// The furthest end of a log file, whose last four bytes are a closed place.
 const LOG_LIMIT: u32 = 1073741820;
@@ -37,6 +35,9 @@ impl Serving {
         ensures validity { self.new.uid_validity ≡ self.old.uid_validity }
         ensures files { S.tells shelf.old → HasLog self.old.uid_validity self.old.journal.items (S.files shelf.old) → OnOk result (HasLog self.old.uid_validity self.new.journal.items (S.files shelf.new)) }
         ensures files_left { (guid : ℕ → List ℕ) → S.tells shelf.old → HasLog self.old.uid_validity self.old.journal.items (S.files shelf.old) → IfErr result (λ e. EndsWith e guid self.old (command.Append 0 [] []) (S.files shelf.new)) }
+        ensures crash { (guid : ℕ → List ℕ) → S.tells shelf.old → RestsAt self.old.uid_validity self.old.journal.items (S.may_leave shelf.old) → LeavesOnly S.moment S.left_since shelf.old shelf.new (LeavesCommand guid self.old (command.Append 0 [] []) self.new (Rose (S.fault_count shelf.old) (S.fault_count shelf.new))) }
+        ensures rest { S.tells shelf.old → RestsAt self.old.uid_validity self.old.journal.items (S.may_leave shelf.old) → OnOk result (RestsAt self.old.uid_validity self.new.journal.items (S.may_leave shelf.new)) }
+        ensures rest_left { (guid : ℕ → List ℕ) → S.tells shelf.old → RestsAt self.old.uid_validity self.old.journal.items (S.may_leave shelf.old) → IfErr result (λ e. (f : Folder) → S.may_leave shelf.new f → EndsHolding e guid self.old (command.Append 0 [] []) f) }
         ensures told { S.tells shelf.old → S.tells shelf.new }
         ensures later { S.fault_count shelf.old ≤ S.fault_count shelf.new }
         ensures cause { IfErr result (λ e. IsDiskFault e (S.fault_count shelf.old) (S.fault_count shelf.new)) }
@@ -71,6 +72,9 @@ impl Serving {
         ensures one_more { OnOk result (length self.new.journal.items ≡ length self.old.journal.items + 1) }
         ensures files { S.tells shelf.old → HasLog self.old.uid_validity self.old.journal.items (S.files shelf.old) → OnOk result (HasLog self.old.uid_validity self.new.journal.items (S.files shelf.new)) }
         ensures files_left { (guid : ℕ → List ℕ) → S.tells shelf.old → HasLog self.old.uid_validity self.old.journal.items (S.files shelf.old) → IfErr result (λ e. EndsWith e guid self.old (command.Append 0 [] []) (S.files shelf.new)) }
+        ensures crash { (guid : ℕ → List ℕ) → S.tells shelf.old → RestsAt self.old.uid_validity self.old.journal.items (S.may_leave shelf.old) → LeavesOnly S.moment S.left_since shelf.old shelf.new (LeavesCommand guid self.old (command.Append 0 [] []) self.new (Rose (S.fault_count shelf.old) (S.fault_count shelf.new))) }
+        ensures rest { S.tells shelf.old → RestsAt self.old.uid_validity self.old.journal.items (S.may_leave shelf.old) → OnOk result (RestsAt self.old.uid_validity self.new.journal.items (S.may_leave shelf.new)) }
+        ensures rest_left { (guid : ℕ → List ℕ) → S.tells shelf.old → RestsAt self.old.uid_validity self.old.journal.items (S.may_leave shelf.old) → IfErr result (λ e. (f : Folder) → S.may_leave shelf.new f → EndsHolding e guid self.old (command.Append 0 [] []) f) }
         ensures told { S.tells shelf.old → S.tells shelf.new }
         ensures later { S.fault_count shelf.old ≤ S.fault_count shelf.new }
         ensures cause { IfErr result (λ e. IsDiskFault e (S.fault_count shelf.old) (S.fault_count shelf.new)) }

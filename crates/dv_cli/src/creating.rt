@@ -1,7 +1,9 @@
-ghost use Rattle.std.specs.Prelude.{◌≡◌, ◌≢◌, ◌≤◌, ◌∷◌, [], ℕ, List, not, MatchBool, IfOk, IfErr, OnOk};
+ghost use Rattle.std.specs.Prelude.{◌≡◌, ◌≢◌, ◌^◌, ◌<◌, ◌≤◌, ◌∷◌, [], ℕ, List, not, MatchBool, IfOk, IfErr, OnOk};
 ghost use Rattle.std.specs.List.{list_all};
+ghost use Rattle.dv_shelf.specs.Crashes.{FollowsNone, LeavesOnly, Only};
 ghost use Rattle.dv_logfile.specs.Layout.{new_header, log_text};
 ghost use Rattle.dv_model.proofs.Appends.{validity_record};
+ghost use Rattle.dv_cli.specs.Crashing.{RestsAt, LeavesMade};
 ghost use Rattle.dv_cli.specs.Creating.{is_mailbox_file, IsCreateFault, LeavesNew};
 ghost use Rattle.dv_cli.specs.Found.{IsNew};
 ghost use Rattle.dv_cli.specs.Running.{new_standing, stamp};
@@ -96,6 +98,7 @@ fn first_log(alloc: Global, now: u32) -> Result<Bytes, NoMemory>
 fn stamp(now: u32) -> u32
     ensures is { result ≡ stamp now }
     ensures some { 1 ≤ result }
+    ensures small { result < 2 ^ 32 }
 {
     if now == 0 { 1 } else { now }
 }
@@ -131,6 +134,8 @@ fn is_new<S: Shelf>(alloc: Global, shelf: &mut S) -> Result<bool, CreateEnd>
     ensures told { S.tells shelf.old → S.tells shelf.new }
     ensures later { S.fault_count shelf.old ≤ S.fault_count shelf.new }
     ensures cause { IfErr result (λ e. IsCreateFault e (S.fault_count shelf.old) (S.fault_count shelf.new)) }
+    ensures since { S.tells shelf.old → LeavesOnly S.moment S.left_since shelf.old shelf.new (S.may_leave shelf.old) }
+    ensures crash { S.tells shelf.old → FollowsNone (S.may_leave shelf.old) (S.may_leave shelf.new) }
     ensures not_later { IfErr result (λ e. e ≢ CreateEnd.Later) }
 {
     match shelf.list(alloc) {
@@ -152,6 +157,9 @@ pub fn create_folder<S: Shelf, C: Clock>(
     ensures validity { C.tells clock.old → IfOk result (λ s. s.uid_validity ≡ stamp (C.upcoming clock.old 0)) }
     ensures files { S.tells shelf.old → IfOk result (λ s. HasLog s.uid_validity [] (S.files shelf.new) × IsNew (S.files shelf.old)) }
     ensures files_left { S.tells shelf.old → C.tells clock.old → IfErr result (λ e. LeavesNew e (stamp (C.upcoming clock.old 0)) (S.files shelf.old) (S.files shelf.new)) }
+    ensures crash { S.tells shelf.old → C.tells clock.old → Only (S.files shelf.old) (S.may_leave shelf.old) →
+        LeavesOnly S.moment S.left_since shelf.old shelf.new (LeavesMade (stamp (C.upcoming clock.old 0)) (S.files shelf.old)) }
+    ensures rest { S.tells shelf.old → IfOk result (λ s. RestsAt s.uid_validity [] (S.may_leave shelf.new)) }
     ensures refused { S.tells shelf.old → IfErr result (λ e. e ≡ CreateEnd.Later → IsNew (S.files shelf.old) → ⊥) }
     ensures told { S.tells shelf.old → S.tells shelf.new }
     ensures later { S.fault_count shelf.old ≤ S.fault_count shelf.new }

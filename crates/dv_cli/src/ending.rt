@@ -100,16 +100,16 @@ fn last_line(alloc: Global, end: &End) -> Result<Bytes, NoMemory>
     }
 }
 
-/// Writes the last line and gives the status, or 7 where the output fails.
-fn write_last<O: Sink>(out: &mut O, line: &[u8], status: u8) -> u8
+/// Writes a text and gives the status, or 7 where the output fails.
+pub fn write_text<O: Sink>(out: &mut O, text: &[u8], status: u8) -> u8
     requires { status < 7 }
-    ensures text { O.tells out.old → ((result ≡ status) × Appends (O.taken out.old) (O.taken out.new) line.now) ⊎ ((result ≡ 7) × AppendsFront (O.taken out.old) (O.taken out.new) line.now) }
+    ensures text { O.tells out.old → ((result ≡ status) × Appends (O.taken out.old) (O.taken out.new) text.now) ⊎ ((result ≡ 7) × AppendsFront (O.taken out.old) (O.taken out.new) text.now) }
     ensures status { (result ≡ status) ⊎ (result ≡ 7) }
     ensures told { O.tells out.old → O.tells out.new }
     ensures later { O.fault_count out.old ≤ O.fault_count out.new }
     ensures cause { result ≡ 7 → Rose (O.fault_count out.old) (O.fault_count out.new) }
 {
-    match out.write_all(line) {
+    match out.write_all(text) {
         Ok(()) => status,
         Err(_) => 7,
     }
@@ -125,9 +125,9 @@ pub fn conclude<O: Sink>(alloc: Global, out: &mut O, end: &End) -> u8
     ensures cause { result ≡ 7 → (end.now ≡ how.Sink) ⊎ Rose (O.fault_count out.old) (O.fault_count out.new) }
 {
     match end {
-        End::Usage => write_last(out, b"FAULT 1 USAGE\n", 1),
-        End::Later => write_last(out, b"FAULT 3 LATER\n", 3),
-        End::NoMemory => write_last(out, b"FAULT 4 MEMORY\n", 4),
+        End::Usage => write_text(out, b"FAULT 1 USAGE\n", 1),
+        End::Later => write_text(out, b"FAULT 3 LATER\n", 3),
+        End::NoMemory => write_text(out, b"FAULT 4 MEMORY\n", 4),
         End::Sink => 7,
         _ => write_formatted(alloc, out, end),
     }
@@ -143,7 +143,7 @@ fn write_formatted<O: Sink>(alloc: Global, out: &mut O, end: &End) -> u8
     ensures cause { result ≡ 7 → Rose (O.fault_count out.old) (O.fault_count out.new) }
 {
     match last_line(alloc, end) {
-        Ok(line) => write_last(out, line.as_slice(), status(end)),
-        Err(_) => write_last(out, b"FAULT 4 MEMORY\n", 4),
+        Ok(line) => write_text(out, line.as_slice(), status(end)),
+        Err(_) => write_text(out, b"FAULT 4 MEMORY\n", 4),
     }
 }

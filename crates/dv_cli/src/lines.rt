@@ -1,18 +1,19 @@
 ghost use Rattle.std.specs.Prelude.{◌≡◌, ◌⊎◌, ◌+◌, ◌-◌, ◌≤◌, ◌∷◌, ◌++◌, [], ℕ, List, length, All, IfOk, IfErr, OnOk, OnErr};
+ghost use Rattle.dv_shelf.specs.Causes.{Rose};
+ghost use Rattle.dv_shelf.specs.Crashes.{LeavesOnly};
+ghost use Rattle.dv_shelf.specs.Folders.{Folder};
 ghost use Rattle.dv_shelf.specs.Streams.{Appends};
+ghost use Rattle.dv_cli.specs.Crashing.{RestsAt, LeavesCommand, LeavesLines};
 ghost use Rattle.dv_cli.specs.Lines.{Serves, StandsAfter, WroteSome, FilesAfter, IsFault};
 ghost use Rattle.dv_cli.specs.Running.{answer_text};
 ghost use Rattle.dv_cli.specs.Servings.{IsServing, standing_of, HasLog, HasRead};
 ghost use Rattle.dv_cli.specs.Standings.{IsServed, step};
 
-use crate::serving::{Serving, StepEnd};
+use crate::serving::{FIRST_SESSION, Serving, StepEnd};
 use dv_model::NoMemory;
 use dv_script::{Line, replies_text};
 use dv_shelf::{Clock, Gate, Shelf, Sink};
 use std::alloc::Global;
-
-/// The one session's number.
-const FIRST_SESSION: u32 = 1;
 
 /// Why a line of the script ends the run.
 #[derive(Clone, Copy, PartialEq, Eq, Debug)]
@@ -67,6 +68,9 @@ impl Serving {
         ensures output_left { (guid : ℕ → List ℕ) → O.tells out.old → IfErr result (λ e. WroteSome e guid (standing_of self.old) line.now (O.taken out.old) (O.taken out.new)) }
         ensures files { S.tells shelf.old → HasLog self.old.uid_validity self.old.journal.items (S.files shelf.old) → OnOk result (HasLog self.old.uid_validity self.new.journal.items (S.files shelf.new)) }
         ensures files_left { (guid : ℕ → List ℕ) → S.tells shelf.old → HasLog self.old.uid_validity self.old.journal.items (S.files shelf.old) → IfErr result (λ e. FilesAfter e guid self.old.uid_validity (standing_of self.old) (standing_of self.new) line.now (S.files shelf.new)) }
+        ensures crash { (guid : ℕ → List ℕ) → S.tells shelf.old → RestsAt self.old.uid_validity self.old.journal.items (S.may_leave shelf.old) → LeavesOnly S.moment S.left_since shelf.old shelf.new (LeavesCommand guid self.old line.now.command self.new (Rose (S.fault_count shelf.old) (S.fault_count shelf.new))) }
+        ensures rest { S.tells shelf.old → RestsAt self.old.uid_validity self.old.journal.items (S.may_leave shelf.old) → OnOk result (RestsAt self.old.uid_validity self.new.journal.items (S.may_leave shelf.new)) }
+        ensures rest_left { (guid : ℕ → List ℕ) → S.tells shelf.old → RestsAt self.old.uid_validity self.old.journal.items (S.may_leave shelf.old) → IfErr result (λ e. (f : Folder) → S.may_leave shelf.new f → FilesAfter e guid self.old.uid_validity (standing_of self.old) (standing_of self.new) line.now f) }
         ensures told { S.tells shelf.old → S.tells shelf.new }
         ensures out_told { O.tells out.old → O.tells out.new }
         ensures later { (S.fault_count shelf.old ≤ S.fault_count shelf.new) × (O.fault_count out.old ≤ O.fault_count out.new) }
@@ -96,6 +100,10 @@ impl Serving {
         requires served { All (λ line. IsServed line.command) lines.now }
         ensures serves { (guid : ℕ → List ℕ) → Serves guid self.old.uid_validity (standing_of self.old) lines.now result (standing_of self.new) (O.tells out.old)
             (S.tells shelf.old × HasLog self.old.uid_validity self.old.journal.items (S.files shelf.old)) (O.taken out.old) (O.taken out.new) (S.files shelf.new) }
+        ensures crash { (guid : ℕ → List ℕ) → S.tells shelf.old → RestsAt self.old.uid_validity self.old.journal.items (S.may_leave shelf.old) → LeavesOnly S.moment S.left_since shelf.old shelf.new (LeavesLines guid self.old.uid_validity (standing_of self.old) lines.now (Rose (S.fault_count shelf.old) (S.fault_count shelf.new)) self.new.journal.items) }
+        ensures rest { S.tells shelf.old → RestsAt self.old.uid_validity self.old.journal.items (S.may_leave shelf.old) → OnOk result (RestsAt self.old.uid_validity self.new.journal.items (S.may_leave shelf.new)) }
+        ensures rest_left { (guid : ℕ → List ℕ) → S.tells shelf.old → RestsAt self.old.uid_validity self.old.journal.items (S.may_leave shelf.old) → (f : Folder) → S.may_leave shelf.new f →
+            Serves guid self.old.uid_validity (standing_of self.old) lines.now result (standing_of self.new) (O.tells out.old) (S.tells shelf.old) (O.taken out.old) (O.taken out.new) f }
         ensures told { S.tells shelf.old → S.tells shelf.new }
         ensures out_told { O.tells out.old → O.tells out.new }
         ensures later { (S.fault_count shelf.old ≤ S.fault_count shelf.new) × (O.fault_count out.old ≤ O.fault_count out.new) }

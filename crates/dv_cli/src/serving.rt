@@ -18,8 +18,11 @@ use dv_logfile::LogFile;
 use dv_model::{Body, Entry, Group, List, Mark, NewRow, NoMemory, Record, Reply, Row, Value, Word};
 use std::alloc::{AllocError, Global};
 
+/// The one session's number.
+pub const FIRST_SESSION: u32 = 1;
+
 /// The bytes of the one record that an append writes.
-const APPEND_SIZE: u32 = 16;
+pub const APPEND_SIZE: u32 = 16;
 
 /// The highest modification sequence (RFC 7162, section 7).
 const LAST_MODSEQ: u64 = 9223372036854775807;

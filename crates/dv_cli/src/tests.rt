@@ -353,3 +353,104 @@ fn a_failed_output_has_taken_a_front(rt: HostRuntime) -> Result<(), Fail> {
     ends(&rt, &whole, 0, APPEND_OUTPUT);
     Ok(())
 }
+
+/// The bytes of two appends from place 56 on, without the closed place behind them.
+const TWO_APPENDS: [u8; 32] = [
+    0x80, 0x80, 0x80, 0x84, 0x02, 0x00, 0x00, 0x10, 0x01, 0x00, 0x00, 0x00, 0x00, 0x00, 0x00, 0x00,
+    0x80, 0x80, 0x80, 0x84, 0x02, 0x00, 0x00, 0x10, 0x02, 0x00, 0x00, 0x00, 0x00, 0x00, 0x00, 0x00,
+];
+
+/// The log of a new folder behind so many of the appends, without its closed place.
+fn front_of(alloc: Global, groups: usize) -> Result<Bytes, Fail> {
+    let mut front = List::from_slice(alloc, &NEW_LOG[..56])?;
+    match groups {
+        0 => (),
+        1 => front.extend(&TWO_APPENDS[..16])?,
+        _ => front.extend(&TWO_APPENDS)?,
+    }
+    Ok(front)
+}
+
+/// How many of the two appends a log holds, behind which no record begins.
+fn groups_in(alloc: Global, log: &[u8]) -> Result<usize, Fail> {
+    for groups in 0..3 {
+        let front = front_of(alloc, groups)?;
+        match log.get(front.len()) {
+            Some(gate) if *gate != 0x80 && log.starts_with(front.as_slice()) => return Ok(groups),
+            _ => (),
+        }
+    }
+    Err(Fail::from("another log"))
+}
+
+/// What images of a folder hold: 0 for one without a log, else one more than the log's appends.
+fn held(alloc: Global, image: &Folder) -> Result<usize, Fail> {
+    let mut held = 0;
+    for (name, bytes) in image.as_slice() {
+        if *name != Name::Log {
+            return Err(Fail::from("another file"));
+        }
+        held = 1 + groups_in(alloc, bytes.as_slice())?.min(2);
+    }
+    Ok(held)
+}
+
+/// The status of a run of two appends whose folder stops behind so many calls, and the least and
+/// the most that its images hold.
+fn stopped(alloc: Global, stop: u32) -> Result<(u8, usize, usize), Fail> {
+    let words = strings(alloc, &["run"])?;
+    let text = List::from_slice(alloc, b"a SELECT\na APPEND ()\na APPEND ()\n")?;
+    let mut script = MemSource::new(alloc, text, List::new(alloc));
+    let mut out = MemSink::new(alloc, 10_000, List::new(alloc))?;
+    let clock = MemClock::new(alloc, List::from_slice(alloc, &[1000, 1001, 1002])?);
+    let files = folder(alloc, &[])?;
+    let shelf = MemShelf::of(alloc, &files, 10_000, List::new(alloc), Some(stop))?;
+    let Ran {
+        status,
+        shelf,
+        clock: _clock,
+        journal: _journal,
+    } = run(
+        alloc,
+        words.as_slice(),
+        shelf,
+        &mut script,
+        &mut out,
+        clock,
+        &OpenGate,
+    );
+    let images = shelf.images(alloc)?;
+    let mut least = 9;
+    let mut most = 0;
+    for image in images.as_slice() {
+        let held = held(alloc, image)?;
+        least = held.min(least);
+        most = held.max(most);
+    }
+    Ok((status, least, most))
+}
+
+// The calls: `list` and `replace`, then for each append a write and a sync behind the gate and a
+// write and a sync of the gate.
+#[test]
+fn a_run_that_stops_leaves_its_first_groups(rt: HostRuntime) -> Result<(), Fail> {
+    for (stop, status, least, most) in [
+        (0, 2, 0, 0),
+        (1, 2, 0, 0),
+        (2, 2, 1, 1),
+        (3, 2, 1, 1),
+        (4, 2, 1, 1),
+        (5, 2, 1, 2),
+        (6, 2, 2, 2),
+        (7, 2, 2, 2),
+        (8, 2, 2, 2),
+        (9, 2, 2, 3),
+        (10, 0, 3, 3),
+    ] {
+        let left = stopped(rt.alloc(), stop)?;
+        assert_eq!(rt; left.0, status, "status at {stop}");
+        assert_eq!(rt; left.1, least, "least at {stop}");
+        assert_eq!(rt; left.2, most, "most at {stop}");
+    }
+    Ok(())
+}

@@ -1,5 +1,7 @@
 ghost use Rattle.std.specs.Prelude.{◌≡◌, ◌≢◌, ◌⊎◌, ◌+◌, ◌≤◌, ◌++◌, [], ℕ, Bool, List, All, length, map, string_bytes, true, false, MatchBool, Ok, Err, IfOk, IfErr};
 ghost use Rattle.dv_shelf.specs.Causes.{Rose, Stayed};
+ghost use Rattle.dv_shelf.specs.Crashes.{LeavesOnly, Only};
+ghost use Rattle.dv_shelf.specs.Folders.{Folder};
 ghost use Rattle.dv_shelf.specs.Streams.{Appends, AppendsFront};
 ghost use Rattle.dv_script.specs.declared.types.Line.{Line};
 ghost use Rattle.dv_script.specs.declared.types.ScriptEnd.{ScriptEnd};
@@ -9,7 +11,7 @@ ghost use Rattle.dv_cli.specs.declared.ending.End.TheVariants as how;
 ghost use Rattle.dv_cli.specs.Found.{IsNew, FindsAt};
 ghost use Rattle.dv_cli.specs.Readings.{read_limit};
 ghost use Rattle.dv_cli.specs.Running.{is_run, log_of, usage_text};
-ghost use Rattle.dv_cli.specs.Runs.{IsScriptEnd, IsReadEnd, FolderRun, EndCause, IsAnswered, IsSerialRun, Leaves, Cause, Refuses, Untouched, counts_of, output_of, end_of, end_unmade};
+ghost use Rattle.dv_cli.specs.Runs.{IsScriptEnd, IsReadEnd, FolderRun, EndCause, IsAnswered, IsSerialRun, Leaves, MayLeave, MayLeaveAfter, Cause, Refuses, Untouched, counts_of, output_of, end_of, end_unmade};
 ghost use Rattle.dv_cli.specs.Servings.{HasRead, standing_of};
 ghost use Rattle.dv_cli.specs.Standings.{IsServed};
 
@@ -81,6 +83,11 @@ fn serve_folder<S: Shelf, C: Clock, O: Sink, G: Gate>(
     requires { All (λ line. IsServed line.command) lines.now }
     ensures run { C.tells clock.old → FolderRun (C.upcoming clock.old) lines.now result.end result.journal (O.tells out.old) (S.tells shelf.old) (O.taken out.old) (O.taken out.new) (S.files shelf.old) (S.files shelf.new) }
     ensures cause { EndCause result.end (S.fault_count shelf.old) (S.fault_count shelf.new) (O.fault_count out.old) (O.fault_count out.new) (S.tells shelf.old → IsNew (S.files shelf.old)) (S.tells shelf.old → IsNew (S.files shelf.old) → ⊥) }
+    ensures crash { C.tells clock.old → S.tells shelf.old → Only (S.files shelf.old) (S.may_leave shelf.old) → LeavesOnly S.moment S.left_since shelf.old shelf.new
+        (MayLeave (C.upcoming clock.old) lines.now (Rose (S.fault_count shelf.old) (S.fault_count shelf.new)) result.journal (S.files shelf.old)) }
+    ensures after { C.tells clock.old → S.tells shelf.old → Only (S.files shelf.old) (S.may_leave shelf.old) → (c : Folder) → S.may_leave shelf.new c →
+        MayLeaveAfter (C.upcoming clock.old) lines.now (Rose (S.fault_count shelf.old) (S.fault_count shelf.new)) result.journal (S.files shelf.old) c }
+    ensures durable { C.tells clock.old → S.tells shelf.old → IsAnswered result.end → (c : Folder) → S.may_leave shelf.new c → FindsAt (log_of (C.upcoming clock.old) result.journal) (length result.journal) c }
     ensures told { S.tells shelf.old → S.tells shelf.new }
     ensures out_told { O.tells out.old → O.tells out.new }
     ensures later { (S.fault_count shelf.old ≤ S.fault_count shelf.new) × (O.fault_count out.old ≤ O.fault_count out.new) }
@@ -147,6 +154,11 @@ fn whole<S: Shelf, I: Source, O: Sink, C: Clock, G: Gate>(
     ensures run { is_run (map string_bytes words.now) ≡ true → I.tells script.old → C.tells clock.old → (lines : List Line) → parsed (I.left script.old) ≡ Ok lines →
         (IsScriptEnd result.end (I.left script.old) (I.fault_count script.old) (I.fault_count script.new) × Untouched shelf.old shelf.new out.old out.new clock.old clock.new result.journal)
         ⊎ FolderRun (C.upcoming clock.old) lines result.end result.journal (O.tells out.old) (S.tells shelf.old) (O.taken out.old) (O.taken out.new) (S.files shelf.old) (S.files shelf.new) }
+    ensures crash { is_run (map string_bytes words.now) ≡ true → I.tells script.old → C.tells clock.old → S.tells shelf.old → Only (S.files shelf.old) (S.may_leave shelf.old) → (lines : List Line) → parsed (I.left script.old) ≡ Ok lines →
+        LeavesOnly S.moment S.left_since shelf.old shelf.new (MayLeave (C.upcoming clock.old) lines (Rose (S.fault_count shelf.old) (S.fault_count shelf.new)) result.journal (S.files shelf.old)) }
+    ensures after { is_run (map string_bytes words.now) ≡ true → I.tells script.old → C.tells clock.old → S.tells shelf.old → Only (S.files shelf.old) (S.may_leave shelf.old) → (lines : List Line) → parsed (I.left script.old) ≡ Ok lines →
+        (c : Folder) → S.may_leave shelf.new c → MayLeaveAfter (C.upcoming clock.old) lines (Rose (S.fault_count shelf.old) (S.fault_count shelf.new)) result.journal (S.files shelf.old) c }
+    ensures durable { C.tells clock.old → S.tells shelf.old → IsAnswered result.end → (c : Folder) → S.may_leave shelf.new c → FindsAt (log_of (C.upcoming clock.old) result.journal) (length result.journal) c }
     ensures cause { Cause result.end (counts_of (S.fault_count shelf.old) (S.fault_count shelf.new) (I.fault_count script.old) (I.fault_count script.new)) (O.fault_count out.old) (O.fault_count out.new) (map string_bytes words.now)
         (λ e. I.tells script.old → (e ≡ script_end.NoMemory) ⊎ (parsed (I.left script.old) ≡ Err e)) (S.tells shelf.old → IsNew (S.files shelf.old)) (S.tells shelf.old → IsNew (S.files shelf.old) → ⊥) }
     ensures out_told { O.tells out.old → O.tells out.new }
@@ -193,6 +205,15 @@ pub fn run<S: Shelf + Send, I: Source, O: Sink, C: Clock + Send, G: Gate + Sync>
     ensures found { C.tells clock → S.tells shelf → I.tells script.old → result.status ≡ 0 → FindsAt (log_of (C.upcoming clock) result.journal) (length result.journal) (S.files result.shelf) }
     ensures folder { is_run (map string_bytes words.now) ≡ true → I.tells script.old → C.tells clock → S.tells shelf → (lines : List Line) → parsed (I.left script.old) ≡ Ok lines →
         Leaves (C.upcoming clock) lines result.status result.journal (S.files shelf) (S.files result.shelf) }
+
+    // Of a folder that was settled before: after a crash at any moment of the run it is as before or found as the log behind
+    // some of the journal's first entries; after a crash behind the run, as that behind all of them. Where the disk failed
+    // there is perhaps the group of the line behind the answered ones too; where every line was answered never.
+    ensures crash { is_run (map string_bytes words.now) ≡ true → I.tells script.old → C.tells clock → S.tells shelf → Only (S.files shelf) (S.may_leave shelf) → (lines : List Line) → parsed (I.left script.old) ≡ Ok lines →
+        LeavesOnly S.moment S.left_since shelf result.shelf (MayLeave (C.upcoming clock) lines (Rose (S.fault_count shelf) (S.fault_count result.shelf)) result.journal (S.files shelf)) }
+    ensures after { is_run (map string_bytes words.now) ≡ true → I.tells script.old → C.tells clock → S.tells shelf → Only (S.files shelf) (S.may_leave shelf) → (lines : List Line) → parsed (I.left script.old) ≡ Ok lines →
+        (c : Folder) → S.may_leave result.shelf c → MayLeaveAfter (C.upcoming clock) lines (Rose (S.fault_count shelf) (S.fault_count result.shelf)) result.journal (S.files shelf) c }
+    ensures durable { C.tells clock → S.tells shelf → result.status ≡ 0 → (c : Folder) → S.may_leave result.shelf c → FindsAt (log_of (C.upcoming clock) result.journal) (length result.journal) c }
 
     // Words that aren't those of a run, and a script that is refused, leave the folder untouched.
     ensures usage { is_run (map string_bytes words.now) ≡ false → ((result.status ≡ 1) ⊎ (result.status ≡ 7)) × (result.journal ≡ []) × (result.shelf ≡ shelf) }

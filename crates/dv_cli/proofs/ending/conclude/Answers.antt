@@ -6,8 +6,8 @@ use Rattle.dv_cli.proofs.ending.conclude.Goals as goal
 
 pub returns-in-Usage-clause-text : goal.returns-in-Usage-clause-text
 returns-in-Usage-clause-text g c = λ tells.
-    concluded c.args.end.now 1 c.write_last.result usage_text _ _ (sym (ap status_of c.in-Usage.is)) (sym (ap text_of c.in-Usage.is)) (c.write_last.ensures.text tells)
+    concluded c.args.end.now 1 c.write_text.result usage_text _ _ (sym (ap status_of c.in-Usage.is)) (sym (ap text_of c.in-Usage.is)) (c.write_text.ensures.text tells)
 
 pub returns-in-Later-clause-text : goal.returns-in-Later-clause-text
 returns-in-Later-clause-text g c = λ tells.
-    concluded c.args.end.now 3 c.write_last-in-Later.result later_text _ _ (sym (ap status_of c.in-Later.is)) (sym (ap text_of c.in-Later.is)) (c.write_last-in-Later.ensures.text tells)
+    concluded c.args.end.now 3 c.write_text-in-Later.result later_text _ _ (sym (ap status_of c.in-Later.is)) (sym (ap text_of c.in-Later.is)) (c.write_text-in-Later.ensures.text tells)

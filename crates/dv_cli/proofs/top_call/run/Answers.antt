@@ -102,3 +102,13 @@ returns-clause-output g c = λ script_tells tells clock_tells out_tells there ne
     (λ good fault is. ((c.whole-end.ensures.refused good script_tells fault is).0, ap g.O.Sink.taken (c.whole-end.ensures.refused good script_tells fault is).1.out_stays))
     (λ good lines is. ⊎_elim (λ early. inl (early.0, ap g.O.Sink.taken early.1.out_stays)) (λ run. inr run) (c.whole-end.ensures.run good script_tells clock_tells lines is))
     (λ four. not-four (wrote.0 ∙ four)) wrote.1
+
+pub returns-clause-crash : goal.returns-clause-crash
+returns-clause-crash g c = c.whole-end.ensures.crash
+
+pub returns-clause-durable : goal.returns-clause-durable
+returns-clause-durable g c = λ clock_tells tells zero.
+    c.whole-end.ensures.durable clock_tells tells (zero_answered c.whole-end.result.end c.conclude-status.result c.conclude-status.ensures.status zero)
+
+pub returns-clause-after : goal.returns-clause-after
+returns-clause-after g c = c.whole-end.ensures.after

@@ -6,6 +6,7 @@ use Rattle.dv_model.specs.Texts.{line_text}
 use Rattle.dv_shelf.specs.Streams.{AppendsFront}
 use Rattle.dv_cli.specs.Running.{answer_text}
 use Rattle.dv_cli.specs.Standings.{Stepped}
+use Rattle.dv_cli.proofs.CrashLines.{ends_held}
 use Rattle.dv_cli.proofs.LineLaws.{left_by, held_by}
 use Rattle.dv_cli.proofs.serving.Serving.serve_line.Goals as goal
 
@@ -32,3 +33,31 @@ pub returns-clause-files_left : goal.returns-clause-files_left
 returns-clause-files_left g c = λ guid tells was.
     let did = c.in_ok-replies.ensures in
     held_by c.args.self.now c.answer.new.self (g.S.Shelf.files c.answer.new.shelf) did.serving did.validity (did.files tells was)
+
+pub returns-in_err-replies-clause-crash : goal.returns-in_err-replies-clause-crash
+returns-in_err-replies-clause-crash g c = c.answer.ensures.crash
+
+pub returns-in_err-text-clause-crash : goal.returns-in_err-text-clause-crash
+returns-in_err-text-clause-crash g c = c.answer.ensures.crash
+
+pub returns-in-Ok-clause-crash : goal.returns-in-Ok-clause-crash
+returns-in-Ok-clause-crash g c = c.answer.ensures.crash
+
+pub returns-clause-crash : goal.returns-clause-crash
+returns-clause-crash g c = c.answer.ensures.crash
+
+pub returns-in-Ok-clause-rest : goal.returns-in-Ok-clause-rest
+returns-in-Ok-clause-rest g c = c.in_ok-replies.ensures.rest
+
+pub returns-in_err-replies-clause-rest_left : goal.returns-in_err-replies-clause-rest_left
+returns-in_err-replies-clause-rest_left g c = λ guid tells rest.
+    let p = err_from_is_err_and c.from_residual.result c.from_residual.ensures.1 in
+    rw (p.1, p.2) (λ f left. ends_held c.in_err-replies.field-0.0 guid c.args.self.now c.answer.new.self c.args.line.now f c.in_err-replies.ensures.err (c.in_err-replies.ensures.rest_left guid tells rest f left))
+
+pub returns-in_err-text-clause-rest_left : goal.returns-in_err-text-clause-rest_left
+returns-in_err-text-clause-rest_left g c = λ guid tells rest.
+    let p = err_from_is_err_and c.from_residual-in_err-text.result c.from_residual-in_err-text.ensures.1 in
+    rw (p.1, p.2) (λ f left. (c.in_ok-replies.ensures.rest tells rest f left).0)
+
+pub returns-clause-rest_left : goal.returns-clause-rest_left
+returns-clause-rest_left g c = λ guid tells rest f left. (c.in_ok-replies.ensures.rest tells rest f left).0

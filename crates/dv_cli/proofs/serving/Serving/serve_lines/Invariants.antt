@@ -1,4 +1,6 @@
 use Rattle.std.proofs.Common.{◌≡◌, ◌-◌, ◌≤◌, ◌++◌, ℕ, List, length, take}
+use Rattle.dv_shelf.specs.Crashes.{LeavesOnly}
+use Rattle.dv_cli.specs.Crashing.{HoldsFront, RestsAt}
 use Rattle.dv_cli.specs.Lines.{text_of_lines}
 use Rattle.dv_cli.specs.Servings.{IsServing, standing_of, HasLog, HasRead}
 use Rattle.dv_cli.specs.Standings.{behind_lines}
@@ -11,6 +13,9 @@ invariant-loop-line g l = record {
   standing : (guid : ℕ → List ℕ) → standing_of l.self ≡ behind_lines guid (standing_of l.initial.self) (take l.line-index l.lines);
   output : (guid : ℕ → List ℕ) → g.O.Sink.tells l.initial.out → g.O.Sink.taken l.out ≡ g.O.Sink.taken l.initial.out ++ text_of_lines guid (standing_of l.initial.self) (take l.line-index l.lines);
   files : g.S.Shelf.tells l.initial.shelf × HasLog l.initial.self.uid_validity l.initial.self.journal.items (g.S.Shelf.files l.initial.shelf) → HasLog l.initial.self.uid_validity l.self.journal.items (g.S.Shelf.files l.shelf);
+  rest : g.S.Shelf.tells l.initial.shelf → RestsAt l.initial.self.uid_validity l.initial.self.journal.items (g.S.Shelf.may_leave l.initial.shelf) → RestsAt l.initial.self.uid_validity l.self.journal.items (g.S.Shelf.may_leave l.shelf);
+  crash : g.S.Shelf.tells l.initial.shelf → RestsAt l.initial.self.uid_validity l.initial.self.journal.items (g.S.Shelf.may_leave l.initial.shelf)
+      → LeavesOnly g.S.Shelf.moment g.S.Shelf.left_since l.initial.shelf l.shelf (HoldsFront l.initial.self.uid_validity l.self.journal.items);
   told : g.S.Shelf.tells l.initial.shelf → g.S.Shelf.tells l.shelf;
   out_told : g.O.Sink.tells l.initial.out → g.O.Sink.tells l.out;
   clock_told : g.C.Clock.tells l.initial.clock → g.C.Clock.tells l.clock;

@@ -1,4 +1,4 @@
-use Rattle.std.proofs.Common.{◌≡◌, ◌++◌, ◌∷◌, [], List, length, ap, sym, ◌∙◌, arith, Some}
+use Rattle.std.proofs.Common.{◌≡◌, ◌++◌, ◌∷◌, [], ℕ, List, length, ap, sym, ◌∙◌, arith, Some, inl, inr, ⊎_elim, subst}
 use Rattle.std.specs.Prelude.{flat_map}
 use Rattle.dv_model.specs.declared.types.Entry.{Entry}
 use Rattle.dv_model.specs.declared.types.Record.{Record}
@@ -7,9 +7,17 @@ use Rattle.dv_model.specs.declared.types.Row.{Row}
 use Rattle.dv_model.specs.Spelling.{written}
 use Rattle.dv_model.proofs.Appends.{append_record}
 use Rattle.dv_logfile.specs.declared.commit.LogFile.{LogFile}
-use Rattle.dv_logfile.specs.Layout.{closing, new_header, log_text}
-use Rattle.dv_cli.specs.Servings.{standing_of, mailbox_of, log_records}
-use Rattle.dv_cli.proofs.Serves.{Gains, append_entry, append_is_step, serving_gains, records_more, log_written, log_long, append_leaves}
+use Rattle.dv_logfile.specs.declared.commit.Debt.{Debt}
+use Rattle.dv_logfile.specs.declared.commit.Debt.TheVariants as debt
+use Rattle.dv_logfile.specs.Layout.{closing, new_header, log_text, log_end}
+use Rattle.dv_logfile.specs.Reading.{HasShutGate, IsAtRest}
+use Rattle.dv_shelf.specs.Folders.{contents}
+use Rattle.dv_shelf.specs.declared.shelf.Name.TheVariants as name
+use Rattle.dv_cli.specs.Servings.{HoldsLog, standing_of, mailbox_of, log_records}
+use Rattle.std.proofs.lemmas.Result.{err_from_is_err_and}
+use Rattle.dv_model.specs.declared.types.Command.TheVariants as command
+use Rattle.dv_cli.proofs.Crashes.{either_left, rest_gate, appends_either, appends_group, stays, weaker}
+use Rattle.dv_cli.proofs.Serves.{Gains, append_entry, append_is_step, serving_gains, records_more, log_written, log_long, append_leaves, append_entries}
 use Rattle.dv_cli.proofs.serving.Serving.write_append.Given as given
 use Rattle.dv_cli.proofs.serving.Serving.write_append.Goals as goal
 
@@ -71,3 +79,97 @@ returns-in-Err-Disk-clause-files_left g c = λ guid tells was.
     c.in_ok-text.ensures.group was end-is
     (c.in_ok-text.ensures.text ∙ ap (λ (rs : List Record). flat_map written rs ++ closing) c.in_ok-group.ensures)
     (c.in-Err-Disk.ensures.failed tells (log_long (g.S.Shelf.files c.args.shelf.now) s.uid_validity c.reserve.new.self.log.end (log_records s.uid_validity s.journal.items) was (end-is ∙ c.requires.serving.end)))
+
+pub returns-in_err-group-clause-crash : goal.returns-in_err-group-clause-crash
+returns-in_err-group-clause-crash g c = λ guid tells rest.
+    let S = g.S.Shelf in
+    stays S.moment S.left_since S.may_leave c.args.shelf.now _ (λ f left. g.met.S.Shelf.only_now c.args.shelf.now f tells left) (λ f left. inl (rest f left).0)
+
+pub returns-in_err-text-clause-crash : goal.returns-in_err-text-clause-crash
+returns-in_err-text-clause-crash g c = λ guid tells rest.
+    let S = g.S.Shelf in
+    stays S.moment S.left_since S.may_leave c.args.shelf.now _ (λ f left. g.met.S.Shelf.only_now c.args.shelf.now f tells left) (λ f left. inl (rest f left).0)
+
+pub returns-in_err-lines-clause-crash : goal.returns-in_err-lines-clause-crash
+returns-in_err-lines-clause-crash g c = λ guid tells rest.
+    let S = g.S.Shelf in
+    stays S.moment S.left_since S.may_leave c.args.shelf.now _ (λ f left. g.met.S.Shelf.only_now c.args.shelf.now f tells left) (λ f left. inl (rest f left).0)
+
+pub returns-in_err-reserve-clause-crash : goal.returns-in_err-reserve-clause-crash
+returns-in_err-reserve-clause-crash g c = λ guid tells rest.
+    let S = g.S.Shelf in
+    stays S.moment S.left_since S.may_leave c.args.shelf.now _ (λ f left. g.met.S.Shelf.only_now c.args.shelf.now f tells left) (λ f left. inl (rest f left).0)
+
+-- ---- a crash
+
+pub returns-in-Err-Disk-clause-crash : goal.returns-in-Err-Disk-clause-crash
+returns-in-Err-Disk-clause-crash g c = λ guid tells rest.
+    let S = g.S.Shelf in
+    let s = c.args.self.now in
+    let e = c.reserve.new.self.log.end in
+    let end-is : e ≡ s.log.end = ap (λ (l : LogFile). l.end) c.reserve.ensures.others.0 in
+    let text-is = c.in_ok-text.ensures.text ∙ ap (λ (rs : List Record). flat_map written rs ++ closing) c.in_ok-group.ensures in
+    let images = S.may_leave c.args.shelf.now in
+    weaker S.moment S.left_since c.args.shelf.now c.commit.new.shelf _ _
+    (c.commit.ensures.reading tells (rest_gate s.uid_validity s.journal.items e c.in_ok-text.text images (end-is ∙ c.requires.serving.end) rest))
+    (λ f from. ⊎_elim (λ old. inl old)
+    (λ more. inr (inr (c.in-Err-Disk.ensures.cause.rose.1, subst (λ (es : List Entry). HoldsLog s.uid_validity es f) (sym (append_entries guid s c.requires.serving c.requires.selected c.requires.uids c.requires.room)) more)))
+    (appends_either s c.requires.serving c.requires.uids e c.in_ok-text.text end-is text-is images rest f from))
+
+pub returns-clause-crash : goal.returns-clause-crash
+returns-clause-crash g c = λ guid tells rest.
+    let S = g.S.Shelf in
+    let s = c.args.self.now in
+    let e = c.reserve.new.self.log.end in
+    let end-is : e ≡ s.log.end = ap (λ (l : LogFile). l.end) (log-is g c) in
+    let images = S.may_leave c.args.shelf.now in
+    weaker S.moment S.left_since c.args.shelf.now c.commit.new.shelf _ _
+    (c.commit.ensures.reading tells (rest_gate s.uid_validity s.journal.items e c.in_ok-text.text images (end-is ∙ c.requires.serving.end) rest))
+    (λ f from. ⊎_elim (λ old. inl old) (λ more. inr (inl (subst (λ (es : List Entry). HoldsLog s.uid_validity es f) (sym (gains g c).journal) more)))
+    (appends_either s c.requires.serving c.requires.uids e c.in_ok-text.text end-is (text-is g c) images rest f from))
+
+pub returns-clause-rest : goal.returns-clause-rest
+returns-clause-rest g c = λ tells rest f left.
+    let S = g.S.Shelf in
+    let s = c.args.self.now in
+    let t = c.keep.new.self in
+    let e = c.reserve.new.self.log.end in
+    let text = c.in_ok-text.text in
+    let end-is : e ≡ s.log.end = ap (λ (l : LogFile). l.end) (log-is g c) in
+    let at_rest = rest_gate s.uid_validity s.journal.items e text (S.may_leave c.args.shelf.now) (end-is ∙ c.requires.serving.end) rest in
+    let from = c.in-Ok.ensures.reads_group tells at_rest f left in
+    let now : IsAtRest debt.None c.commit.new.self.end text (S.may_leave c.commit.new.shelf) =
+    subst (λ (d : Debt). IsAtRest d c.commit.new.self.end text (S.may_leave c.commit.new.shelf)) c.in-Ok.ensures.debt (c.commit.ensures.rest tells at_rest) in
+    let end-now : c.commit.new.self.end ≡ log_end (log_records s.uid_validity t.journal.items) =
+    ap (λ (l : LogFile). l.end) (sym (kept g c)) ∙ (serving_gains s t (gains g c) c.requires.serving c.requires.selected c.requires.uids c.requires.room).end
+    ∙ ap (λ (n : ℕ). log_end (log_records n t.journal.items)) (gains g c).validity in (
+      subst (λ (es : List Entry). HoldsLog s.uid_validity es f) (sym (gains g c).journal) (appends_group s c.requires.serving c.requires.uids e text end-is (text-is g c) from.0 f (rest from.0 from.1).0 from.2),
+      subst (λ (k : ℕ). HasShutGate k (contents f name.Log)) end-now (now f left),
+    )
+
+pub returns-in_err-group-clause-rest_left : goal.returns-in_err-group-clause-rest_left
+returns-in_err-group-clause-rest_left g c = λ guid tells rest.
+    let p = err_from_is_err_and c.from_residual.result c.from_residual.ensures.1 in
+    rw (p.1, p.2) (λ f left. (rest f left).0)
+
+pub returns-in_err-text-clause-rest_left : goal.returns-in_err-text-clause-rest_left
+returns-in_err-text-clause-rest_left g c = λ guid tells rest.
+    let p = err_from_is_err_and c.from_residual-in_err-text.result c.from_residual-in_err-text.ensures.1 in
+    rw (p.1, p.2) (λ f left. (rest f left).0)
+
+pub returns-in_err-lines-clause-rest_left : goal.returns-in_err-lines-clause-rest_left
+returns-in_err-lines-clause-rest_left g c = λ guid tells rest.
+    let p = err_from_is_err_and c.from_residual-in_err-lines.result c.from_residual-in_err-lines.ensures.1 in
+    rw (p.1, p.2) (λ f left. (rest f left).0)
+
+pub returns-in_err-reserve-clause-rest_left : goal.returns-in_err-reserve-clause-rest_left
+returns-in_err-reserve-clause-rest_left g c = λ guid tells rest.
+    let p = err_from_is_err_and c.from_residual-in_err-reserve.result c.from_residual-in_err-reserve.ensures.1 in
+    rw (p.1, p.2) (λ f left. (rest f left).0)
+
+pub returns-in-Err-Disk-clause-rest_left : goal.returns-in-Err-Disk-clause-rest_left
+returns-in-Err-Disk-clause-rest_left g c = λ guid tells rest f left.
+    let S = g.S.Shelf in
+    let told = c.commit.ensures.told tells in
+    let run = returns-in-Err-Disk-clause-crash g c guid tells rest in
+    either_left guid c.args.self.now (command.Append 0 [] []) c.reserve.new.self.journal.items _ c.reserve.ensures.journal f (run.each f (g.met.S.Shelf.counts_now c.commit.new.shelf (S.moment c.args.shelf.now) f run.later left))
