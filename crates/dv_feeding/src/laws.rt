@@ -1,0 +1,12 @@
+ghost use Rattle.dv_feeding.specs.Laws.{OneEntry, OneFeed, FeedBegins, FeedIsTaken, FeedExtends};
+
+/// The words of a feed are of one list of entries, where each record has a spelling of bytes. The
+/// number of words that stands before each group keeps the entries apart, and no spelling begins
+/// another. So who has taken the words of some entries knows them, whatever follows.
+pub fn one_feed()
+    ensures entry { OneEntry }
+    ensures one { OneFeed }
+    ensures prefix { FeedBegins }
+    ensures taken { FeedIsTaken }
+    ensures extends { FeedExtends }
+{}

@@ -1,0 +1,208 @@
+-- A pending entry is made durable.
+use Rattle.std.proofs.Common.{◌≡◌, ◌⊎◌, inl, inr, ℕ, ◌+◌, ◌-◌, ◌<◌, ◌≤◌, Bool, true, false, cond, List, [], ◌∷◌, ◌++◌, length, Option, Some, None, refl, sym, ◌∙◌, ap, subst, arith}
+use Rattle.std.specs.Prelude.{IfSome, IsSome, option_and_then, slice_get}
+use Rattle.std.proofs.lemmas.Bool.{cases_lt}
+use Rattle.std.proofs.lemmas.List.{length_push}
+use Rattle.std.proofs.lemmas.List.Elements.{All-cons, All-nil, All-push}
+use Rattle.std.proofs.lemmas.Option.{none-some, same_Some, slice_get_within}
+use Rattle.dv_model.specs.declared.types.Entry.{Entry}
+use Rattle.dv_model.specs.declared.types.Group.{Group}
+use Rattle.dv_model.specs.declared.types.Mailbox.{Mailbox}
+use Rattle.dv_model.specs.Effects.{applied}
+use Rattle.dv_model.specs.Journals.{Log, at, mark_of}
+use Rattle.dv_model.specs.Sessions.{State, group_of, refusal_of}
+use Rattle.dv_model.specs.Transcripts.{IsOwn, Turn, WroteEntry}
+use Rattle.dv_model.proofs.Speaking.{one_of_either, one_or_last}
+use Rattle.dv_model.proofs.Transcripts.{at_end}
+use Rattle.dv_interleavings.specs.Worlds.{World, Session, Pending, Wrote, with_session, with_entry, with_wrote, synced, length_of, happens, Sync}
+use Rattle.dv_promises.specs.Standing.{AreInRange, HasAuthor, IsLive, IsTried, IsWaiting, IsWriting, Stands}
+use Rattle.dv_promises.proofs.Going.{live_on, same_refusal, turns_on}
+use Rattle.dv_promises.proofs.Groups.{group_applies, group_in_range}
+use Rattle.dv_promises.proofs.Logs.{Extends, IsWhole, last_extends, last_group, last_message, valid_at, with_entry_is, with_last}
+use Rattle.dv_promises.proofs.Small.{absent_with, each_with}
+use Rattle.dv_promises.proofs.Writing.{not_waiting, whole_of}
+
+pub value_of : {X : Type 0} (P : X → Type 0) (o : Option X) (x : X) → o ≡ Some x → IfSome o P → P x
+value_of P None x e is = absurd (none-some x e)
+value_of P (Some y) x e is = subst P (same_Some y x e) is
+
+pub at_seam : {X : Type 0} (xs : List X) (x : X) → slice_get (xs ++ x ∷ []) (length xs) ≡ Some x
+at_seam [] x = refl
+at_seam (y ∷ xs) x = at_seam xs x
+
+-- ---- the longer log
+
+module _ (log : Log) (whole : IsWhole log) (p : Pending) (start : ℕ) (turns : List Turn) (last : State) (wrote : Option Wrote) (tried : IsTried log start turns last wrote p) where
+  abbrev more : Log
+  more = with_last log p tried.mailbox
+
+  pub on : Extends log (with_last log p tried.mailbox)
+  on = last_extends log p tried.mailbox whole tried.is_there
+
+  group_range : AreInRange p.group
+  group_range =
+      subst AreInRange (sym tried.group)
+      (group_in_range tried.state p.command tried.mailbox (mark_of log (length log.entries)) log.guid (valid_at log whole (length log.entries) tried.mailbox tried.is_there) tried.names tried.allowed)
+
+  pub at_last : at (with_last log p tried.mailbox) (length log.entries + 1) ≡ applied tried.mailbox p.group.records
+  at_last = at_end log (record { author = p.author; group = p.group }) ∙ ap (option_and_then (λ (m : Mailbox). applied m p.group.records)) tried.is_there
+
+  last_some : IsSome (at (with_last log p tried.mailbox) (length log.entries + 1))
+  last_some =
+      subst IsSome (sym at_last)
+      (subst (λ (g : Group). IsSome (applied tried.mailbox g.records)) (sym tried.group) (group_applies p.command tried.state.view tried.mailbox log.guid tried.names))
+
+  pub whole_more : IsWhole (with_last log p tried.mailbox)
+  whole_more = record {
+    start = whole.start;
+    range = All-push (λ (e : Entry). AreInRange e.group) log.entries (record { author = p.author; group = p.group }) whole.range group_range;
+    sound = λ k le. by_place k le (cases_lt (length log.entries) k);
+  }
+    where
+      by_place : (k : ℕ) → k ≤ length (log.entries ++ record { author = p.author; group = p.group } ∷ []) → (length log.entries < k) ⊎ (k ≤ length log.entries) → IsSome (at (with_last log p tried.mailbox) k)
+      by_place k le (inl past) =
+          let e : length log.entries + 1 ≡ k = omega (arith, le, past, length_push log.entries (record { author = p.author; group = p.group })) in
+          subst (λ (n : ℕ). IsSome (at (with_last log p tried.mailbox) n)) e last_some
+      by_place k le (inr within) = subst IsSome (sym (on.same_at k within)) (whole.sound k within)
+
+  -- the entries of others are as before
+  pub own_back : (s : ℕ) → (p.author ≡ s → ⊥) → (from k : ℕ) → IsOwn (with_last log p tried.mailbox) s from k → IsOwn log s from k
+  own_back s other from k own =
+      elim (one_of_either (λ (e : Entry). e.author ≡ s → ⊥) log.entries (record { author = p.author; group = p.group } ∷ []) k own.entry
+      (All-cons (λ (e : Entry). e.author ≡ s → ⊥) (record { author = p.author; group = p.group }) [] other (All-nil (λ (e : Entry). e.author ≡ s → ⊥))) own.is) [
+        | inl there ↦ record { later = own.later; entry = own.entry; is = there; by = own.by }
+        | inr differs ↦ absurd (differs own.by)
+      ]
+
+-- ---- the author's session
+
+-- its entry is the last, and waits for its answer
+module _ (log : Log) (whole : IsWhole log) (p : Pending) (published : ℕ) (pending : Option Pending) (session : Session) (live : IsLive log published pending p.author session)
+    (tried : IsTried log live.start live.turns session.state session.wrote p) (runs : p.running ≡ true) (met place : ℕ) (is_met : met ≡ length log.entries) (is_place : place ≡ length log.entries + 1) (all : published ≤ length log.entries) where
+  abbrev longer : Log
+  longer = with_last log p tried.mailbox
+
+  goes_on : Extends log (with_last log p tried.mailbox)
+  goes_on = last_extends log p tried.mailbox whole tried.is_there
+
+  many : length (log.entries ++ record { author = p.author; group = p.group } ∷ []) ≡ length log.entries + 1
+  many = omega (arith, length_push log.entries (record { author = p.author; group = p.group }))
+
+  author_writing : IsWriting (with_last log p tried.mailbox) p.author session.state (record { place = place; met = met; command = p.command })
+  author_writing =
+      let same : session.state ≡ tried.state = (tried.running runs).0 in
+      let view : session.state.view ≡ tried.state.view = ap (λ (x : State). x.view) same in
+      let group : p.group ≡ group_of p.command session.state.view tried.mailbox (with_last log p tried.mailbox).guid =
+      tried.group ∙ ap (λ v. group_of p.command v tried.mailbox log.guid) (sym view) ∙ last_group log p tried.mailbox session.state.view in
+      let told : session.state.told ≤ length log.entries = subst (λ (x : State). x.told ≤ length log.entries) (sym same) tried.told in
+      record {
+        before = tried.mailbox;
+        was_there = ap (at (with_last log p tried.mailbox)) is_met ∙ goes_on.same_at (length log.entries) (omega arith) ∙ tried.is_there;
+        allowed =
+            ap (λ (k : ℕ). refusal_of session.state p.command tried.mailbox (mark_of (with_last log p tried.mailbox) k) (with_last log p tried.mailbox).guid) is_met
+            ∙ same_refusal log (with_last log p tried.mailbox) goes_on (length log.entries) tried.mailbox session.state p.command None (omega arith) tried.is_there
+            (ap (λ (x : State). refusal_of x p.command tried.mailbox (mark_of log (length log.entries)) log.guid) same ∙ tried.allowed);
+        wrote = inl (record {
+          behind = omega arith;
+          some = subst (λ (g : Group). 1 ≤ length g.records) group tried.some;
+          entry =
+              ap (slice_get (log.entries ++ record { author = p.author; group = p.group } ∷ [])) is_met
+              ∙ at_seam log.entries (record { author = p.author; group = p.group })
+              ∙ ap (λ (g : Group). Some (record { author = p.author; group = g })) group;
+          message = last_message log p tried.mailbox;
+        });
+        told = omega arith;
+        there = let all = many in omega arith;
+        last = λ j own.
+            let within = slice_get_within (log.entries ++ record { author = p.author; group = p.group } ∷ []) j own.entry own.is in
+            let all = many in
+            let from = own.later in
+            omega arith;
+      }
+
+  author_live : IsLive (with_last log p tried.mailbox) published None p.author (record session { wrote = Some (record { place = place; met = met; command = p.command }) })
+  author_live = record {
+    told = live.told;
+    seen = live.seen;
+    start = live.start;
+    there = omega (arith, live.there, many);
+    turns = live.turns;
+    each = turns_on log (with_last log p tried.mailbox) goes_on p.author live.turns live.each;
+    leads = live.leads;
+    answers = live.answers;
+    ledger = λ k own. by_place k own (one_or_last log.entries (record { author = p.author; group = p.group }) k own.entry own.is);
+    wrote = author_writing;
+    loaded = let high = live.seen in omega arith;
+    pending = tt;
+  }
+    where
+      by_place : (k : ℕ) (own : IsOwn (with_last log p tried.mailbox) p.author live.start k) → (slice_get log.entries k ≡ Some own.entry) ⊎ (k ≡ length log.entries)
+          → WroteEntry live.turns k ⊎ IsWaiting (Some (record { place = place; met = met; command = p.command })) k
+      by_place k own (inl there) =
+          inl (not_waiting live.turns session.wrote k (tried.running runs).1 (live.ledger k (record { later = own.later; entry = own.entry; is = there; by = own.by })))
+      by_place k own (inr last) = inr (omega arith, omega arith)
+
+-- ---- the world behind it
+
+module _ (w : World) (stands : Stands w) (p : Pending) (session : Session) (is : w.pending ≡ Some p) (runs : p.running ≡ true) (there : w.sessions p.author ≡ Some session) where
+  abbrev pub live : IsLive w.log w.published w.pending p.author session
+  live = stands.each p.author session there
+
+  abbrev pub tried : IsTried w.log live.start live.turns session.state session.wrote p
+  tried = value_of (λ (q : Pending). q.author ≡ p.author → IsTried w.log live.start live.turns session.state session.wrote q) w.pending p is live.pending refl
+
+  abbrev pub behind : World
+  behind = record w { log = with_last w.log p tried.mailbox; pending = None }
+
+  abbrev pub write : Wrote
+  write = record { place = length_of behind; met = length_of behind - 1; command = p.command }
+
+  stands_behind : Stands (with_session behind p.author (Some (record session { wrote = Some write })))
+  stands_behind =
+      let whole = whole_of w stands in
+      let more = whole_more w.log whole p live.start live.turns session.state session.wrote tried in
+      let all = many w.log whole p w.published w.pending session live tried runs (length w.log.entries) (length w.log.entries + 1) refl refl stands.published in
+      record {
+        start = more.start;
+        range = more.range;
+        sound = more.sound;
+        published = omega (arith, stands.published, all);
+        each = each_with behind p.author _ None behind.log
+            (author_live w.log whole p w.published w.pending session live tried runs (length_of behind - 1) (length_of behind) (omega (arith, all)) (omega (arith, all)) stands.published)
+            (λ t other differs is_there.
+            live_on w.log behind.log (on w.log whole p live.start live.turns session.state session.wrote tried) t (own_back w.log whole p live.start live.turns session.state session.wrote tried t differs)
+            w.published w.pending other (stands.each t other is_there));
+        absent = λ t k gone own.
+            let none = absent_with behind p.author _ t gone in
+            stands.absent t k none
+            (own_back w.log whole p live.start live.turns session.state session.wrote tried t (λ same. absurd (none-some session (sym none ∙ ap w.sessions (sym same) ∙ there))) w.published k own);
+        author = tt;
+      }
+
+  synced_is : (P : World → Type 0) → P (with_session behind p.author (Some (record session { wrote = Some write }))) → P (synced w)
+  synced_is P holds = rw (is, runs, with_entry_is w.log p tried.mailbox tried.is_there, there) holds
+
+-- what holds of the world as it was and of that with the entry holds of the world behind
+pub synced_by : (w : World) (stands : Stands w) (P : World → Type 0) → P w
+    → ((p : Pending) (session : Session) (is : w.pending ≡ Some p) (runs : p.running ≡ true) (there : w.sessions p.author ≡ Some session)
+    → P (with_session (behind w stands p session is runs there) p.author (Some (record session { wrote = Some (write w stands p session is runs there) }))))
+    → P (synced w)
+synced_by w stands P stays durable = by_pending w.pending refl
+  where
+    by_one : Option Pending → World
+    by_one None = w
+    by_one (Some q) = cond q.running (with_wrote (record w { log = with_entry w.log q; pending = None }) q) w
+
+    by_author : (p : Pending) → w.pending ≡ Some p → p.running ≡ true → HasAuthor w p → P (synced w)
+    by_author p is runs author = synced_is w stands p author.0 is runs author.1 P (durable p author.0 is runs author.1)
+
+    by_running : (p : Pending) → w.pending ≡ Some p → (b : Bool) → p.running ≡ b → P (synced w)
+    by_running p is true runs = by_author p is runs (value_of (HasAuthor w) w.pending p is stands.author)
+    by_running p is false stopped = subst P (sym (ap by_one is ∙ ap (λ (b : Bool). cond b (with_wrote (record w { log = with_entry w.log p; pending = None }) p) w) stopped)) stays
+
+    by_pending : (o : Option Pending) → w.pending ≡ o → P (synced w)
+    by_pending None is = subst P (sym (ap by_one is)) stays
+    by_pending (Some p) is = by_running p is p.running refl
+
+pub syncs : (w : World) → Stands w → Stands (happens w Sync)
+syncs w stands = synced_by w stands Stands stands (λ p session is runs there. stands_behind w stands p session is runs there)

@@ -1,0 +1,131 @@
+-- What stands in each world that good events lead to.
+use Rattle.std.specs.Prelude.{◌≡◌, ◌⊎◌, ℕ, ◌+◌, ◌≤◌, true, List, ◌++◌, length, map, All, Option, Some, None, IfSome}
+use Rattle.dv_model.specs.declared.types.Command.{Command}
+use Rattle.dv_model.specs.declared.types.Command.TheVariants as command
+use Rattle.dv_model.specs.declared.types.Group.{Group}
+use Rattle.dv_model.specs.declared.types.Mailbox.{Mailbox}
+use Rattle.dv_model.specs.Journals.{Log, IsSound, at, mark_of}
+use Rattle.dv_model.specs.Mailboxes.{IsValid}
+use Rattle.dv_model.specs.Names.{IsName}
+use Rattle.dv_model.specs.Sessions.{State, new_session, group_of, refusal_of, is_write}
+use Rattle.dv_model.specs.Transcripts.{IsOwn, IsTold, LeadsTo, Turn, Wrote as HasWrote, WroteEntry}
+use Rattle.dv_interleavings.specs.Worlds.{World, Session, Pending, Wrote, Event, Write}
+use Rattle.dv_validity.specs.Laws.{IsInRange}
+
+-- ---- events
+
+-- the keywords that the command names are names (RFC 3501, section 9, atom)
+abbrev pub HasNames : Command → Type 0
+HasNames (command.Append flags keywords message) = All IsName keywords
+HasNames (command.Store by_uid set how flags keywords since) = All IsName keywords
+HasNames c = Unit {0}
+
+-- a command that is written names keywords by names alone, since records of other names have no spelling
+abbrev pub IsGoodEvent : Event → Type 0
+IsGoodEvent (Write s c received) = HasNames c
+IsGoodEvent event = Unit {0}
+
+-- ---- a session's story
+
+-- each record of the group leaves a valid mailbox of a valid one
+abbrev pub AreInRange : Group → Type 0
+AreInRange g = All (λ r. IsInRange r.body) g.records
+
+-- a turn that was answered with a mark, and met no fewer entries than its session was told of
+pub record IsToldTurn (log : Log) (s : ℕ) (t : Turn) : Type 0 where
+  pub met : (t.before.told ≤ t.met) × (t.met ≤ length log.entries)
+  pub told : IsTold log s t.met t.behind t.before t.command t.replies t.after
+
+-- a session that isn't selected and was told of so many entries
+abbrev pub begins_at : ℕ → State
+begins_at start = record new_session { told = start }
+
+-- A command that has its place in the log and isn't answered yet: it was allowed in the session's state, and its group is
+-- the last entry of its session, or is empty.
+pub record IsWriting (log : Log) (s : ℕ) (x : State) (write : Wrote) : Type 0 where
+  -- the mailbox that it met
+  pub before : Mailbox
+  pub was_there : at log write.met ≡ Some before
+  pub allowed : refusal_of x write.command before (mark_of log write.met) log.guid ≡ None
+  pub wrote : HasWrote log s write.met write.place x.view write.command before
+  -- it met no fewer entries than its session was told of, and its place is in the log
+  pub told : x.told ≤ write.met
+  pub there : write.place ≤ length log.entries
+  -- no entry of the session follows
+  pub last : (j : ℕ) → IsOwn log s write.met j → j ≡ write.met
+
+-- A pending entry of the session: a command that was allowed in the state behind some first turns, over the mailbox at
+-- the log's end. While it runs that is the session's last state.
+pub record IsTried (log : Log) (start : ℕ) (turns : List Turn) (last : State) (wrote : Option Wrote) (p : Pending) : Type 0 where
+  -- the turns before it, those since, and the state between
+  pub front : List Turn
+  pub back : List Turn
+  pub split : turns ≡ front ++ back
+  pub state : State
+  pub leads : LeadsTo (begins_at start) front state
+  pub rest : LeadsTo state back last
+  -- the mailbox that it met, where it was allowed
+  pub mailbox : Mailbox
+  pub is_there : at log (length log.entries) ≡ Some mailbox
+  pub allowed : refusal_of state p.command mailbox (mark_of log (length log.entries)) log.guid ≡ None
+  -- its group is that of the rules, and isn't empty
+  pub group : p.group ≡ group_of p.command state.view mailbox log.guid
+  pub some : 1 ≤ length p.group.records
+  -- it is a write of a good event, and met no fewer entries than its session was told of
+  pub names : HasNames p.command
+  pub write : is_write p.command ≡ true
+  pub told : state.told ≤ length log.entries
+  -- the session wrote no entry since
+  pub empty : IfSome wrote (λ write. write.place ≡ write.met)
+  -- while it runs the session was told nothing since, and nothing waits for its answer
+  pub running : p.running ≡ true → (last ≡ state) × (wrote ≡ None)
+
+-- the entry behind the first k is that of the command that isn't answered yet
+abbrev pub IsWaiting : Option Wrote → ℕ → Type 0
+IsWaiting None k = ⊥
+IsWaiting (Some wrote) k = (wrote.met ≡ k) × (wrote.place ≡ k + 1)
+
+-- A live session: its turns were told by the rules and lead to its state, and each entry that is its own was written by
+-- one of them, or waits for its answer.
+pub record IsLive (log : Log) (published : ℕ) (waiting : Option Pending) (s : ℕ) (session : Session) : Type 0 where
+  -- it was told of no more than it has seen, and has seen no more than was published
+  pub told : session.state.told ≤ session.seen
+  pub seen : session.seen ≤ published
+  -- the log had so many entries when it opened
+  pub start : ℕ
+  pub there : start ≤ length log.entries
+  -- its commands, each answered by the rules, from its beginning to its state
+  pub turns : List Turn
+  pub each : All (IsToldTurn log s) turns
+  pub leads : LeadsTo (begins_at start) turns session.state
+  pub answers : map (λ t. (t.command, t.replies)) turns ≡ session.answers
+  -- each entry of its own is that of one of them, or of the one that waits for its answer
+  pub ledger : (k : ℕ) → IsOwn log s start k → WroteEntry turns k ⊎ IsWaiting session.wrote k
+  -- that one was allowed, and has its place
+  pub wrote : IfSome session.wrote (IsWriting log s session.state)
+  -- it hasn't loaded past its own write
+  pub loaded : IfSome session.wrote (λ write. session.seen ≤ write.place)
+  -- so was a pending entry of its own
+  pub pending : IfSome waiting (λ p. p.author ≡ s → IsTried log start turns session.state session.wrote p)
+
+-- ---- the world
+
+-- the pending entry's session lives
+abbrev pub HasAuthor : World → Pending → Type 0
+HasAuthor w p = (session : Session) × (w.sessions p.author ≡ Some session)
+
+-- Each prefix of the log is a valid mailbox, each live session has its story, and a session that isn't there wrote
+-- nothing that isn't published.
+pub record Stands (w : World) : Type 0 where
+  -- the log begins with a valid mailbox, and its records apply and leave valid ones
+  pub start : IsValid w.log.start
+  pub range : All (λ e. AreInRange e.group) w.log.entries
+  pub sound : IsSound w.log
+  -- no more is published than is durable
+  pub published : w.published ≤ length w.log.entries
+  -- each live session has its story
+  pub each : (s : ℕ) (session : Session) → w.sessions s ≡ Some session → IsLive w.log w.published w.pending s session
+  -- one that isn't there wrote nothing that isn't published, so it may open
+  pub absent : (s k : ℕ) → w.sessions s ≡ None → IsOwn w.log s w.published k → ⊥
+  -- whose entry is pending lives
+  pub author : IfSome w.pending (HasAuthor w)

@@ -1,0 +1,17 @@
+pub mod Rows
+pub mod Appends
+pub mod Comparisons
+pub mod Expunges
+pub mod Extensions
+pub mod Instances
+pub mod Items
+pub mod Flags
+pub mod Following
+pub mod Headers
+pub mod Keywords
+pub mod Numbers
+pub mod Places
+pub mod Ranges
+pub mod Records
+pub mod Stamps
+pub mod Updates

@@ -1,0 +1,9 @@
+//! What records of the log leave of a mailbox, as laws of the definitions: it stays valid, its numbers
+//! never fall, no UID comes back, and keywords keep their places.
+#![tactic(auto)]
+
+mod laws;
+
+pub use laws::{
+    keywords_stay, numbers_never_fall, records_keep_valid, stamped_by_rows, uids_never_return,
+};
