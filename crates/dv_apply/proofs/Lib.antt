@@ -1,0 +1,6 @@
+mod Appending
+mod Changing
+mod Becoming
+mod Extending
+mod Keeping
+mod Refusing

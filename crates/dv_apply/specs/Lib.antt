@@ -1,0 +1,4 @@
+pub mod Alike
+pub mod Answers
+pub mod Bodies
+pub mod States

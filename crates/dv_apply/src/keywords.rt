@@ -1,0 +1,82 @@
+ghost use Rattle.std.specs.Prelude.{◌≡◌, ◌≢◌, OnErr, OnOk, None, Some};
+ghost use Rattle.dv_model.specs.declared.types.Body.TheVariants.{KeywordReset, KeywordUpdate};
+ghost use Rattle.dv_model.specs.declared.types.How.TheVariants.{Remove};
+ghost use Rattle.dv_model.specs.Effects.{place_of};
+ghost use Rattle.dv_model.specs.Names.{IsName};
+ghost use Rattle.dv_apply.specs.States.{Becomes, IsKept};
+
+use crate::changes::higher;
+use crate::state::State;
+use dv_model::{Duplicate, How, NoMemory, Pair};
+
+// Changes a keyword that the table has.
+fn change_known(
+    state: &mut State,
+    how: How,
+    name: &[u8],
+    pairs: &[Pair],
+    place: u32,
+) -> Result<(), NoMemory>
+    requires kept { IsKept state.old }
+    requires name { IsName name.now }
+    requires known { place_of state.old.names name.now ≡ Some place }
+    ensures ok { OnOk result (Becomes state.old (KeywordUpdate how name.now pairs.now) state.new) }
+    ensures err { OnErr result (state.new ≡ state.old) }
+{
+    let modseq = higher(state.highest);
+    state.rows.change_keywords(pairs, how, place, modseq)?;
+    state.highest = modseq;
+    Ok(())
+}
+
+// Adds a keyword to the table, and to rows.
+fn change_new(state: &mut State, how: How, name: &[u8], pairs: &[Pair]) -> Result<(), NoMemory>
+    requires kept { IsKept state.old }
+    requires name { IsName name.now }
+    requires added { how ≢ Remove }
+    ensures ok { OnOk result (Becomes state.old (KeywordUpdate how name.now pairs.now) state.new) }
+    ensures err { OnErr result (state.new ≡ state.old) }
+{
+    let modseq = higher(state.highest);
+    let mut names = state.names.duplicate(state.alloc)?;
+    let place = names.add(name)?;
+    state.rows.change_keywords(pairs, how, place, modseq)?;
+    state.names = names;
+    state.highest = modseq;
+    Ok(())
+}
+
+/// Adds a keyword to rows, removes it from them or leaves them it alone (Dovecot's
+/// `mail_transaction_keyword_update`). A name that is removed isn't added to the table. After
+/// `NoMemory` nothing has changed.
+pub fn update_keyword(
+    state: &mut State,
+    how: How,
+    name: &[u8],
+    pairs: &[Pair],
+) -> Result<(), NoMemory>
+    requires kept { IsKept state.old }
+    requires name { IsName name.now }
+    ensures ok { OnOk result (Becomes state.old (KeywordUpdate how name.now pairs.now) state.new) }
+    ensures err { OnErr result (state.new ≡ state.old) }
+{
+    if let Some(place) = state.names.index_of(name) {
+        return change_known(state, how, name, pairs, place);
+    }
+    match how {
+        How::Remove => {
+            state.highest = higher(state.highest);
+            Ok(())
+        }
+        _ => change_new(state, how, name, pairs),
+    }
+}
+
+/// Takes all keywords from rows (Dovecot's `mail_transaction_keyword_reset`).
+pub fn clear_keywords(state: &mut State, pairs: &[Pair])
+    requires { IsKept state.old }
+    ensures { Becomes state.old (KeywordReset pairs.now) state.new }
+{
+    state.highest = higher(state.highest);
+    state.rows.clear_keywords(pairs, state.highest);
+}

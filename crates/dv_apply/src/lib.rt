@@ -1,0 +1,24 @@
+//! A mailbox as a store keeps it while the records of its log are applied, one after another
+//! (Dovecot's `mail-transaction-log.h`).
+#![tactic(auto)]
+
+mod appends;
+mod blanks;
+mod bodies;
+mod changes;
+mod extensions;
+mod fault;
+mod headers;
+mod keywords;
+mod law;
+mod live;
+mod parts;
+mod sends;
+mod state;
+
+pub use fault::ApplyFault;
+pub use law::refused_by_a_row;
+pub use live::Live;
+
+#[cfg(test)]
+mod tests;

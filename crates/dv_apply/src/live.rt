@@ -1,0 +1,172 @@
+ghost use Rattle.std.specs.Prelude.{◌≡◌, ◌<◌, ◌≤◌, Err, IfOk, Ok, OnErr, OnOk, Some, length, max, nat_eq, position, slice_get};
+ghost use Rattle.dv_model.specs.Effects.{after_record};
+ghost use Rattle.dv_model.specs.Mailboxes.{IsValid, empty_mailbox};
+ghost use Rattle.dv_model.specs.Spelling.{IsRecord};
+ghost use Rattle.dv_rows.specs.Kept.{flag_count};
+ghost use Rattle.dv_apply.specs.Answers.{OnBadAppend};
+ghost use Rattle.dv_apply.specs.Bodies.{Refused, TakesNone, refused_row, spare_after};
+ghost use Rattle.dv_apply.specs.declared.fault.ApplyFault.TheVariants as fault;
+
+use crate::appends;
+use crate::bodies::{apply_body, is_request, pass};
+use crate::fault::ApplyFault;
+use crate::state::{State, empty_state, mailbox, state_of};
+use dv_ext::Extensions;
+use dv_keywords::Table;
+use dv_model::{Mailbox, NoMemory, Record, Row};
+use std::alloc::Global;
+use std::marker::Model;
+
+/// A mailbox while the records of its log are applied, one after another. Contracts see the
+/// mailbox, and the number of spare rows: of those that can be appended without memory.
+#[derive(Drop)]
+pub struct Live {
+    state: State,
+}
+
+impl Model for Live {
+    ghost use Rattle.dv_apply.specs.States.{IsKept, Kept, kept_of};
+
+    ghost Value = { Kept };
+
+    ghost view = { λ l. kept_of l.state };
+
+    ghost invariant = { λ l. IsKept l.state };
+}
+
+impl Live {
+    /// A mailbox that never had a message. Takes no memory.
+    pub fn empty(alloc: Global, uid_validity: u32) -> Live
+        ensures { result ≡ record { mailbox = empty_mailbox uid_validity; spare = 0 } }
+    {
+        Live {
+            state: empty_state(alloc, uid_validity),
+        }
+    }
+
+    /// This mailbox, with no spare row. `NoMemory` is the answer only where its keywords are too
+    /// many to be counted.
+    pub fn of(alloc: Global, m: Mailbox) -> Result<Live, NoMemory>
+        requires { IsValid m }
+        ensures { IfOk result (λ made. made ≡ record { mailbox = m; spare = 0 }) }
+    {
+        let state = state_of(alloc, m)?;
+        Ok(Live { state })
+    }
+
+    /// A copy of the mailbox. `NoMemory` is the only error.
+    pub fn mailbox(&self, alloc: Global) -> Result<Mailbox, NoMemory>
+        ensures made { IfOk result (λ made. made ≡ self.now.mailbox) }
+        ensures valid { IsValid self.now.mailbox }
+    {
+        mailbox(&self.state, alloc)
+    }
+
+    /// Applies a record of the log (Dovecot's `mail-transaction-log.h`). `BadAppend` is the answer
+    /// exactly where a row of an append has a UID below the UIDNEXT that the rows before it leave;
+    /// it names the first such row. After an error all is as before. An append of at most the spare
+    /// rows, an expunge, a flag update, a header update, a keyword reset, and an update of an
+    /// extension's header or rows take no memory.
+    pub fn apply(&mut self, r: &Record) -> Result<(), ApplyFault>
+        requires { IsRecord r.now }
+        // What is applied has the record's effect.
+        ensures ok { OnOk result (after_record self.old.mailbox r.now ≡ Some self.new.mailbox) }
+        // A named row is the first that is refused.
+        ensures bad { OnBadAppend result (λ refused. refused_row self.old.mailbox r.now.body ≡ Some refused) }
+        // A refused row is named.
+        ensures refused { (refused : Refused) → refused_row self.old.mailbox r.now.body ≡ Some refused → result ≡ Err (fault.BadAppend refused.uid refused.next_uid) }
+        // Nothing changes by an error.
+        ensures err { OnErr result (self.new ≡ self.old) }
+        // Only appends and introductions use up spare rows.
+        ensures spare { OnOk result (self.new.spare ≡ spare_after self.old.spare r.now.body) }
+        // Some records take no memory.
+        ensures memory { TakesNone self.old.spare r.now.body → result ≡ Err fault.NoMemory → ⊥ }
+    {
+        if is_request(r) {
+            pass(&mut self.state);
+            return Ok(());
+        }
+        apply_body(&mut self.state, &r.body)
+    }
+
+    /// Makes the number of spare rows at least this. After `NoMemory` all is as before.
+    pub fn reserve(&mut self, n: u32) -> Result<(), NoMemory>
+        ensures mailbox { self.new.mailbox ≡ self.old.mailbox }
+        ensures ok { OnOk result (self.new.spare ≡ max n self.old.spare) }
+        ensures err { OnErr result (self.new ≡ self.old) }
+        ensures succeeds { n ≤ self.old.spare → result ≡ Ok tt }
+    {
+        appends::reserve(&mut self.state, n)
+    }
+
+    /// The number of rows.
+    pub fn count(&self) -> u32
+        ensures { result ≡ length self.now.mailbox.rows }
+    {
+        self.state.rows.count()
+    }
+
+    /// The row at a place, counted from 0.
+    pub fn row(&self, k: u32) -> &Row
+        requires { k < length self.now.mailbox.rows }
+        ensures { slice_get self.now.mailbox.rows k ≡ Some result.now }
+    {
+        self.state.rows.row(k)
+    }
+
+    /// The place of the row with this UID.
+    pub fn position(&self, uid: u32) -> Option<u32>
+        ensures { result ≡ position (λ row. nat_eq row.uid uid) self.now.mailbox.rows }
+    {
+        self.state.rows.position(uid)
+    }
+
+    /// The UIDNEXT.
+    pub fn next_uid(&self) -> u32
+        ensures { result ≡ self.now.mailbox.next_uid }
+    {
+        self.state.next_uid
+    }
+
+    /// The UIDVALIDITY.
+    pub fn uid_validity(&self) -> u32
+        ensures { result ≡ self.now.mailbox.uid_validity }
+    {
+        self.state.uid_validity
+    }
+
+    /// The highest modification sequence (RFC 7162, section 3.1.2.1).
+    pub fn highest(&self) -> u64
+        ensures { result ≡ self.now.mailbox.highest }
+    {
+        self.state.highest
+    }
+
+    /// How many rows have the flag Seen.
+    pub fn seen(&self) -> u32
+        ensures { result ≡ flag_count 8 self.now.mailbox.rows }
+    {
+        self.state.rows.seen()
+    }
+
+    /// How many rows have the flag Deleted.
+    pub fn deleted(&self) -> u32
+        ensures { result ≡ flag_count 4 self.now.mailbox.rows }
+    {
+        self.state.rows.deleted()
+    }
+
+    /// The keyword names.
+    pub fn names(&self) -> &Table
+        ensures { result.now ≡ self.now.mailbox.keywords }
+    {
+        &self.state.names
+    }
+
+    /// The extensions, and the current one.
+    pub fn extensions(&self) -> &Extensions
+        ensures { result.now ≡ record { extensions = self.now.mailbox.extensions; current = self.now.mailbox.current } }
+    {
+        &self.state.extensions
+    }
+}

@@ -1,0 +1,83 @@
+ghost use Rattle.std.specs.Prelude.{◌≡◌, ◌<◌, All, IfOk, OnErr, OnOk, fold};
+ghost use Rattle.dv_model.specs.declared.types.Mailbox.{Mailbox};
+ghost use Rattle.dv_model.specs.Effects.{with_intro, with_update};
+ghost use Rattle.dv_model.specs.Mailboxes.{IsValid};
+ghost use Rattle.dv_ext.specs.Changes.{rows_changed};
+ghost use Rattle.dv_ext.specs.Tables.{with_table};
+ghost use Rattle.dv_apply.specs.Alike.{IsAlike, IsWide};
+ghost use Rattle.dv_rows.specs.Kept.{AreRows};
+
+use dv_ext::{Extensions, PartsChange, RowUpdates};
+use dv_model::{Duplicate, Intro, List, NoMemory, Row};
+use dv_rows::Rows;
+use std::alloc::Global;
+
+/// Changes the parts of each row. After `NoMemory` they are as before.
+pub fn change_parts(rows: &mut Rows, change: PartsChange) -> Result<(), NoMemory>
+    ensures ok { OnOk result ((m : Mailbox) → m.rows ≡ rows.old.rows → rows_changed change m ≡ record m { rows = rows.new.rows }) }
+    ensures alike { OnOk result (IsAlike rows.old.rows rows.new.rows) }
+    ensures room { rows.new.room ≡ rows.old.room }
+    ensures err { OnErr result (rows.new ≡ rows.old) }
+{
+    match change {
+        PartsChange::Same => Ok(()),
+        PartsChange::Added { size } => rows.add_part(size),
+        PartsChange::Grown { place, size } => rows.grow_part(place, size),
+        PartsChange::Zeroed { place } => {
+            rows.clear_part(place);
+            Ok(())
+        }
+    }
+}
+
+/// Writes the rows of a record update into the parts at a place.
+pub fn write_parts(rows: &mut Rows, updates: &RowUpdates, place: u32)
+    requires { All (IsWide place updates.now.size) rows.old.rows }
+    ensures is { (m : Mailbox) → m.rows ≡ rows.old.rows
+        → fold (with_update (record { extension = place; size = updates.now.size })) m updates.now.rows ≡ record m { rows = rows.new.rows } }
+    ensures alike { IsAlike rows.old.rows rows.new.rows }
+    ensures room { rows.new.room ≡ rows.old.room }
+{
+    for at in 0..updates.len() {
+        let (uid, bytes) = updates.get(at);
+        rows.set_part(uid, place, bytes);
+    }
+}
+
+/// A list of equal rows.
+pub fn listed(alloc: Global, rows: &Rows) -> Result<List<Row>, NoMemory>
+    ensures is { IfOk result (λ made. made ≡ rows.now.rows) }
+    ensures rows { AreRows rows.now.rows }
+{
+    let mut list = List::new(alloc);
+    for k in 0..rows.count() {
+        let row = rows.row(k).duplicate(alloc)?;
+        list.push(row)?;
+    }
+    Ok(list)
+}
+
+/// Equal rows.
+pub fn copied(alloc: Global, rows: &Rows) -> Result<Rows, NoMemory>
+    ensures { IfOk result (λ made. made.rows ≡ rows.now.rows) }
+{
+    let list = listed(alloc, rows)?;
+    Ok(Rows::of(alloc, list))
+}
+
+/// Introduces extensions in turn. After `NoMemory` some may have been introduced.
+pub fn introduce(
+    extensions: &mut Extensions,
+    rows: &mut Rows,
+    intros: &[Intro],
+) -> Result<(), NoMemory>
+    ensures is { OnOk result ((m : Mailbox) → IsValid (with_table extensions.old m) → m.rows ≡ rows.old.rows
+        → fold with_intro (with_table extensions.old m) intros.now ≡ with_table extensions.new (record m { rows = rows.new.rows })) }
+    ensures alike { OnOk result (IsAlike rows.old.rows rows.new.rows) }
+{
+    for intro in intros {
+        let change = extensions.intro(intro)?;
+        change_parts(rows, change)?;
+    }
+    Ok(())
+}

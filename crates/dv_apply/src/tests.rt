@@ -1,0 +1,137 @@
+use super::*;
+use dv_records::decode;
+use std::alloc::Global;
+use std::test::*;
+
+// A record's bytes, the answer, the counts (rows, UIDNEXT, highest modification sequence, Seen,
+// Deleted), and each row's UID, flags, places of keywords and modification sequence.
+type Step = (
+    &'static [u8],
+    Result<(), ApplyFault>,
+    (u32, u32, u64, u32, u32),
+    &'static [(u32, u8, &'static [u32], u64)],
+);
+
+const STEPS: [Step; 10] = [
+    // UID 1, and UID 2 with Seen
+    (
+        b"\x80\x80\x80\x86\x02\0\0\0\x01\0\0\0\0\0\0\0\x02\0\0\0\x08\0\0\0",
+        Ok(()),
+        (2, 3, 2, 1, 0),
+        &[(1, 0, &[], 2), (2, 8, &[], 2)],
+    ),
+    // UID 3, and then UID 2 once more
+    (
+        b"\x80\x80\x80\x86\x02\0\0\0\x03\0\0\0\0\0\0\0\x02\0\0\0\0\0\0\0",
+        Err(ApplyFault::BadAppend {
+            uid: 2,
+            next_uid: 4,
+        }),
+        (2, 3, 2, 1, 0),
+        &[(1, 0, &[], 2), (2, 8, &[], 2)],
+    ),
+    // UID 1 gets Deleted
+    (
+        b"\x80\x80\x80\x85\x04\0\0\0\x01\0\0\0\x01\0\0\0\x04\0\0\0",
+        Ok(()),
+        (2, 3, 3, 1, 1),
+        &[(1, 4, &[], 3), (2, 8, &[], 2)],
+    ),
+    // UID 2 gets `old`
+    (
+        b"\x80\x80\x80\x86\0\x04\0\0\0\0\x03\0old\0\x02\0\0\0\x02\0\0\0",
+        Ok(()),
+        (2, 3, 4, 1, 1),
+        &[(1, 4, &[], 3), (2, 8, &[0], 4)],
+    ),
+    // each UID has `new` alone
+    (
+        b"\x80\x80\x80\x86\0\x04\0\0\x02\0\x03\0new\0\x01\0\0\0\xff\xff\xff\xff",
+        Ok(()),
+        (2, 3, 5, 1, 1),
+        &[(1, 4, &[1], 5), (2, 8, &[1], 5)],
+    ),
+    // no UID has `off`
+    (
+        b"\x80\x80\x80\x86\0\x04\0\0\x01\0\x03\0off\0\x01\0\0\0\xff\xff\xff\xff",
+        Ok(()),
+        (2, 3, 6, 1, 1),
+        &[(1, 4, &[1], 5), (2, 8, &[1], 5)],
+    ),
+    // UIDNEXT 9
+    (
+        b"\x80\x80\x80\x84\x20\0\0\0\x1c\0\x04\0\x09\0\0\0",
+        Ok(()),
+        (2, 9, 7, 1, 1),
+        &[(1, 4, &[1], 5), (2, 8, &[1], 5)],
+    ),
+    // UIDNEXT 5 doesn't lower it
+    (
+        b"\x80\x80\x80\x84\x20\0\0\0\x1c\0\x04\0\x05\0\0\0",
+        Ok(()),
+        (2, 9, 8, 1, 1),
+        &[(1, 4, &[1], 5), (2, 8, &[1], 5)],
+    ),
+    // an expunge of UID 1 is asked for
+    (
+        b"\x80\x80\x80\x84\x91\xcd\0\0\x01\0\0\0\x01\0\0\0",
+        Ok(()),
+        (2, 9, 9, 1, 1),
+        &[(1, 4, &[1], 5), (2, 8, &[1], 5)],
+    ),
+    // UID 1 is expunged
+    (
+        b"\x80\x80\x80\x84\x91\xcd\0\x10\x01\0\0\0\x01\0\0\0",
+        Ok(()),
+        (1, 9, 10, 1, 0),
+        &[(2, 8, &[1], 5)],
+    ),
+];
+
+fn apply(alloc: Global, live: &mut Live, bytes: &[u8]) -> Result<(), ApplyFault> {
+    match decode(alloc, bytes, 0) {
+        Ok((record, _)) => live.apply(&record),
+        Err(_) => Err(ApplyFault::NoMemory),
+    }
+}
+
+fn counts(live: &Live) -> (u32, u32, u64, u32, u32) {
+    (
+        live.count(),
+        live.next_uid(),
+        live.highest(),
+        live.seen(),
+        live.deleted(),
+    )
+}
+
+fn has_rows(live: &Live, rows: &[(u32, u8, &[u32], u64)]) -> bool {
+    for k in 0..live.count() {
+        let row = live.row(k);
+        if k as usize >= rows.len() {
+            return false;
+        }
+        let expected = rows[k as usize];
+        let keywords = row.keywords.as_slice();
+        if row.uid != expected.0 || row.flags != expected.1 || keywords != expected.2 {
+            return false;
+        }
+        if row.modseq != expected.3 || live.position(row.uid) != Some(k) {
+            return false;
+        }
+    }
+    true
+}
+
+#[test]
+fn records_are_applied_in_turn(rt: HostRuntime) -> Result<(), Fail> {
+    let mut live = Live::empty(rt.alloc(), 1000);
+    for (bytes, answer, expected, rows) in STEPS {
+        assert_eq!(rt; apply(rt.alloc(), &mut live, bytes), answer);
+        assert_eq!(rt; counts(&live), expected);
+        assert!(rt; has_rows(&live, rows));
+    }
+    assert_eq!(rt; live.names().count(), 2);
+    assert_eq!(rt; live.uid_validity(), 1000);
+    Ok(())
+}

@@ -1,0 +1,4 @@
+pub mod Texts
+pub mod Lookup
+pub mod Readings
+pub mod Changes

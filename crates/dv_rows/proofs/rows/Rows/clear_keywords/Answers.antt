@@ -1,0 +1,13 @@
+use Rattle.std.proofs.Common.{[]}
+use Rattle.dv_model.specs.declared.types.Row.{Row}
+use Rattle.dv_validity.specs.Laws.{restamped}
+use Rattle.dv_rows.specs.Changed.{changed_keywords}
+use Rattle.dv_rows.proofs.OtherPlaces.{same_flags, same_uid}
+use Rattle.dv_rows.proofs.Rising.{counted_mapped}
+use Rattle.dv_rows.proofs.rows.Rows.clear_keywords.Goals as goal
+
+pub invariant_of-self : goal.invariant_of-self
+invariant_of-self c =
+    rw c.clear_keywords.ensures.items
+    (counted_mapped (λ (row : Row). restamped c.args.modseq row (changed_keywords c.args.pairs.now (λ places. []) row))
+    (same_uid c.args.pairs.now (λ places. []) c.args.modseq) (same_flags c.args.pairs.now (λ places. []) c.args.modseq) c.self.inside.rows.items c.self.inside.seen c.self.inside.deleted c.self.invariant)

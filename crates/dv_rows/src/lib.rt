@@ -1,0 +1,18 @@
+//! The rows of a mailbox by rising UID, with what each kind of log record does to them (Dovecot's
+//! `mail-transaction-log.h`).
+#![tactic(auto)]
+
+mod counts;
+mod flags;
+mod keywords;
+mod parts;
+mod places;
+mod ranges;
+mod replacing;
+mod rows;
+mod uids;
+
+pub use rows::Rows;
+
+#[cfg(test)]
+mod tests;
