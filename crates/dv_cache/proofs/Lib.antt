@@ -1,0 +1,4 @@
+pub mod FieldTexts
+pub mod Places
+pub mod Rows
+pub mod Again

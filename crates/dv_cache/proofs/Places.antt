@@ -1,0 +1,128 @@
+-- The entries and the fields of rows, one row after another.
+use Rattle.std.proofs.Common.{◌≡◌, ℕ, ◌+◌, ◌≤◌, Bool, true, false, List, [], ◌∷◌, ◌++◌, length, All, Option, Some, None, refl, sym, ◌∙◌, ap, subst, arith, length-append, append_assoc}
+use Rattle.std.specs.Prelude.{nat_le, ◌&&◌, sum_by, if◌then◌else◌}
+use Rattle.std.proofs.lemmas.Bool.{le-leb, leb-true}
+use Rattle.std.proofs.lemmas.List.{append-nil}
+use Rattle.dv_cache.specs.declared.row.CacheRow.{CacheRow}
+use Rattle.dv_cache.specs.declared.row.Known.{Known}
+use Rattle.dv_cache.specs.Caches.{entries_from, field_size, fields_text, fits, IsShort, kept, known_text, place_behind, row_entry, texts_from}
+use Rattle.dv_cache.proofs.FieldTexts.{all_short, text_size}
+
+-- ---- what is kept
+
+and_left : (a b : Bool) → (a && b) ≡ true → a ≡ true
+and_left true b e = refl
+and_left false b e = absurd cc
+
+and_right : (a b : Bool) → (a && b) ≡ true → b ≡ true
+and_right true b e = e
+and_right false b e = absurd cc
+
+pub record Fits (at : ℕ) (known : Known) : Type 0 where
+  pub sizes : (known.physical ≤ 2147483648) × (known.virtual_size ≤ 2147483648)
+  pub fields : sum_by field_size known.fields ≤ 65536
+  pub end : at + length (fields_text known.fields) ≤ 1073741824
+
+pub fits_is : (at : ℕ) (known : Known) → fits at known ≡ true → Fits at known
+fits_is at known e =
+    let a = nat_le known.physical 2147483648 in
+    let b = nat_le known.virtual_size 2147483648 in
+    let c = nat_le (sum_by field_size known.fields) 65536 in
+    let d = nat_le (at + length (fields_text known.fields)) 1073741824 in
+    let abc = and_left (a && b && c) d e in
+    let ab = and_left (a && b) c abc in
+    record {
+      sizes = (leb-true known.physical 2147483648 (and_left a b ab), leb-true known.virtual_size 2147483648 (and_right a b ab));
+      fields = leb-true (sum_by field_size known.fields) 65536 (and_right (a && b) c abc);
+      end = leb-true (at + length (fields_text known.fields)) 1073741824 (and_right (a && b && c) d e);
+    }
+
+-- the test of the end is the last
+pub fits_by : (at size : ℕ) (known : Known) → known.physical ≤ 2147483648 → known.virtual_size ≤ 2147483648 → size ≡ sum_by field_size known.fields → size ≤ 65536 → length known.fields ≡ 5
+    → nat_le (at + 20 + size) 1073741824 ≡ fits at known
+fits_by at size known p q e few five =
+    let a = le-leb known.physical 2147483648 p in
+    let b = le-leb known.virtual_size 2147483648 q in
+    let c = le-leb (sum_by field_size known.fields) 65536 (omega (arith, e, few)) in
+    let d : at + 20 + size ≡ at + length (fields_text known.fields) = omega (arith, e, five, text_size known.fields) in
+    rw (a, b, c) (ap (λ k. nat_le k 1073741824) d)
+
+-- the cases of a row
+pub record IsKept (at : ℕ) (known : Option Known) (written : Known) : Type 0 where
+  pub is : known ≡ Some written
+  pub fits : Fits at written
+
+pub kept_is : (at : ℕ) (known : Option Known) (written : Known) → kept at known ≡ Some written → IsKept at known written
+kept_is at None written e = absurd cc
+kept_is at (Some known) written e = by_test (fits at known) refl e
+  where
+    by_test : (t : Bool) → fits at known ≡ t → (if t then Some known else None) ≡ Some written → IsKept at (Some known) written
+    by_test true h f = let same : known ≡ written = cc in record { is = f; fits = subst (λ k. Fits at k) same (fits_is at known h) }
+    by_test false h f = absurd cc
+
+pub kept_short : (at : ℕ) (known : Option Known) (written : Known) → kept at known ≡ Some written → All IsShort written.fields
+kept_short at known written e = all_short written.fields (kept_is at known written e).fits.fields
+
+-- the fields that are kept end within 2^30 bytes
+pub kept_ends : (at : ℕ) (known : Option Known) → at ≤ 1073741824 → at + length (known_text (kept at known)) ≤ 1073741824
+kept_ends at known small = by_kept (kept at known) refl
+  where
+    by_kept : (o : Option Known) → kept at known ≡ o → at + length (known_text o) ≤ 1073741824
+    by_kept None e = omega (arith, small)
+    by_kept (Some written) e = (kept_is at known written e).fits.end
+
+-- ---- rows behind others
+
+pub texts_length : (at : ℕ) (rows : List CacheRow) → at + length (texts_from at rows) ≡ place_behind at rows
+texts_length at [] = omega arith
+texts_length at (row ∷ rows) =
+    let text = known_text (kept at row.known) in
+    omega (arith, length-append text (texts_from (at + length text) rows), texts_length (at + length text) rows)
+
+pub behind_append : (at : ℕ) (xs ys : List CacheRow) → place_behind at (xs ++ ys) ≡ place_behind (place_behind at xs) ys
+behind_append at [] ys = refl
+behind_append at (row ∷ xs) ys = behind_append (at + length (known_text (kept at row.known))) xs ys
+
+pub texts_append : (at : ℕ) (xs ys : List CacheRow) → texts_from at (xs ++ ys) ≡ texts_from at xs ++ texts_from (place_behind at xs) ys
+texts_append at [] ys = refl
+texts_append at (row ∷ xs) ys =
+    let text = known_text (kept at row.known) in
+    let next = at + length text in
+    ap (λ t. text ++ t) (texts_append next xs ys) ∙ sym (append_assoc text (texts_from next xs) (texts_from (place_behind next xs) ys))
+
+pub entries_append : (at : ℕ) (xs ys : List CacheRow) → entries_from at (xs ++ ys) ≡ entries_from at xs ++ entries_from (place_behind at xs) ys
+entries_append at [] ys = refl
+entries_append at (row ∷ xs) ys =
+    let entry = row_entry at row.uid (kept at row.known) in
+    let next = at + length (known_text (kept at row.known)) in
+    ap (λ t. entry ++ t) (entries_append next xs ys) ∙ sym (append_assoc entry (entries_from next xs) (entries_from (place_behind next xs) ys))
+
+-- ---- as a loop does
+
+pub record IsWrittenTo (first : ℕ) (rows : List CacheRow) (entries texts : List ℕ) : Type 0 where
+  pub listed : entries ≡ entries_from first rows
+  pub spelled : texts ≡ texts_from first rows
+  pub place : first + length texts ≡ place_behind first rows
+  pub small : first + length texts ≤ 1073741824
+
+pub starts : (first : ℕ) → first ≤ 1073741824 → IsWrittenTo first [] [] []
+starts first small = record { listed = refl; spelled = refl; place = omega arith; small = omega (arith, small) }
+
+pub one_row_more : (first : ℕ) (rows : List CacheRow) (entries texts more_entries more_texts : List ℕ) (row : CacheRow) (at : ℕ) → IsWrittenTo first rows entries texts → at ≡ first + length texts
+    → more_entries ≡ entries ++ row_entry at row.uid (kept at row.known) → more_texts ≡ texts ++ known_text (kept at row.known) → IsWrittenTo first (rows ++ row ∷ []) more_entries more_texts
+one_row_more first rows entries texts more_entries more_texts row at is e p q =
+    let here : at ≡ place_behind first rows = e ∙ is.place in
+    let entry : row_entry at row.uid (kept at row.known) ≡ entries_from (place_behind first rows) (row ∷ []) = ap (λ k. row_entry k row.uid (kept k row.known)) here ∙ sym (append-nil _) in
+    let text : known_text (kept at row.known) ≡ texts_from (place_behind first rows) (row ∷ []) = ap (λ k. known_text (kept k row.known)) here ∙ sym (append-nil _) in
+    let all : more_texts ≡ texts_from first (rows ++ row ∷ []) = q ∙ ap (λ t. t ++ known_text (kept at row.known)) is.spelled ∙ ap (λ t. texts_from first rows ++ t) text ∙ sym (texts_append first rows (row ∷ [])) in
+    let sum : length more_texts ≡ length texts + length (known_text (kept at row.known)) = ap length q ∙ length-append texts (known_text (kept at row.known)) in
+    record {
+      listed = p ∙ ap (λ t. t ++ row_entry at row.uid (kept at row.known)) is.listed ∙ ap (λ t. entries_from first rows ++ t) entry ∙ sym (entries_append first rows (row ∷ []));
+      spelled = all;
+      place = ap (λ t. first + length t) all ∙ texts_length first (rows ++ row ∷ []);
+      small = omega (arith, sum, e, kept_ends at row.known (omega (arith, e, is.small)));
+    }
+
+-- four pieces in turn
+pub four_more : (out a b c d one two three four : List ℕ) (e f g h : List ℕ) → a ≡ e → b ≡ f → c ≡ g → d ≡ h → one ≡ out ++ a → two ≡ one ++ b → three ≡ two ++ c → four ≡ three ++ d → four ≡ out ++ (e ++ (f ++ (g ++ h)))
+four_more out a b c d one two three four e f g h i j k l p q r s = s ∙ rw (r, q, p, i, j, k, l) (simp append_assoc)

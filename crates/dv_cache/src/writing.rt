@@ -1,0 +1,119 @@
+ghost use Rattle.std.specs.Prelude.{◌≡◌, ◌+◌, ◌++◌, ◌<◌, ◌≤◌, ◌^◌, All, List, ℕ, OnOk, IfOk, length};
+ghost use Rattle.std.specs.Option.{option_map};
+ghost use Rattle.dv_cache.specs.declared.row.CacheRow.{CacheRow};
+ghost use Rattle.dv_cache.specs.Caches.{cache_text, entry_text, fits, header_text, HasFive, kept, known_text, row_entry};
+
+use crate::fields::{size_of, write_fields};
+use crate::{CacheRow, Known};
+use dv_model::{Bytes, List, NoMemory};
+use std::alloc::Global;
+
+// The largest size of a message that is kept.
+const LARGEST_SIZE: u32 = 1 << 31;
+// The most bytes that the fields of a message may have in sum.
+const MOST_FIELD_BYTES: usize = 65_536;
+// Where the last fields end at most.
+const LAST_END: usize = 1 << 30;
+
+// Whether these sizes and fields are kept, where the text of the fields begins at this place.
+fn fit(at: usize, known: &Known) -> bool
+    requires place { at ≤ 2 ^ 30 }
+    requires five { length known.now.fields ≡ 5 }
+    ensures { result ≡ fits at known.now }
+{
+    if known.physical > LARGEST_SIZE || known.virtual_size > LARGEST_SIZE {
+        return false;
+    }
+    match size_of(known.fields.as_slice(), MOST_FIELD_BYTES) {
+        Some(size) => at + 20 + size <= LAST_END,
+        None => false,
+    }
+}
+
+fn kept(at: usize, known: &Option<Known>) -> Option<&Known>
+    requires place { at ≤ 2 ^ 30 }
+    requires five { HasFive known.now }
+    ensures { option_map (λ k. k.now) result ≡ kept at known.now }
+{
+    if let Some(known) = known
+        && fit(at, known)
+    {
+        return Some(known);
+    }
+    None
+}
+
+fn write_entry(
+    uid: u32,
+    physical: u32,
+    virtual_size: u32,
+    place: u32,
+    out: &mut Bytes,
+) -> Result<(), NoMemory>
+    ensures { OnOk result (out.new ≡ out.old ++ entry_text uid physical virtual_size place) }
+{
+    out.extend(&uid.to_le_bytes())?;
+    out.extend(&physical.to_le_bytes())?;
+    out.extend(&virtual_size.to_le_bytes())?;
+    out.extend(&place.to_le_bytes())?;
+    Ok(())
+}
+
+// Adds a row's entry, and its fields, whose text begins at this place.
+fn write_row(
+    at: usize,
+    row: &CacheRow,
+    entries: &mut Bytes,
+    texts: &mut Bytes,
+) -> Result<(), NoMemory>
+    requires place { at ≤ 2 ^ 30 }
+    requires five { HasFive row.now.known }
+    ensures entries { OnOk result (entries.new ≡ entries.old ++ row_entry at row.now.uid (kept at row.now.known)) }
+    ensures texts { OnOk result (texts.new ≡ texts.old ++ known_text (kept at row.now.known)) }
+{
+    let Some(known) = kept(at, &row.known) else {
+        return write_entry(row.uid, 0, 0, 0, entries);
+    };
+    write_entry(
+        row.uid,
+        known.physical,
+        known.virtual_size,
+        at as u32,
+        entries,
+    )?;
+    write_fields(known.fields.as_slice(), texts)
+}
+
+fn header(alloc: Global, indexid: u32, seq: u32, count: u32, size: u32) -> Result<Bytes, NoMemory>
+    ensures { IfOk result (λ made. made ≡ header_text indexid seq count size) }
+{
+    let mut made = Bytes::from_slice(alloc, b"dvca\x01\0\0\0")?;
+    write_entry(indexid, seq, count, size, &mut made)?;
+    made.extend(&[0; 8])?;
+    Ok(made)
+}
+
+/// The cache file of these rows, under the indexid of the mailbox and a sequence. The fields of
+/// each row are five. `NoMemory` is the only error.
+pub fn write(
+    alloc: Global,
+    indexid: u32,
+    seq: u32,
+    rows: &List<CacheRow>,
+) -> Result<Bytes, NoMemory>
+    requires five { All (λ (row : CacheRow). HasFive row.known) rows.now }
+    requires few { length rows.now ≤ 8388608 }
+    ensures { IfOk result (λ text. text ≡ cache_text indexid seq rows.now) }
+{
+    let first = 32 + 16 * rows.len();
+    let mut entries = Bytes::new(alloc);
+    let mut texts = Bytes::new(alloc);
+    for row in rows.as_slice() {
+        write_row(first + texts.len(), row, &mut entries, &mut texts)?;
+    }
+    let size = first + texts.len();
+    let mut text = header(alloc, indexid, seq, rows.len() as u32, size as u32)?;
+    text.extend(entries.as_slice())?;
+    text.extend(texts.as_slice())?;
+    Ok(text)
+}

@@ -1,0 +1,4 @@
+pub mod Bitmaps
+pub mod Counts
+pub mod Texts
+pub mod Firsts

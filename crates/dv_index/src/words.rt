@@ -1,0 +1,55 @@
+ghost use Rattle.std.specs.Prelude.{◌≡◌, ◌^◌, ◌<◌, ◌++◌, All, flat_map, OnOk};
+ghost use Rattle.std.specs.Int.{w16, w32, to_le_bytes};
+ghost use Rattle.dv_model.specs.Spelling.{padding};
+ghost use Rattle.dv_formats.specs.Snapshots.{AreBytes, filled};
+
+use dv_model::{Bytes, NoMemory};
+
+/// The number of zero bytes behind so many others, up to a multiple of four.
+pub fn padding(n: usize) -> usize
+    ensures { result ≡ padding n }
+{
+    (4 - n % 4) % 4
+}
+
+/// Adds the numbers of four bytes each, the least significant byte first.
+pub fn write_words(numbers: &[u32], out: &mut Bytes) -> Result<(), NoMemory>
+    ensures text { OnOk result (out.new ≡ out.old ++ flat_map (to_le_bytes w32) numbers.now) }
+    ensures fits { All (λ n. n < 2 ^ 32) numbers.now }
+{
+    for number in numbers {
+        out.extend(&number.to_le_bytes())?;
+    }
+    Ok(())
+}
+
+/// Adds the numbers of two bytes each, the least significant byte first.
+pub fn write_halves(numbers: &[u16], out: &mut Bytes) -> Result<(), NoMemory>
+    ensures text { OnOk result (out.new ≡ out.old ++ flat_map (to_le_bytes w16) numbers.now) }
+    ensures fits { All (λ n. n < 2 ^ 16) numbers.now }
+{
+    for number in numbers {
+        out.extend(&number.to_le_bytes())?;
+    }
+    Ok(())
+}
+
+/// Adds the bytes.
+pub fn write_bytes(bytes: &[u8], out: &mut Bytes) -> Result<(), NoMemory>
+    ensures text { OnOk result (out.new ≡ out.old ++ bytes.now) }
+    ensures fits { AreBytes bytes.now }
+{
+    out.extend(bytes)?;
+    Ok(())
+}
+
+/// Adds the bytes, and zero bytes up to a multiple of four of them.
+pub fn write_filled(bytes: &[u8], out: &mut Bytes) -> Result<(), NoMemory>
+    ensures text { OnOk result (out.new ≡ out.old ++ filled bytes.now) }
+    ensures fits { AreBytes bytes.now }
+{
+    let (zeros, _) = [0; 4].as_slice().split_at(padding(bytes.len()));
+    out.extend(bytes)?;
+    out.extend(zeros)?;
+    Ok(())
+}

@@ -1,0 +1,7 @@
+pub mod Chosen
+pub mod Printed
+pub mod Pieces
+pub mod EndTexts
+pub mod Reading
+pub mod Words
+pub mod Reread

@@ -1,0 +1,9 @@
+use Rattle.std.proofs.Common.{length}
+use Rattle.dv_sets.proofs.Words.{IsReadTo}
+use Rattle.dv_sets.proofs.flags.parse_flags.Given as goal
+
+abbrev pub invariant-each_word : goal.invariant-each_word
+invariant-each_word l = IsReadTo l.b l.flags l.keywords l.text
+
+abbrev pub decreases-each_word : goal.decreases-each_word
+decreases-each_word l = length l.text

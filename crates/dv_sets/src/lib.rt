@@ -1,0 +1,21 @@
+//! Sequence sets and flag lists: which messages a set names, and both as text (RFC 3501,
+//! section 9).
+#![tactic(auto)]
+
+mod choosing;
+mod cutting;
+mod end;
+mod flags;
+mod law;
+mod printing;
+mod sets;
+
+pub use choosing::{numbers, uids};
+pub use end::{ParseEnd, SetEnd};
+pub use flags::parse_flags;
+pub use law::{one_flags, one_set, written_set_is_read};
+pub use printing::{print_flags, print_set};
+pub use sets::parse_set;
+
+#[cfg(test)]
+mod tests;
