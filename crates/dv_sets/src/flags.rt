@@ -72,9 +72,9 @@ fn add_flag(
     Ok(flags)
 }
 
-/// The flags and keywords that a text names in parentheses, with a space between two (RFC 3501,
-/// section 9, `flag-list`): flag bits as in [dv_model::Row], and keywords in the order of their
-/// first places. Each keyword is compared with those before it: lists are short.
+/// The flags and keywords of a list in parentheses (`flag-list` of RFC 3501, section 9): flag bits
+/// as in [dv_model::Row], and keywords in the order of their first places. Each keyword is compared
+/// with those before it: lists are short.
 pub fn parse_flags(alloc: Global, b: &[u8]) -> Result<(u8, List<Bytes>), ParseEnd>
     // What is read is what the text says.
     ensures found { IfOk result (λ x. AreFlags x.0 x.1 b.now) }

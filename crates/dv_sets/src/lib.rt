@@ -1,5 +1,5 @@
-//! Sequence sets and flag lists: which messages a set names, and both as text (RFC 3501,
-//! section 9).
+//! Sequence sets and flag lists of RFC 3501, section 9: which messages a set names, and both as
+//! text.
 #![tactic(auto)]
 
 mod choosing;
