@@ -53,7 +53,7 @@ impl Folder {
 }
 
 impl Shelf for Folder {
-    ghost tells = { λ _. ⊥ };
+    ghost tells = { ⊥ };
 
     ghost files = { λ _ _. None };
 
@@ -103,6 +103,8 @@ impl Shelf for Folder {
     }
 
     ghost counts_now = { λ _ _ _ _ never. never };
+
+    ghost leaves_files = { λ _ never. never };
 
     ghost only_now = { λ _ _ never _. never };
 }

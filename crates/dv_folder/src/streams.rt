@@ -20,7 +20,7 @@ impl Input {
 }
 
 impl Source for Input {
-    ghost tells = { λ _. ⊥ };
+    ghost tells = { ⊥ };
 
     ghost left = { λ _. [] };
 
@@ -60,7 +60,7 @@ impl Output {
 }
 
 impl Sink for Output {
-    ghost tells = { λ _. ⊥ };
+    ghost tells = { ⊥ };
 
     ghost taken = { λ _. [] };
 

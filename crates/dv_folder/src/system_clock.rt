@@ -14,7 +14,7 @@ impl SystemClock {
 }
 
 impl Clock for SystemClock {
-    ghost tells = { λ _. ⊥ };
+    ghost tells = { ⊥ };
 
     ghost upcoming = { λ _ _. 0 };
 

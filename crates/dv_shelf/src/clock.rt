@@ -3,17 +3,16 @@ ghost use Rattle.dv_shelf.specs.Clocks.{behind};
 
 /// A clock, by its readings to come.
 pub trait Clock {
-    /// It tells its readings. The member below speaks of a clock that does.
-    ghost tells: { Self → Type 0 };
+    /// A clock of this type tells its readings. The member below speaks of one that does.
+    ghost tells: { Type 0 };
 
     /// The reading after so many others.
     ghost upcoming: { Self → ℕ → ℕ };
 
     /// The time in Unix seconds. It never fails.
     fn now(&mut self) -> u32
-        ensures told { tells self.old → tells self.new }
-        ensures reading { tells self.old → result ≡ upcoming self.old 0 }
-        ensures later { tells self.old → upcoming self.new ≡ behind (upcoming self.old) 1 };
+        ensures reading { tells → result ≡ upcoming self.old 0 }
+        ensures later { tells → upcoming self.new ≡ behind (upcoming self.old) 1 };
 }
 
 /// What is called before each command of a session.

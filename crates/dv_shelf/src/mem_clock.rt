@@ -28,7 +28,7 @@ impl MemClock {
 impl Clock for MemClock {
     ghost use Rattle.dv_shelf.specs.MemClocks.{readings_to_come};
 
-    ghost tells = { λ c. Unit {0} };
+    ghost tells = { Unit {0} };
 
     ghost upcoming = { readings_to_come };
 

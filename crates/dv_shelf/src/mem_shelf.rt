@@ -114,9 +114,9 @@ impl Shelf for MemShelf {
     ghost use Rattle.dv_shelf.specs.MemShelves.{calls_of, files_of, IsAnswered, IsLook};
     ghost use Rattle.dv_shelf.specs.Folders.{Folder, with_file, contents, patched, Lists, ChangesOnly, TornFile, IsEither};
     ghost use Rattle.dv_shelf.specs.Crashes.{Follows, FollowsNone, Elapses};
-    ghost use Rattle.dv_shelf.specs.Laws.{left_now, left_last};
+    ghost use Rattle.dv_shelf.specs.Laws.{files_left, left_now, left_last};
 
-    ghost tells = { λ s. Unit {0} };
+    ghost tells = { Unit {0} };
 
     ghost files = { files_of };
 
@@ -131,6 +131,8 @@ impl Shelf for MemShelf {
     ghost mail_reads = { λ s. s.mail_reads };
 
     ghost counts_now = { λ s t c le is. left_now (calls_of s) t c le is };
+
+    ghost leaves_files = { λ s told. files_left (calls_of s) };
 
     ghost only_now = { λ s c told had. left_last (calls_of s) c had };
 

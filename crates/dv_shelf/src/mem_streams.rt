@@ -38,7 +38,7 @@ impl Source for MemSource {
     ghost use Rattle.dv_shelf.specs.MemStreams.{bytes_left, source_faults};
     ghost use Rattle.dv_shelf.specs.Failures.{turn_of, after_answer};
 
-    ghost tells = { λ s. Unit {0} };
+    ghost tells = { Unit {0} };
 
     ghost left = { bytes_left };
 
@@ -110,7 +110,7 @@ impl Sink for MemSink {
     ghost use Rattle.dv_shelf.specs.MemStreams.{bytes_taken, room_left, sink_faults};
     ghost use Rattle.dv_shelf.specs.Failures.{turn_of, after_answer};
 
-    ghost tells = { λ s. Unit {0} };
+    ghost tells = { Unit {0} };
 
     ghost taken = { bytes_taken };
 
