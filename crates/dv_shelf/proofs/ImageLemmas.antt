@@ -14,50 +14,8 @@ use Rattle.dv_shelf.specs.Images.{IsTornImage, IsFileImage, IsImageOfOne, IsOneI
 use Rattle.dv_shelf.proofs.DiskLemmas.{disk_more}
 use Rattle.dv_shelf.proofs.ShelfLemmas.{Grew, call_made, same_torn, sync_reads}
 use Rattle.dv_shelf.proofs.Torn.{one_name, patched_torn}
-use Rattle.dv_shelf.proofs.TornImages.{version_torn, furthest-push}
-
--- what a read gives is one of the images
-
-pub stuck_short : (done : Bool) (bytes : List ℕ) → length (stuck done bytes) ≤ length bytes
-stuck_short true bytes = omega arith
-stuck_short false bytes = omega (arith, length-take (length bytes / 2) bytes)
-
-whole_image : (bytes : List ℕ) → IsTornImage bytes (length bytes) [] bytes
-whole_image bytes = record { firm = λ k firm. refl; no_shorter = omega arith; no_longer = omega arith }
-
-settled_readable : (file : Option (List ℕ)) → IsFileImage (settled_version file) (version_bytes (settled_version file))
-settled_readable None = tt
-settled_readable (Some bytes) = whole_image bytes
-
-written_readable : (at n : ℕ) (stuck : List ℕ) (version : Version) → length stuck ≤ n → IsFileImage version (version_bytes version) → IsFileImage (version_written at n stuck version) (version_bytes (version_written at n stuck version))
-written_readable at n stuck Gone le is = let torn = patched_torn [] at stuck in record { firm = λ k firm. refl; no_shorter = omega arith; no_longer = omega (arith, torn.no_longer) }
-written_readable at n stuck (There bytes base written new) le is =
-    let torn = patched_torn bytes at stuck in
-    let more = furthest-push written (record { from = at; upto = at + n }) in
-    record { firm = λ k firm. refl; no_shorter = omega (arith, torn.no_shorter, is.no_shorter); no_longer = omega (arith, torn.no_longer, is.no_longer, more) }
-
-abbrev pub Readable : Versions → Type 0
-Readable versions = IsFileImage versions.first (as_read versions)
-
-then_readable : (deed : Deed) (done : Bool) (bytes : List ℕ) (versions : Versions) → Readable versions → Readable (versions_then deed done bytes versions)
-then_readable (Write at) done bytes versions is = written_readable at (length bytes) (stuck done bytes) versions.first (stuck_short done bytes) is
-then_readable Sync true bytes versions is = settled_readable (as_read versions)
-then_readable Sync false bytes versions is = is
-then_readable Replace true bytes versions is = settled_readable (Some bytes)
-then_readable Replace false bytes versions is = is
-then_readable Remove true bytes versions is = settled_readable None
-then_readable Remove false bytes versions is = is
-
-fold_readable : (calls : List Made) (disk : Disk) → ((n : Name) → Readable (disk n)) → (n : Name) → Readable (fold disk_then disk calls n)
-fold_readable [] disk is n = is n
-fold_readable (made ∷ calls) disk is n = fold_readable calls (disk_then disk made) (λ m. one (same_name made.name m) m (is m)) n
-  where
-    one : (b : Bool) (m : Name) → Readable (disk m) → Readable (cond b (versions_then made.deed made.done made.bytes (disk m)) (disk m))
-    one true m is = then_readable made.deed made.done made.bytes (disk m) is
-    one false m is = is
-
-pub readable : (calls : List Made) (n : Name) → Readable (disk_after calls n)
-readable calls n = fold_readable calls new_disk (λ m. tt) n
+use Rattle.dv_shelf.specs.Laws.{Readable, readable, stuck_short}
+use Rattle.dv_shelf.proofs.TornImages.{version_torn}
 
 -- a file without loose ranges has one image
 

@@ -12,9 +12,9 @@ use Rattle.dv_shelf.specs.Disks.{Made, Range, Version, Gone, There, Versions, Di
 use Rattle.dv_shelf.specs.Images.{Covers, furthest, IsFileImage, IsOneImage, LeftBy, settles}
 use Rattle.dv_shelf.specs.Samples.{IsUnsynced, torn_file}
 use Rattle.dv_shelf.proofs.DiskLemmas.{fold-append}
-use Rattle.dv_shelf.proofs.ImageLemmas.{readable, stuck_short}
+use Rattle.dv_shelf.specs.Laws.{readable, stuck_short, furthest-push}
 use Rattle.dv_shelf.proofs.Torn.{one_name, patched_torn}
-use Rattle.dv_shelf.proofs.TornImages.{furthest-push, patched_elsewhere}
+use Rattle.dv_shelf.proofs.TornImages.{patched_elsewhere}
 
 -- the files as a read gives them, with an image at one name, are an image
 pub image_put : (calls : List Made) (name : Name) (file : Option (List ℕ)) → IsOneImage (disk_after calls name) file → LeftBy calls (with_file (files_after calls) name file)

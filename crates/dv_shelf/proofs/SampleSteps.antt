@@ -13,7 +13,7 @@ use Rattle.dv_shelf.specs.declared.shelf.Name.TheVariants.{Log}
 use Rattle.dv_shelf.specs.declared.record.Call.{Call}
 use Rattle.dv_shelf.specs.Folders.{folder_of, with_file, contents, patched}
 use Rattle.dv_shelf.specs.Records.{made_call}
-use Rattle.dv_shelf.proofs.ImageLemmas.{readable}
+use Rattle.dv_shelf.specs.Laws.{readable}
 use Rattle.dv_shelf.proofs.ShelfLemmas.{with_same}
 use Rattle.dv_shelf.specs.Disks.{Made, disk_after, files_after}
 use Rattle.dv_shelf.specs.Images.{IsOneImage, LeftBy, settles}
