@@ -68,7 +68,8 @@ leaves_trace shelf bytes = is_reached (turn_of shelf.failures) && fits shelf (le
 abbrev pub calls_then : MemShelf → Name → Deed → List ℕ → List Made
 calls_then shelf name deed bytes =
     cond (leaves_trace shelf bytes)
-    (calls_of shelf ++ record { name = name; deed = deed; outcome = outcome_of shelf; bytes = bytes } ∷ [])
+    (calls_of shelf
+    ++ record { name = name; deed = deed; outcome = outcome_of shelf; bytes = bytes } ∷ [])
     (calls_of shelf)
 
 -- the room after one call more
