@@ -1,5 +1,5 @@
 -- What a shelf in memory holds.
-use Rattle.std.specs.Prelude.{◌≡◌, ◌-◌, not, Result, is_ok, is_err, ℕ, ◌+◌, Bool, true, false, ◌&&◌, nat_le, cond, List, [], ◌∷◌, ◌++◌, length, Option}
+use Rattle.std.specs.Prelude.{◌≡◌, ◌-◌, not, Result, is_ok, is_err, ℕ, ◌+◌, Bool, false, ◌&&◌, nat_le, cond, List, [], ◌∷◌, ◌++◌, length, Option}
 use Rattle.dv_shelf.specs.declared.shelf.Name.{Name}
 use Rattle.dv_shelf.specs.declared.record.Deed.{Deed}
 use Rattle.dv_shelf.specs.declared.record.Outcome.{Outcome}
