@@ -1,5 +1,6 @@
 -- What one call more makes of a disk.
 use Rattle.std.proofs.Common.{◌≡◌, ℕ, ◌+◌, ◌<◌, ◌≤◌, Bool, true, false, cond, List, [], ◌∷◌, ◌++◌, length, take, map, fold, get_or, Option, Some, None, unwrap_or, refl, sym, ◌∙◌, ap, subst, arith}
+use Rattle.std.proofs.lemmas.List.Sums.{fold-append}
 use Rattle.std.proofs.lemmas.List.{map-append, take_more, take_all, take-map}
 use Rattle.dv_shelf.specs.declared.shelf.Name.{Name}
 use Rattle.dv_shelf.specs.declared.record.Deed.{Deed}
@@ -10,10 +11,6 @@ use Rattle.dv_shelf.specs.declared.record.Call.{Call}
 use Rattle.dv_shelf.specs.Folders.{same_name, patched}
 use Rattle.dv_shelf.specs.Disks.{Made, Version, Versions, Gone, There, Disk, as_read, version_bytes, version_written, versions_then, settled_version, stuck, file_then, disk_then, new_disk, disk_after, files_after}
 use Rattle.dv_shelf.specs.Records.{made_call}
-
-pub fold-append : {A B : Type 0} (f : B → A → B) (b : B) (xs ys : List A) → fold f b (xs ++ ys) ≡ fold f (fold f b xs) ys
-fold-append f b [] ys = refl
-fold-append f b (x ∷ xs) ys = fold-append f (f b x) xs ys
 
 pub disk_more : (calls : List Made) (made : Made) → disk_after (calls ++ made ∷ []) ≡ disk_then (disk_after calls) made
 disk_more calls made = fold-append disk_then new_disk calls (made ∷ [])

@@ -2,6 +2,7 @@
 use Rattle.std.proofs.Common.{◌≡◌, ◌⊎◌, ℕ, ◌+◌, ◌<◌, ◌≤◌, Bool, true, false, ◌||◌, cond, List, [], ◌∷◌, ◌++◌, length, take, drop, Option, Some, None, refl, sym, ◌∙◌, ap, subst, arith, inl, inr, ⊎_elim, length-drop}
 use Rattle.std.specs.Prelude.{fold, unwrap_or}
 use Rattle.std.specs.List.{list_any}
+use Rattle.std.proofs.lemmas.List.Sums.{fold-append}
 use Rattle.std.proofs.lemmas.List.{take-append-drop, drop_more}
 use Rattle.dv_shelf.specs.declared.shelf.Name.{Name}
 use Rattle.dv_shelf.specs.declared.record.Deed.{Deed}
@@ -12,7 +13,6 @@ use Rattle.dv_shelf.specs.Folders.{with_file, patched, same_name}
 use Rattle.dv_shelf.specs.Disks.{Made, Range, Version, Gone, There, Versions, Disk, version_bytes, version_written, versions_then, stuck, disk_then, disk_after, new_disk, files_after, settles_file}
 use Rattle.dv_shelf.specs.Images.{Covers, furthest, IsFileImage, IsOneImage, LeftBy, settles}
 use Rattle.dv_shelf.specs.Samples.{IsUnsynced, torn_file}
-use Rattle.dv_shelf.proofs.DiskLemmas.{fold-append}
 use Rattle.dv_shelf.specs.Laws.{readable, stuck_short, furthest-push}
 use Rattle.dv_shelf.proofs.FolderLemmas.{same_is, is_same}
 use Rattle.dv_shelf.proofs.Torn.{patched_torn}
@@ -74,6 +74,20 @@ Covers-last : (written : List Range) (range : Range) (k : ℕ) → range.from �
 Covers-last [] range k low high = inl (low, high)
 Covers-last (r ∷ written) range k low high = inr (Covers-last written range k low high)
 
+-- a place that isn't in a range of n bytes lies outside the m first of them
+outside : (at m n k : ℕ) → m ≤ n → (at ≤ k → k < at + n → ⊥) → (k < at) ⊎ (at + m ≤ k)
+outside at m n k le never = by_low (cases_low k)
+  where
+    cases_low : (k : ℕ) → (k < at) ⊎ (at ≤ k)
+    cases_low k = grind arith
+
+    cases_high : (k : ℕ) → (k < at + n) ⊎ (at + n ≤ k)
+    cases_high k = grind arith
+
+    by_low : (k < at) ⊎ (at ≤ k) → (k < at) ⊎ (at + m ≤ k)
+    by_low (inl lt) = inl lt
+    by_low (inr ge) = ⊎_elim (λ lt. absurd (never ge lt)) (λ far. inr (omega arith)) (cases_high k)
+
 -- an image stays one while the file is only written
 image_keeps : (file : Option (List ℕ)) (version : Version) (at n : ℕ) (bytes : List ℕ) → length bytes ≤ n → IsFileImage version file → IsFileImage (version_written at n bytes version) file
 image_keeps None Gone at n bytes le is = refl
@@ -84,23 +98,10 @@ image_keeps (Some image) (There old base written new) at n bytes le is =
     let more = furthest-push written range in
     record {
       firm = λ k firm. is.firm k (λ loose. firm (⊎_elim (λ covers. inl (Covers-more written range k covers)) (λ past. inr past) loose))
-          ∙ sym (patched_elsewhere old at bytes k (outside k (λ low high. firm (inl (Covers-last written range k low high)))));
+          ∙ sym (patched_elsewhere old at bytes k (outside at (length bytes) n k le (λ low high. firm (inl (Covers-last written range k low high)))));
       no_shorter = is.no_shorter;
       no_longer = omega (arith, is.no_longer, more);
     }
-  where
-    outside : (k : ℕ) → (at ≤ k → k < at + n → ⊥) → (k < at) ⊎ (at + length bytes ≤ k)
-    outside k never = by_low (cases_low k)
-      where
-        cases_low : (k : ℕ) → (k < at) ⊎ (at ≤ k)
-        cases_low k = grind arith
-
-        cases_high : (k : ℕ) → (k < at + n) ⊎ (at + n ≤ k)
-        cases_high k = grind arith
-
-        by_low : (k < at) ⊎ (at ≤ k) → (k < at) ⊎ (at + length bytes ≤ k)
-        by_low (inl lt) = inl lt
-        by_low (inr ge) = ⊎_elim (λ lt. absurd (never ge lt)) (λ far. inr (omega arith)) (cases_high k)
 
 -- a range was written since the file was settled
 abbrev pub IsWritten : ℕ → ℕ → Version → Type 0
@@ -127,23 +128,10 @@ over_written at bytes Gone is written = absurd written
 over_written at bytes (There old base ranges new) is written =
     let torn = patched_torn old at bytes in
     record {
-      firm = λ k firm. patched_elsewhere old at bytes k (outside k (λ low high. firm (inl (written.0 k low high))));
+      firm = λ k firm. patched_elsewhere old at bytes k (outside at (length bytes) (length bytes) k (omega arith) (λ low high. firm (inl (written.0 k low high))));
       no_shorter = omega (arith, torn.no_shorter, is.no_shorter);
       no_longer = omega (arith, torn.no_longer, is.no_longer, written.1);
     }
-  where
-    outside : (k : ℕ) → (at ≤ k → k < at + length bytes → ⊥) → (k < at) ⊎ (at + length bytes ≤ k)
-    outside k never = by_low (cases_low k)
-      where
-        cases_low : (k : ℕ) → (k < at) ⊎ (at ≤ k)
-        cases_low k = grind arith
-
-        cases_high : (k : ℕ) → (k < at + length bytes) ⊎ (at + length bytes ≤ k)
-        cases_high k = grind arith
-
-        by_low : (k < at) ⊎ (at ≤ k) → (k < at) ⊎ (at + length bytes ≤ k)
-        by_low (inl lt) = inl lt
-        by_low (inr ge) = ⊎_elim (λ lt. absurd (never ge lt)) (λ far. inr far) (cases_high k)
 
 -- what holds of a state just after an unsynced write, and is kept by writes, holds of the state now
 after_keeps : (P : Version → Type 0) → ((version : Version) (at n : ℕ) (bytes : List ℕ) → length bytes ≤ n → P version → P (version_written at n bytes version))

@@ -1,6 +1,6 @@
 -- A record that grows keeps the calls that it had.
 use Rattle.std.proofs.Common.{◌||◌, suc, zero, ◌≡◌, ℕ, ◌+◌, ◌<◌, ◌≤◌, Bool, List, get_or, [], ◌∷◌, ◌++◌, length, take, drop, map, Contains, length-drop, true, false, if◌then◌else◌, refl, sym, ◌∙◌, ap, subst, arith, ⊎_elim}
-use Rattle.std.proofs.lemmas.List.{take-append-le, take-append-drop, drop-append-le, map-append, drop_at, take_all}
+use Rattle.std.proofs.lemmas.List.{take-append-le, take-append-drop, drop-append-le, drop-map, map-append, drop_at, take_all}
 use Rattle.std.proofs.lemmas.List.Elements.{Contains-append_right, Contains-append_left, Contains-push_cases, Contains-get_or}
 use Rattle.std.specs.List.{list_any}
 use Rattle.dv_shelf.specs.declared.shelf.Name.{Name}
@@ -49,11 +49,6 @@ seen_within calls seen n i within count is d lt =
     let one = get_or seen i d in
     let first : Contains (take count calls) one = subst (λ (l : List Call). Contains l one) is (Contains-get_or seen i d lt) in
     within one (subst (λ (l : List Call). Contains l one) (take-append-drop count calls) (Contains-append_left (take count calls) (drop count calls) one first))
-
-pub drop-map : {A B : Type 0} (f : A → B) (n : ℕ) (xs : List A) → drop n (map f xs) ≡ map f (drop n xs)
-drop-map f zero xs = refl
-drop-map f (suc n) [] = refl
-drop-map f (suc n) (x ∷ xs) = drop-map f n xs
 
 any_settles-map : (bytes : List ℕ) (calls : List Call) (name : Name) → list_any (settles name) (map (made_call bytes) calls) ≡ list_any (λ c. settles_file name c.name c.deed c.outcome) calls
 any_settles-map bytes [] name = refl

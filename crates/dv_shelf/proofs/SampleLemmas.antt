@@ -5,7 +5,7 @@ use Rattle.std.proofs.lemmas.List.{take_more, take_all}
 use Rattle.std.proofs.lemmas.List.Folds.{list_any-append}
 use Rattle.dv_shelf.specs.declared.shelf.Name.{Name}
 use Rattle.dv_shelf.specs.Folders.{Folder, folder_of, no_files, with_file, file_list, same_name, has_name}
-use Rattle.dv_shelf.proofs.DiskLemmas.{fold-append}
+use Rattle.std.proofs.lemmas.List.Sums.{fold-append}
 use Rattle.dv_shelf.proofs.NameLemmas.{has_none}
 use Rattle.dv_shelf.specs.Samples.{AreNamesWith}
 use Rattle.dv_shelf.proofs.FolderLemmas.{same_is}

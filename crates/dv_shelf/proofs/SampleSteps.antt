@@ -93,25 +93,23 @@ torn_each calls made at [] all file has = absurd has
 torn_each calls made at (f ∷ firsts) all file (inl is) = subst (IsOneImage (disk_after calls made.name)) (sym is) (all f)
 torn_each calls made at (f ∷ firsts) all file (inr is) = torn_each calls made at firsts all file is
 
+-- a place up to the last one
+by_last : (i j : ℕ) → j < i + 1 → (j < i) ⊎ (j ≡ i)
+by_last i j le = grind arith
+
 -- the samples of one call more
 pub samples_more : (calls : List Made) (i : ℕ) (old new : Images) → i < length calls → SamplesUpto calls i old → AddsSamples calls i old new → SamplesUpto calls (i + 1) new
 samples_more calls i old new lt upto (inl (none, same)) = subst (SamplesUpto calls (i + 1)) (sym same) (record {
   each = upto.each;
   files = upto.files;
-  writes = λ j made at le is. ⊎_elim (λ less. upto.writes j made at less is) (λ last. absurd (none made at (subst (λ (k : ℕ). IsUnsynced calls k made at) last is))) (by_last j le);
+  writes = λ j made at le is. ⊎_elim (λ less. upto.writes j made at less is) (λ last. absurd (none made at (subst (λ (k : ℕ). IsUnsynced calls k made at) last is))) (by_last i j le);
 })
-  where
-    by_last : (j : ℕ) → j < i + 1 → (j < i) ⊎ (j ≡ i)
-    by_last j le = grind arith
 samples_more calls i old new lt upto (inr (made, (at, (unsynced, adds)))) = record {
   each = images_each calls made.name (sample_files calls i made at) old new adds each upto.each;
   files = images_mono (λ image. folder_of image ≡ files_after calls) calls made.name (sample_files calls i made at) old new adds upto.files;
-  writes = λ j other at' le is. ⊎_elim (λ less. kept other j at' (upto.writes j other at' less is)) (λ last. last_write other at' j last is) (by_last j le);
+  writes = λ j other at' le is. ⊎_elim (λ less. kept other j at' (upto.writes j other at' less is)) (λ last. last_write other at' j last is) (by_last i j le);
 }
   where
-    by_last : (j : ℕ) → j < i + 1 → (j < i) ⊎ (j ≡ i)
-    by_last j le = grind arith
-
     each : (file : Option (List ℕ)) → OneOf (sample_files calls i made at) file → IsOneImage (disk_after calls made.name) file
     each file (inl is) = subst (IsOneImage (disk_after calls made.name)) (sym is) (old_image calls i made at lt unsynced)
     each file (inr is) = torn_each calls made at (first_bytes made.bytes) (torn_image calls i made at lt unsynced) file is
@@ -193,10 +191,6 @@ written_samples bytes calls i call at file shown old mid new lt there write with
 pub torn_rest : (calls : List Made) (name : Name) (at first : ℕ) (rest bytes : List ℕ) (old new : Images) → rest ≡ drop 1 bytes
     → AddsImage calls name (torn_with calls name at rest first) old new → AddsImage calls name (torn_with calls name at (drop 1 bytes) first) old new
 torn_rest calls name at first rest bytes old new is adds = subst (λ (r : List ℕ). AddsImage calls name (torn_with calls name at r first) old new) is adds
-
-pub length-made : (bytes : List ℕ) (calls : List Call) → length (map (made_call bytes) calls) ≡ length calls
-length-made bytes [] = refl
-length-made bytes (call ∷ calls) = ap suc (length-made bytes calls)
 
 -- an unsettled write was handed some bytes
 pub some_shown : (bytes : List ℕ) (call : Call) (later : Bool) (shown : List ℕ) → call.from + call.len ≤ length bytes → nat_lt 0 call.len && later ≡ true → shown ≡ take call.len (drop call.from bytes) → 0 < length shown
