@@ -36,7 +36,8 @@ with_else folder name file n other = by_name (same_name name n) refl
 pub with_same : (folder : Folder) (name : Name) → with_file folder name (folder name) ≡ folder
 with_same folder name = fun_ext (λ n. by_name n (same_name name n) refl)
   where
-    by_name : (n : Name) (b : Bool) → same_name name n ≡ b → cond b (folder name) (folder n) ≡ folder n
+    by_name : (n : Name) (b : Bool) → same_name name n ≡ b
+        → cond b (folder name) (folder n) ≡ folder n
     by_name n true same = ap folder (same_is name n same)
     by_name n false other = refl
 

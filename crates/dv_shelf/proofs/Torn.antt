@@ -13,13 +13,17 @@ take-take (suc m) zero xs le = absurd (omega arith)
 take-take (suc m) (suc n) [] le = refl
 take-take (suc m) (suc n) (x ∷ xs) le = ap (λ (l : List ℕ). x ∷ l) (take-take m n xs (omega arith))
 
-pub patched_torn : (old : List ℕ) (at : ℕ) (bytes : List ℕ) → Torn at (length bytes) old (patched old at bytes)
+pub patched_torn : (old : List ℕ) (at : ℕ) (bytes : List ℕ)
+    → Torn at (length bytes) old (patched old at bytes)
 patched_torn old at bytes =
     let zeros = replicate {A = ℕ} (at - length old) 0 in
     let a = take at (old ++ zeros) in
     let m = min at (length old) in
     let rest = drop (at + length bytes) old in
-    let long : length a ≡ at = omega (arith, length-take at (old ++ zeros), length-append old zeros, length-replicate {A = ℕ} (at - length old) 0) in
+    let long : length a ≡ at =
+    omega
+    (arith, length-take at (old ++ zeros), length-append old zeros, length-replicate {A = ℕ} (at - length old) 0)
+    in
     let both : length (a ++ bytes) ≡ at + length bytes = omega (arith, length-append a bytes) in
     let size = patched_length old at bytes in
     record {
@@ -29,10 +33,12 @@ patched_torn old at bytes =
       no_longer = size.no_longer;
     }
 
-torn_file : (file : Option (List ℕ)) (at : ℕ) (bytes : List ℕ) → TornFile at (length bytes) file (Some (patched (unwrap_or file []) at bytes))
+torn_file : (file : Option (List ℕ)) (at : ℕ) (bytes : List ℕ)
+    → TornFile at (length bytes) file (Some (patched (unwrap_or file []) at bytes))
 torn_file None at bytes = patched_torn [] at bytes
 torn_file (Some old) at bytes = patched_torn old at bytes
 
 pub patched_changes : (folder : Folder) (n : Name) (at : ℕ) (bytes : List ℕ)
     → ChangesOnly n (TornFile at (length bytes)) folder (with_file folder n (Some (patched (contents folder n) at bytes)))
-patched_changes folder n at bytes = file_changes folder n (TornFile at (length bytes)) _ (torn_file (folder n) at bytes)
+patched_changes folder n at bytes =
+    file_changes folder n (TornFile at (length bytes)) _ (torn_file (folder n) at bytes)

@@ -142,6 +142,13 @@ file_then Sync outcome bytes file = file
 file_then Replace outcome bytes file = cond (is_seen outcome) (Some bytes) file
 file_then Remove outcome bytes file = cond (is_seen outcome) None file
 
+-- whether a call makes bytes that a read gives of its file
+abbrev pub makes_bytes : Deed → Outcome → Bool
+makes_bytes (Write at) outcome = true
+makes_bytes Sync outcome = false
+makes_bytes Replace outcome = is_seen outcome
+makes_bytes Remove outcome = false
+
 -- whether a file is there, after one more call on it
 abbrev pub there_then : Deed → Outcome → Bool → Bool
 there_then (Write at) outcome there = true

@@ -1,6 +1,6 @@
-ghost use Rattle.std.specs.Prelude.{◌≡◌, ◌-◌, ◌++◌, [], length, take, replicate, unwrap_or, IfOk};
+ghost use Rattle.std.specs.Prelude.{◌≡◌, ◌-◌, ◌++◌, [], length, take, replicate, unwrap_or, false, IfOk, IsOk};
 ghost use Rattle.dv_shelf.specs.Folders.{patched, same_name, has_name, name_number};
-ghost use Rattle.dv_shelf.specs.Disks.{file_then, stuck};
+ghost use Rattle.dv_shelf.specs.Disks.{file_then, makes_bytes, stuck};
 
 use crate::Name;
 use crate::record::{Deed, Outcome, is_done, is_seen};
@@ -82,7 +82,9 @@ pub fn file_then(
     bytes: &[u8],
     file: Option<Bytes>,
 ) -> Result<Option<Bytes>, NoMemory>
-    ensures { IfOk result (λ made. made ≡ file_then deed outcome bytes.now file) }
+    ensures made { IfOk result (λ made. made ≡ file_then deed outcome bytes.now file) }
+    // Where no bytes are made, no memory is taken.
+    ensures succeeds { makes_bytes deed outcome ≡ false → IsOk result }
 {
     match deed {
         Deed::Write { at } => Ok(Some(written(alloc, at, stuck(outcome, bytes), file)?)),
