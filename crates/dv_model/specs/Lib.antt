@@ -4,8 +4,10 @@ pub mod Effects
 pub mod Spelling
 pub mod Fields
 pub mod BoxTexts
+pub mod Counts
 pub mod Journals
 pub mod Views
+pub mod Fresh
 pub mod Sets
 pub mod Searches
 pub mod Sessions

@@ -1,5 +1,6 @@
 ghost use Rattle.std.specs.Prelude.{◌≡◌, IfOk};
 
+use crate::OpenFault;
 use std::alloc::{AllocError, AllocFailed, Global};
 
 /// Memory ran out.
@@ -15,6 +16,16 @@ impl From<AllocError> for NoMemory {
 impl<T: Drop> From<AllocFailed<T>> for NoMemory {
     fn from(_: AllocFailed<T>) -> NoMemory {
         NoMemory
+    }
+}
+
+impl From<NoMemory> for OpenFault {
+    ghost use Rattle.dv_model.specs.declared.types.OpenFault.TheVariants as open_fault;
+
+    ghost from_gives = { λ _ fault. fault ≡ open_fault.NoMemory };
+
+    fn from(_: NoMemory) -> OpenFault {
+        OpenFault::NoMemory
     }
 }
 
