@@ -3,3 +3,4 @@ pub mod Appends
 pub mod Speaking
 pub mod Searching
 pub mod Clients
+pub mod Marks
