@@ -7,7 +7,7 @@ mod list;
 mod memory;
 mod types;
 
-pub use laws::{client_has_view, marks_rise, runs_go_on, transcripts_go_on};
+pub use laws::{client_has_view, marks_rise, runs_go_on, serial_is_spoken, transcripts_go_on};
 pub use list::{Bytes, List};
 pub use memory::{Duplicate, NoMemory};
 pub use sqlite_items::{Boxed, Items};
