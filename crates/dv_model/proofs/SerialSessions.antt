@@ -44,9 +44,12 @@ module _ (log : Log) (base s : ℕ) where
           let e = w.behind in
           let f = own.later in
           let here : k ≡ met = omega arith in
-          let is : slice_get log.entries met ≡ Some own.entry = subst (λ (n : ℕ). slice_get log.entries n ≡ Some own.entry) here own.is in
-          (let same : Some own.entry ≡ Some (record { author = author; group = _ }) = sym is ∙ w.entry in
-           let by : own.entry.author ≡ author = cc in sym by ∙ own.by, here, omega arith)
+          let is : slice_get log.entries met ≡ Some own.entry = subst (λ (n : ℕ). slice_get log.entries n ≡ Some own.entry) here own.is in (
+            let same : Some own.entry ≡ Some (record { author = author; group = _ }) = sym is ∙ w.entry in
+                let by : own.entry.author ≡ author = cc in sym by ∙ own.by,
+            here,
+            omega arith,
+          )
 
   -- a session is told of no more entries than there are behind its answer
   answered_told : (author met q : ℕ) (x : State) (c : Command) (replies : List Reply) (y : State) → x.told ≤ met → Answered log base author met q x c replies y → y.told ≤ q
@@ -127,8 +130,8 @@ module _ (log : Log) (base s : ℕ) where
       let first = answered_up log base line.0 met r.0 (states line.0) line.1 said r.1 r.2 in
       let others = runs_up log base (with_state states line.0 r.1) r.0 lines replies after q r.3 in
       one_more states met r.0 r.1 line lines said replies after q (told s) (omega arith) r.2
-        (runs_turns (with_state states line.0 r.1) r.0 lines replies after q (λ t. next_told t (nat_eq line.0 t)) le r.3)
-        (nat_eq line.0 s) refl
+      (runs_turns (with_state states line.0 r.1) r.0 lines replies after q (λ t. next_told t (nat_eq line.0 t)) le r.3)
+      (nat_eq line.0 s) refl
     where
       next_told : (t : ℕ) (b : Bool) → (cond b r.1 (states t)).told ≤ r.0
       next_told t true = answered_told line.0 met r.0 (states line.0) line.1 said r.1 (told line.0) r.2
@@ -154,7 +157,7 @@ module _ (s : ℕ) where
   commands_taken (line ∷ lines) (said ∷ replies) =
       let rest = commands_taken lines replies in
       elim (nat_eq line.0 s) as (λ (b : Bool). and_command b line (take (length replies) lines)
-          ≡ take (length (cond b (said ∷ replies_of s lines replies) (replies_of s lines replies))) (and_command b line lines)) [
+      ≡ take (length (cond b (said ∷ replies_of s lines replies) (replies_of s lines replies))) (and_command b line lines)) [
         | true ↦ ap (λ (cs : List Command). line.1 ∷ cs) rest
         | false ↦ rest
       ]
@@ -166,7 +169,7 @@ module _ (s : ℕ) where
   commands_dropped (line ∷ lines) (said ∷ replies) =
       let rest = commands_dropped lines replies in
       elim (nat_eq line.0 s) as (λ (b : Bool). drop (length (cond b (said ∷ replies_of s lines replies) (replies_of s lines replies))) (and_command b line lines)
-          ≡ commands_of s (drop (length replies) lines)) [
+      ≡ commands_of s (drop (length replies) lines)) [
         | true ↦ rest
         | false ↦ rest
       ]
@@ -185,7 +188,7 @@ module _ (log : Log) (base faults : ℕ) (lines : List Line) (replies : List (Li
   turns_of : Turns log base s new_session 0 answered replies (serial.states s) serial.written
   turns_of =
       runs_turns log base s (λ t. new_session) 0 answered replies serial.states serial.written (λ t. omega arith)
-        (ends_there log serial.states serial.written (drop (length replies) lines) serial.ends) serial.answered
+      (ends_there log serial.states serial.written (drop (length replies) lines) serial.ends) serial.answered
 
   abbrev speaks : Speaks log base s (commands_of s lines) (replies_of s lines replies)
   speaks = record {
