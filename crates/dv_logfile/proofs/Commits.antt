@@ -59,7 +59,6 @@ rest_of text slice behind back same = back ∙ ap (λ (l : List ℕ). drop 1 l) 
 
 module _ {S : Type 0} {files : S → Folder} {may_leave : S → Folder → Type 0} {moment : S → ℕ} {left_since : S → ℕ → Folder → Type 0} {s0 s2 : S}
     (text : List ℕ) (group : IsGroupText text) {slice behind : List ℕ} (back : behind ≡ drop 1 slice) (same : slice ≡ text) (old : LogFile) where
-
   -- the first write or its sync failed
   module _ {T E U F : Type 0} (fault : E) (due : old.debt ≡ debt.None) {f : F} (first : WritesSynced files may_leave moment left_since (old.end + 1) behind {T = U} (Err f) s0 s2) where
     pub first_bytes : WritesGroup text old old {T = T} (Err fault) (files s0) (files s2)

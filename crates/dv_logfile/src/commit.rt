@@ -70,7 +70,7 @@ impl LogFile {
         ensures reading { S.tells →
             IsAtRest Debt.None self.old.end text.now (S.may_leave shelf.old) →
             ReadsGroup S.may_leave S.moment S.left_since
-                text.now self.old self.new result shelf.old shelf.new }
+            text.now self.old self.new result shelf.old shelf.new }
 
         // No message file is read; a fault of the disk has its cause.
         ensures mail_reads { S.mail_reads shelf.new ≡ S.mail_reads shelf.old }
@@ -114,7 +114,7 @@ impl LogFile {
         ensures reading { (text : List ℕ) → IsGroupText text → S.tells →
             IsAtRest self.old.debt self.old.end text (S.may_leave shelf.old) →
             ReadsHealed S.may_leave S.moment S.left_since
-                text self.old self.new result shelf.old shelf.new }
+            text self.old self.new result shelf.old shelf.new }
 
         // No message file is read; a fault of the disk has its cause.
         ensures mail_reads { S.mail_reads shelf.new ≡ S.mail_reads shelf.old }

@@ -45,7 +45,7 @@ returns-clause-writes g c = λ tells.
     let crash : (f : Folder) → S.may_leave s2 f → FromOneOf (S.may_leave s0) step f = λ f left. c.write_at.ensures.crash tells f (c.sync.ensures.crash tells f left) in
     record {
       ok = on_ok c.sync.result wrote;
-      err = on_err c.sync.result (subst (step (S.files s0)) (sym wrote) (patched_changes (S.files s0) Log c.args.at bytes));
+      err = on_err c.sync.result (subst (step (S.files s0)) (sym {b = S.files s2} wrote) (patched_changes (S.files s0) Log c.args.at bytes));
       durable = c.sync.ensures.durable tells;
       crash = crash;
       since = goes_on S.moment S.left_since s0 c.write_at.new.self s2 (FromOneOf (S.may_leave s0) step) (S.may_leave s2) first (c.sync.ensures.time tells) crash;
