@@ -1,61 +1,14 @@
 -- What a shelf in memory keeps of the laws of the trait: the files are one outcome of a crash, and
 -- what it may leave now is what it might have left at some time and what it might have left last.
-use Rattle.std.proofs.Common.{
-  ◌≡◌,
-  ℕ,
-  ◌+◌,
-  ◌-◌,
-  ◌/◌,
-  ◌≤◌,
-  max,
-  Bool,
-  true,
-  false,
-  cond,
-  List,
-  [],
-  ◌∷◌,
-  ◌++◌,
-  length,
-  take,
-  drop,
-  replicate,
-  fold,
-  Option,
-  Some,
-  None,
-  refl,
-  sym,
-  subst,
-  arith,
-  inl,
-  length-append,
-  length-drop,
-}
+use Rattle.std.proofs.Common.{◌≡◌, ℕ, ◌+◌, ◌-◌, ◌/◌, ◌≤◌, max, Bool, true, false, cond, List, [], ◌∷◌, ◌++◌, length, take, drop, replicate, fold, Option, Some, None, refl, sym, subst, arith, inl, length-append, length-drop}
 use Rattle.std.proofs.lemmas.List.{take_all, length-take, length-replicate}
 use Rattle.dv_shelf.specs.declared.shelf.Name.{Name}
 use Rattle.dv_shelf.specs.declared.record.Deed.{Deed}
 use Rattle.dv_shelf.specs.declared.record.Deed.TheVariants.{Write, Sync, Replace, Remove}
+use Rattle.dv_shelf.specs.declared.record.Outcome.{Outcome}
+use Rattle.dv_shelf.specs.declared.record.Outcome.TheVariants.{Done, Hidden, Shown}
 use Rattle.dv_shelf.specs.Folders.{Folder, patched, same_name}
-use Rattle.dv_shelf.specs.Disks.{
-  Made,
-  Range,
-  Version,
-  Gone,
-  There,
-  Versions,
-  Disk,
-  version_bytes,
-  version_written,
-  versions_then,
-  settled_version,
-  stuck,
-  as_read,
-  disk_then,
-  disk_after,
-  new_disk,
-  files_after,
-}
+use Rattle.dv_shelf.specs.Disks.{Made, Range, Version, Gone, There, Versions, Disk, version_bytes, version_written, versions_then, settled_version, stuck, as_read, disk_then, disk_after, new_disk, files_after}
 use Rattle.dv_shelf.specs.Images.{furthest, IsTornImage, IsFileImage, LeftBy, LeftSince}
 
 -- a write makes no file shorter, and none longer than the old one and its own end
@@ -75,9 +28,10 @@ patched_length old at bytes =
     let less = length-drop (at + length bytes) old in
     record { no_shorter = omega (arith, all, less, both); no_longer = omega (arith, all, less, both) }
 
-pub stuck_short : (done : Bool) (bytes : List ℕ) → length (stuck done bytes) ≤ length bytes
-stuck_short true bytes = omega arith
-stuck_short false bytes = omega (arith, length-take (length bytes / 2) bytes)
+pub stuck_short : (outcome : Outcome) (bytes : List ℕ) → length (stuck outcome bytes) ≤ length bytes
+stuck_short Done bytes = omega arith
+stuck_short Hidden bytes = omega (arith, length-take (length bytes / 2) bytes)
+stuck_short Shown bytes = omega (arith, length-take (length bytes / 2) bytes)
 
 pub furthest-push : (written : List Range) (range : Range)
     → furthest (written ++ range ∷ []) ≡ max (furthest written) range.upto
@@ -113,16 +67,19 @@ written_readable at n stuck (There bytes base written new) le is =
 abbrev pub Readable : Versions → Type 0
 Readable versions = IsFileImage versions.first (as_read versions)
 
-then_readable : (deed : Deed) (done : Bool) (bytes : List ℕ) (versions : Versions)
-    → Readable versions → Readable (versions_then deed done bytes versions)
-then_readable (Write at) done bytes versions is =
-    written_readable at (length bytes) (stuck done bytes) versions.first (stuck_short done bytes) is
-then_readable Sync true bytes versions is = settled_readable (as_read versions)
-then_readable Sync false bytes versions is = is
-then_readable Replace true bytes versions is = settled_readable (Some bytes)
-then_readable Replace false bytes versions is = is
-then_readable Remove true bytes versions is = settled_readable None
-then_readable Remove false bytes versions is = is
+then_readable : (deed : Deed) (outcome : Outcome) (bytes : List ℕ) (versions : Versions)
+    → Readable versions → Readable (versions_then deed outcome bytes versions)
+then_readable (Write at) outcome bytes versions is =
+    written_readable at (length bytes) (stuck outcome bytes) versions.first (stuck_short outcome bytes) is
+then_readable Sync Done bytes versions is = settled_readable (as_read versions)
+then_readable Sync Hidden bytes versions is = is
+then_readable Sync Shown bytes versions is = is
+then_readable Replace Done bytes versions is = settled_readable (Some bytes)
+then_readable Replace Hidden bytes versions is = is
+then_readable Replace Shown bytes versions is = settled_readable (Some bytes)
+then_readable Remove Done bytes versions is = settled_readable None
+then_readable Remove Hidden bytes versions is = is
+then_readable Remove Shown bytes versions is = settled_readable None
 
 fold_readable : (calls : List Made) (disk : Disk) → ((n : Name) → Readable (disk n))
     → (n : Name) → Readable (fold disk_then disk calls n)
@@ -131,8 +88,8 @@ fold_readable (made ∷ calls) disk is n =
     fold_readable calls (disk_then disk made) (λ m. one (same_name made.name m) m (is m)) n
   where
     one : (b : Bool) (m : Name) → Readable (disk m)
-        → Readable (cond b (versions_then made.deed made.done made.bytes (disk m)) (disk m))
-    one true m is = then_readable made.deed made.done made.bytes (disk m) is
+        → Readable (cond b (versions_then made.deed made.outcome made.bytes (disk m)) (disk m))
+    one true m is = then_readable made.deed made.outcome made.bytes (disk m) is
     one false m is = is
 
 pub readable : (calls : List Made) (n : Name) → Readable (disk_after calls n)
