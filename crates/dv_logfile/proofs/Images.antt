@@ -72,7 +72,7 @@ module _ (e : ℕ) (text behind : List ℕ) (some_text : 1 ≤ length text) (is 
 -- ---- every moment
 
 module _ {S : Type 0} (moment : S → ℕ) (left_since : S → ℕ → Folder → Type 0) (may_leave : S → Folder → Type 0) (e : ℕ) (text : List ℕ) (old new : S) where
-  abbrev Since : Type 0
+  abbrev pub Since : Type 0
   Since = LeavesOnly moment left_since old new (FromOneOf (may_leave old) (λ d f. IsBeforeOrAfter d e text f))
 
   -- where the files alone could be left

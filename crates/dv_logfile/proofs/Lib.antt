@@ -3,6 +3,8 @@ mod Moments
 mod Gate
 pub mod Groups
 mod Images
+mod Commits
+mod Heals
 pub mod Logs
 pub mod Patches
 pub mod Reading
