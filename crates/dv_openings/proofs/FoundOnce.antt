@@ -39,7 +39,7 @@ found_one folder f g one other =
     let same : one.log ≡ other.log = scans_one (folder name.Log) one.log other.log one.log_file other.log_file in
     one.is
     ∙ beside_one (folder name.Log2) (folder name.Index) one.log one.rotated other.rotated one.index other.index
-        one.rotated_file (subst (λ log. IfGood log (IsScanned (folder name.Log2) other.rotated)) (sym same) other.rotated_file)
-        one.index_file (subst (λ log. IfGood log (IsIndex (folder name.Index) other.index)) (sym same) other.index_file)
+    one.rotated_file (subst (λ log. IfGood log (IsScanned (folder name.Log2) other.rotated)) (sym same) other.rotated_file)
+    one.index_file (subst (λ log. IfGood log (IsIndex (folder name.Index) other.index)) (sym same) other.index_file)
     ∙ ap (λ log. found_in log other.rotated other.index) same
     ∙ sym other.is
