@@ -16,10 +16,11 @@ use Rattle.dv_model.specs.Effects.{applied}
 use Rattle.dv_model.specs.Journals.{Log, Mail, Held, IsSound, at, mark_of, new_guid}
 use Rattle.dv_model.specs.Mailboxes.{IsValid}
 use Rattle.dv_model.specs.Sessions.{State, answer, group_of, refusal_of}
-use Rattle.dv_model.specs.Transcripts.{HasWritten, KeepsMessage}
+use Rattle.dv_model.specs.Transcripts.{HasWritten, KeepsMessage, refused_at}
 use Rattle.dv_model.specs.Views.{View}
 use Rattle.dv_model.proofs.Speaking.{stays_there}
 use Rattle.dv_model.proofs.Transcripts.{applied_append, at_grown, mark_grown}
+use Rattle.dv_interleavings.specs.Promises.{GoesOn}
 use Rattle.dv_interleavings.specs.Worlds.{Pending, with_entry, with_message}
 use Rattle.dv_validity.proofs.Numbers.{records_keep}
 use Rattle.dv_validity.proofs.Records.{all_in_range_valid}
@@ -62,11 +63,10 @@ records_in_range (e ∷ es) all =
     All-append (λ (r : Record). IsInRange r.body) e.group.records (records_of es) (All-head (λ (e : Entry). AreInRange e.group) e es all)
     (records_in_range es (All-tail (λ (e : Entry). AreInRange e.group) e es all))
 
--- its start is valid and its records are in range, so each prefix has a valid mailbox
+-- it is sound and its records are in range, so each prefix has a valid mailbox
 pub record IsWhole (log : Log) : Type 0 where
-  pub start : IsValid log.start
-  pub range : All (λ e. AreInRange e.group) log.entries
   pub sound : IsSound log
+  pub range : All (λ e. AreInRange e.group) log.entries
 
 -- records lead from one to the other
 pub record Leads (m n : Mailbox) : Type 0 where
@@ -80,7 +80,7 @@ some_value f o x y is e = ap (option_and_then f) (sym is) ∙ e
 module _ (log : Log) (whole : IsWhole log) where
   pub valid_at : (k : ℕ) (m : Mailbox) → at log k ≡ Some m → IsValid m
   valid_at k m is =
-      all_in_range_valid log.start m (records_of (take k log.entries)) whole.start
+      all_in_range_valid log.start m (records_of (take k log.entries)) whole.sound.start.0
       (records_in_range (take k log.entries) (All-take (λ (e : Entry). AreInRange e.group) k log.entries whole.range)) is
 
   pub leads_at : (j k : ℕ) (m n : Mailbox) → j ≤ k → at log j ≡ Some m → at log k ≡ Some n → Leads m n
@@ -114,7 +114,7 @@ module _ (log : Log) (whole : IsWhole log) where
 
   -- there is a mailbox
   pub some_at : (k : ℕ) → k ≤ length log.entries → (m : Mailbox) × (at log k ≡ Some m)
-  some_at k le = value (at log k) refl (whole.sound k le)
+  some_at k le = value (at log k) refl (whole.sound.mailboxes k le)
     where
       value : (o : Option Mailbox) → at log k ≡ o → IsSome o → (m : Mailbox) × (at log k ≡ Some m)
       value None is some = absurd cc
@@ -122,16 +122,27 @@ module _ (log : Log) (whole : IsWhole log) where
 
 -- ---- a log that goes on
 
--- its first entries, mailboxes, marks, groups, refusals and answers are as before
+-- it goes on, and its first marks, groups, refusals and answers are as before
 pub record Extends (log more : Log) : Type 0 where
+  pub goes_on : GoesOn log more
   pub longer : length log.entries ≤ length more.entries
   pub same_at : (k : ℕ) → k ≤ length log.entries → at more k ≡ at log k
   pub same_mark : (k : ℕ) → k ≤ length log.entries → mark_of more k ≡ mark_of log k
   pub entry : (k : ℕ) (e : Entry) → slice_get log.entries k ≡ Some e → slice_get more.entries k ≡ Some e
   pub group : (k : ℕ) (m : Mailbox) (c : Command) (v : View) → k ≤ length log.entries → at log k ≡ Some m → group_of c v m log.guid ≡ group_of c v m more.guid
-  pub refusal : (k : ℕ) (m : Mailbox) (x : State) (c : Command) (mark : Mark) → k ≤ length log.entries → at log k ≡ Some m → refusal_of x c m mark log.guid ≡ refusal_of x c m mark more.guid
+  pub refusal : (k : ℕ) (m : Mailbox) (x : State) (c : Command) → k ≤ length log.entries → at log k ≡ Some m → refused_at more k x c m ≡ refused_at log k x c m
   pub same_answer : (k : ℕ) (m : Mailbox) (x : State) (c : Command) (met : Mailbox) (mark : Mark) → k ≤ length log.entries → at log k ≡ Some m → answer log.mail x c met k m mark ≡ answer more.mail x c met k m mark
   pub message : (s k q : ℕ) (m : Mailbox) (c : Command) (v : View) → at log k ≡ Some m → HasWritten log s k q v c m → KeepsMessage more c m
+
+pub same_log : (log : Log) → GoesOn log log
+same_log log = record {
+  start = (refl, refl);
+  files = (refl, refl);
+  more = [];
+  entries = sym (append-nil log.entries);
+  mailboxes = λ k le. refl;
+  messages = λ k uid m le is low. (refl, refl);
+}
 
 -- the same start, more entries, and messages and GUIDs that agree where UIDs were given out
 module _ (log : Log) (whole : IsWhole log) (last : Mailbox) (is_last : at log (length log.entries) ≡ Some last) (mail : ℕ → Mail) (guid : ℕ → List ℕ)
@@ -151,12 +162,23 @@ module _ (log : Log) (whole : IsWhole log) (last : Mailbox) (is_last : at log (l
 
   pub extends : Extends log (record log { entries = log.entries ++ es; mail = mail; guid = guid })
   extends = record {
+    goes_on = record {
+      start = (refl, refl);
+      files = (refl, refl);
+      more = es;
+      entries = refl;
+      mailboxes = at_grown log es;
+      messages = λ k uid m le is low.
+          (sym (below log.mail mail k m le is same_mail uid low), sym (below log.guid guid k m le is same_guid uid low));
+    };
     longer = omega (arith, length-append log.entries es);
     same_at = at_grown log es;
     same_mark = mark_grown log es;
     entry = λ k e there. stays_there log.entries es k e there;
     group = λ k m c v le is. group_agree m (valid_at log whole k m is) log.guid guid (below log.guid guid k m le is same_guid) c v;
-    refusal = λ k m x c mark le is. refusal_agree m (valid_at log whole k m is) log.guid guid (below log.guid guid k m le is same_guid) x c mark;
+    refusal = λ k m x c le is.
+        ap (λ (mark : Mark). refusal_of x c m log.rotates mark guid) (mark_grown log es k le)
+        ∙ sym (refusal_agree m (valid_at log whole k m is) log.guid guid (below log.guid guid k m le is same_guid) x c log.rotates (mark_of log k));
     same_answer = λ k m x c met mark le is. answer_agree m (valid_at log whole k m is) log.mail mail (below log.mail mail k m le is same_mail) x c met k mark;
     message = keeps;
   }

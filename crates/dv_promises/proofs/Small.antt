@@ -36,7 +36,6 @@ live_by log less more pending other s session le live tried = record {
 
 pub healed : (w : World) → Stands w → Stands (happens w Heal)
 healed w stands = record {
-  start = stands.start;
   range = stands.range;
   sound = stands.sound;
   published = stands.published;
@@ -49,7 +48,6 @@ healed w stands = record {
 
 pub published : (w : World) → Stands w → Stands (happens w Publish)
 published w stands = record {
-  start = stands.start;
   range = stands.range;
   sound = stands.sound;
   published = omega arith;
@@ -120,7 +118,6 @@ opens w s stands = by_session (w.sessions s) refl
     by_session : (o : Option Session) → w.sessions s ≡ o → Stands (opened w s)
     by_session (Some session) is = rw is stands
     by_session None is = rw is (record {
-      start = stands.start;
       range = stands.range;
       sound = stands.sound;
       published = stands.published;
@@ -169,7 +166,6 @@ loads w s stands = by_session (w.sessions s) refl
     by_session : (o : Option Session) → w.sessions s ≡ o → Stands (loaded w s)
     by_session None is = rw is stands
     by_session (Some session) is = rw is (record {
-      start = stands.start;
       range = stands.range;
       sound = stands.sound;
       published = stands.published;

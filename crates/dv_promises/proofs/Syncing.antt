@@ -9,13 +9,14 @@ use Rattle.dv_model.specs.declared.types.Entry.{Entry}
 use Rattle.dv_model.specs.declared.types.Group.{Group}
 use Rattle.dv_model.specs.declared.types.Mailbox.{Mailbox}
 use Rattle.dv_model.specs.Effects.{applied}
-use Rattle.dv_model.specs.Journals.{Log, at, mark_of}
-use Rattle.dv_model.specs.Sessions.{State, group_of, refusal_of}
-use Rattle.dv_model.specs.Transcripts.{IsOwn, Turn, WroteEntry}
+use Rattle.dv_model.specs.Journals.{Log, IsEntry, at, mark_of}
+use Rattle.dv_model.specs.Sessions.{State, group_of}
+use Rattle.dv_model.specs.Transcripts.{IsOwn, Turn, WroteEntry, refused_at}
 use Rattle.dv_model.proofs.Speaking.{one_of_either, one_or_last}
 use Rattle.dv_model.proofs.Transcripts.{at_end}
 use Rattle.dv_interleavings.specs.Worlds.{World, Session, Pending, Wrote, with_session, with_entry, with_wrote, synced, length_of, happens, Sync}
 use Rattle.dv_promises.specs.Standing.{AreInRange, HasAuthor, IsLive, IsTried, IsWaiting, IsWriting, Stands}
+use Rattle.dv_promises.proofs.Entries.{group_is_entry, guids_with, resets_at}
 use Rattle.dv_promises.proofs.Going.{live_on, same_refusal, turns_on}
 use Rattle.dv_promises.proofs.Groups.{group_applies, group_in_range}
 use Rattle.dv_promises.proofs.Logs.{Extends, IsWhole, last_extends, last_group, last_message, valid_at, with_entry_is, with_last}
@@ -42,7 +43,14 @@ module _ (log : Log) (whole : IsWhole log) (p : Pending) (start : ℕ) (turns : 
   group_range : AreInRange p.group
   group_range =
       subst AreInRange (sym tried.group)
-      (group_in_range tried.state p.command tried.mailbox (mark_of log (length log.entries)) log.guid (valid_at log whole (length log.entries) tried.mailbox tried.is_there) tried.names tried.allowed)
+      (group_in_range tried.state p.command tried.mailbox log.rotates (mark_of log (length log.entries)) log.guid (valid_at log whole (length log.entries) tried.mailbox tried.is_there) tried.good tried.allowed)
+
+  last_entry : IsEntry (record { author = p.author; group = p.group })
+  last_entry =
+      subst (λ (g : Group). IsEntry (record { author = p.author; group = g })) (sym tried.group)
+      (group_is_entry p.author tried.state p.command tried.mailbox log.rotates (mark_of log (length log.entries)) log.guid tried.author tried.good
+      (valid_at log whole (length log.entries) tried.mailbox tried.is_there) (resets_at log whole.sound (length log.entries) tried.mailbox tried.is_there) whole.sound.guids tried.allowed
+      (subst (λ (g : Group). 1 ≤ length g.records) tried.group tried.some))
 
   pub at_last : at (with_last log p tried.mailbox) (length log.entries + 1) ≡ applied tried.mailbox p.group.records
   at_last = at_end log (record { author = p.author; group = p.group }) ∙ ap (option_and_then (λ (m : Mailbox). applied m p.group.records)) tried.is_there
@@ -50,20 +58,26 @@ module _ (log : Log) (whole : IsWhole log) (p : Pending) (start : ℕ) (turns : 
   last_some : IsSome (at (with_last log p tried.mailbox) (length log.entries + 1))
   last_some =
       subst IsSome (sym at_last)
-      (subst (λ (g : Group). IsSome (applied tried.mailbox g.records)) (sym tried.group) (group_applies p.command tried.state.view tried.mailbox log.guid tried.names))
+      (subst (λ (g : Group). IsSome (applied tried.mailbox g.records)) (sym tried.group) (group_applies p.command tried.state.view tried.mailbox log.guid tried.good))
 
   pub whole_more : IsWhole (with_last log p tried.mailbox)
   whole_more = record {
-    start = whole.start;
+    sound = record {
+      start = whole.sound.start;
+      start_mark = whole.sound.start_mark;
+      indexid = whole.sound.indexid;
+      guids = guids_with log p.command p.received tried.mailbox whole.sound.guids;
+      entries = All-push IsEntry log.entries (record { author = p.author; group = p.group }) whole.sound.entries last_entry;
+      mailboxes = λ k le. by_place k le (cases_lt (length log.entries) k);
+    };
     range = All-push (λ (e : Entry). AreInRange e.group) log.entries (record { author = p.author; group = p.group }) whole.range group_range;
-    sound = λ k le. by_place k le (cases_lt (length log.entries) k);
   }
     where
       by_place : (k : ℕ) → k ≤ length (log.entries ++ record { author = p.author; group = p.group } ∷ []) → (length log.entries < k) ⊎ (k ≤ length log.entries) → IsSome (at (with_last log p tried.mailbox) k)
       by_place k le (inl past) =
           let e : length log.entries + 1 ≡ k = omega (arith, le, past, length_push log.entries (record { author = p.author; group = p.group })) in
           subst (λ (n : ℕ). IsSome (at (with_last log p tried.mailbox) n)) e last_some
-      by_place k le (inr within) = subst IsSome (sym (on.same_at k within)) (whole.sound k within)
+      by_place k le (inr within) = subst IsSome (sym (on.same_at k within)) (whole.sound.mailboxes k within)
 
   -- the entries of others are as before
   pub own_back : (s : ℕ) → (p.author ≡ s → ⊥) → (from k : ℕ) → IsOwn (with_last log p tried.mailbox) s from k → IsOwn log s from k
@@ -99,9 +113,9 @@ module _ (log : Log) (whole : IsWhole log) (p : Pending) (published : ℕ) (pend
         before = tried.mailbox;
         was_there = ap (at (with_last log p tried.mailbox)) is_met ∙ goes_on.same_at (length log.entries) (omega arith) ∙ tried.is_there;
         allowed =
-            ap (λ (k : ℕ). refusal_of session.state p.command tried.mailbox (mark_of (with_last log p tried.mailbox) k) (with_last log p tried.mailbox).guid) is_met
+            ap (λ (k : ℕ). refused_at (with_last log p tried.mailbox) k session.state p.command tried.mailbox) is_met
             ∙ same_refusal log (with_last log p tried.mailbox) goes_on (length log.entries) tried.mailbox session.state p.command None (omega arith) tried.is_there
-            (ap (λ (x : State). refusal_of x p.command tried.mailbox (mark_of log (length log.entries)) log.guid) same ∙ tried.allowed);
+            (ap (λ (x : State). refused_at log (length log.entries) x p.command tried.mailbox) same ∙ tried.allowed);
         wrote = inl (record {
           behind = omega arith;
           some = subst (λ (g : Group). 1 ≤ length g.records) group tried.some;
@@ -163,7 +177,6 @@ module _ (w : World) (stands : Stands w) (p : Pending) (session : Session) (is :
       let more = whole_more w.log whole p live.start live.turns session.state session.wrote tried in
       let all = many w.log whole p w.published w.pending session live tried runs (length w.log.entries) (length w.log.entries + 1) refl refl stands.published in
       record {
-        start = more.start;
         range = more.range;
         sound = more.sound;
         published = omega (arith, stands.published, all);
