@@ -21,11 +21,10 @@ use Rattle.dv_interleavings.specs.Worlds.{World, Session, Pending, Crash, happen
 use Rattle.dv_promises.specs.Standing.{begins_at, HasAuthor, IsLive, IsToldTurn, IsTried, Stands}
 use Rattle.dv_promises.proofs.Ending.{crash_all, crash_none, crash_some, tried_of}
 use Rattle.dv_promises.proofs.Going.{live_on, same_refusal, turns_on}
-use Rattle.dv_promises.proofs.Logs.{Extends, IsWhole, last_extends, last_group, last_message, same_log, with_entry_is, with_last}
+use Rattle.dv_promises.proofs.Logs.{Extends, last_extends, last_group, last_message, same_log, with_entry_is, with_last}
 use Rattle.dv_promises.proofs.Refusals.{told_unrefused}
-use Rattle.dv_promises.proofs.Syncing.{at_seam, own_back, value_of, whole_more}
+use Rattle.dv_promises.proofs.Syncing.{at_seam, own_back, value_of, sound_more}
 use Rattle.dv_promises.proofs.Transcripts.{all_written, entries_live, pair_of, speaks_live, speaks_of, turns_answered}
-use Rattle.dv_promises.proofs.Writing.{whole_of}
 
 -- ---- refused answers are passed over
 
@@ -90,7 +89,7 @@ pub all_back : {X : Type 0} (P : X → Type 0) (front back : List X) → All P (
 all_back P [] back all = all
 all_back P (x ∷ front) back all = all_back P front back (All-tail P x (front ++ back) all)
 
-module _ (log : Log) (whole : IsWhole log) (p : Pending) (published : ℕ) (pending : Option Pending) (session : Session) (live : IsLive log published pending p.author session)
+module _ (log : Log) (sound : IsSound log) (p : Pending) (published : ℕ) (pending : Option Pending) (session : Session) (live : IsLive log published pending p.author session)
     (tried : IsTried log live.start live.turns session.state session.wrote p) where
   abbrev more : Log
   more = with_last log p tried.mailbox
@@ -108,7 +107,7 @@ module _ (log : Log) (whole : IsWhole log) (p : Pending) (published : ℕ) (pend
   many = omega (arith, length_push log.entries entry)
 
   on : Extends log more
-  on = last_extends log p tried.mailbox whole tried.is_there
+  on = last_extends log p tried.mailbox sound tried.is_there
 
   split_each : All (IsToldTurn log p.author) (tried.front ++ tried.back)
   split_each = subst (All (IsToldTurn log p.author)) tried.split live.each
@@ -183,7 +182,7 @@ module _ (log : Log) (whole : IsWhole log) (p : Pending) (published : ℕ) (pend
     unanswered = [];
     kept = kept_is;
     spoken = record {
-      sound = (whole_more log whole p live.start live.turns session.state session.wrote tried).sound;
+      sound = sound_more log sound p live.start live.turns session.state session.wrote tried;
       speaks = speaks_of more p.author live.start turns session.state (map pair_of turns) [] (let all = many in let low = live.there in omega arith) turns_told
           (leads_through (begins_at live.start) tried.front tried.state (failed ∷ tried.back) session.state tried.leads (refl, tried.rest)) refl;
       entries = inr (
@@ -219,7 +218,7 @@ crash_keeps w n stands = by_number (nat_eq n (length_of w)) refl
         let tried = tried_of w stands p is author in
         keeps_by (with_last w.log p tried.mailbox) (left ∙ with_entry_is w.log p tried.mailbox tried.is_there)
         (inr (ap (λ (o : Option Pending). w.log.entries ++ pending_entries o) (sym is)))
-        (last_extends w.log p tried.mailbox (whole_of w stands) tried.is_there).goes_on
+        (last_extends w.log p tried.mailbox stands.sound tried.is_there).goes_on
         (λ s. by_session p is author s (w.sessions s) refl (nat_eq p.author s) refl)
       where
         by_session : (p : Pending) (is : w.pending ≡ Some p) (author : HasAuthor w p) (s : ℕ) (o : Option Session) → w.sessions s ≡ o → (b : Bool) → nat_eq p.author s ≡ b
@@ -231,15 +230,15 @@ crash_keeps w n stands = by_number (nat_eq n (length_of w)) refl
             let one : author.0 ≡ session = same_Some author.0 session (sym author.1 ∙ ap w.sessions e ∙ there) in
             subst (λ (t : ℕ). IsSpokenAfterCrash (with_last w.log p (tried_of w stands p is author).mailbox) t session) e
             (subst (λ (x : Session). IsSpokenAfterCrash (with_last w.log p (tried_of w stands p is author).mailbox) p.author x) one
-            (author_after w.log (whole_of w stands) p w.published w.pending author.0 live (tried_of w stands p is author)))
+            (author_after w.log stands.sound p w.published w.pending author.0 live (tried_of w stands p is author)))
         by_session p is author s (Some session) there false differs =
             let live = stands.each p.author author.0 author.1 in
             let tried = tried_of w stands p is author in
             let other : p.author ≡ s → ⊥ = λ e. let found : nat_eq p.author s ≡ true = grind (arith, nat_tests) in absurd cc in
             spoken_after (with_last w.log p tried.mailbox) w.published None s session
-            (whole_more w.log (whole_of w stands) p live.start live.turns author.0.state author.0.wrote tried).sound
-            (live_on w.log (with_last w.log p tried.mailbox) (last_extends w.log p tried.mailbox (whole_of w stands) tried.is_there) s
-            (own_back w.log (whole_of w stands) p live.start live.turns author.0.state author.0.wrote tried s other) w.published w.pending session (stands.each s session there))
+            (sound_more w.log stands.sound p live.start live.turns author.0.state author.0.wrote tried)
+            (live_on w.log (with_last w.log p tried.mailbox) (last_extends w.log p tried.mailbox stands.sound tried.is_there) s
+            (own_back w.log stands.sound p live.start live.turns author.0.state author.0.wrote tried s other) w.published w.pending session (stands.each s session there))
 
     by_more : (p : Pending) → w.pending ≡ Some p → nat_eq n (length_of w) ≡ false → (b : Bool) → nat_eq n (length_of w + 1) ≡ b → CrashKeeps w n
     by_more p is less true more =

@@ -6,21 +6,20 @@ use Rattle.std.proofs.lemmas.Option.{none-some}
 use Rattle.dv_model.specs.declared.types.Entry.{Entry}
 use Rattle.dv_model.specs.declared.types.Mailbox.{Mailbox}
 use Rattle.dv_model.specs.declared.types.Mark.{Mark}
-use Rattle.dv_model.specs.Journals.{Log, IsEntry, IsGuid, at}
+use Rattle.dv_model.specs.Journals.{Log, IsSound, IsEntry, IsGuid, at}
 use Rattle.dv_interleavings.specs.Worlds.{World, Pending, Event, Open, Write, Sync, Heal, Publish, Load, Tell, Crash, Stored, all_happen, crashed, happens, length_of, mail_of, guid_of, new_world, only_log, with_entry}
-use Rattle.dv_promises.specs.Standing.{AreInRange, HasAuthor, IsGoodEvent, IsStart, IsTried, Stands}
-use Rattle.dv_promises.proofs.Entries.{zero_guid}
-use Rattle.dv_promises.proofs.Logs.{IsWhole, with_entry_is, with_last}
+use Rattle.dv_promises.specs.Standing.{HasAuthor, IsGoodEvent, IsStart, IsTried, Stands}
+use Rattle.dv_promises.proofs.Guids.{zero_guid}
+use Rattle.dv_promises.proofs.Logs.{with_entry_is, with_last}
 use Rattle.dv_promises.proofs.Small.{healed, loads, none_past, opens, published}
-use Rattle.dv_promises.proofs.Syncing.{syncs, value_of, whole_more}
+use Rattle.dv_promises.proofs.Syncing.{syncs, value_of, sound_more}
 use Rattle.dv_promises.proofs.Telling.{tells}
-use Rattle.dv_promises.proofs.Writing.{whole_of, writes}
+use Rattle.dv_promises.proofs.Writing.{writes}
 
 -- a log without sessions
-pub alone : (log : Log) → IsWhole log → Stands (only_log log)
-alone log whole = record {
-  range = whole.range;
-  sound = whole.sound;
+pub alone : (log : Log) → IsSound log → Stands (only_log log)
+alone log sound = record {
+  sound = sound;
   published = omega arith;
   each = λ s session is. absurd (none-some session is);
   absent = λ s k none own. none_past log s k own;
@@ -55,7 +54,7 @@ crashes w n stands = by_number (nat_eq n (length_of w)) refl
         let live = stands.each p.author author.0 author.1 in
         let tried = tried_of w stands p is author in
         subst (λ log. Stands (only_log log)) (sym (with_entry_is w.log p tried.mailbox tried.is_there))
-        (alone (with_last w.log p tried.mailbox) (whole_more w.log (whole_of w stands) p live.start live.turns author.0.state author.0.wrote tried))
+        (alone (with_last w.log p tried.mailbox) (sound_more w.log stands.sound p live.start live.turns author.0.state author.0.wrote tried))
 
     by_more : (p : Pending) → w.pending ≡ Some p → (b : Bool) → Stands (cond b (only_log (with_entry w.log p)) w)
     by_more p is true = with_more p is (value_of (HasAuthor w) w.pending p is stands.author)
@@ -66,7 +65,7 @@ crashes w n stands = by_number (nat_eq n (length_of w)) refl
     by_entry less (Some p) is = subst Stands (sym (crash_some w n p less is)) (by_more p is (nat_eq n (length_of w + 1)))
 
     by_number : (b : Bool) → nat_eq n (length_of w) ≡ b → Stands (crashed w n)
-    by_number true same = subst Stands (sym (crash_all w n same)) (alone w.log (whole_of w stands))
+    by_number true same = subst Stands (sym (crash_all w n same)) (alone w.log stands.sound)
     by_number false less = by_entry less w.pending refl
 
 -- ---- any event
@@ -99,15 +98,12 @@ pub begins : (start : Mailbox) (indexid : ℕ) (mark : Mark) (stored : List Stor
 begins start indexid mark stored is =
     alone (record { start = start; start_mark = mark; rotates = true; entries = []; indexid = indexid; mail = mail_of stored; guid = guid_of stored })
     (record {
-      sound = record {
-        start = is.mailbox;
-        start_mark = (is.numbers.1, is.numbers.2);
-        indexid = is.numbers.0;
-        guids = stored_guid stored is.guids;
-        entries = All-nil IsEntry;
-        mailboxes = λ k le. none k;
-      };
-      range = All-nil (λ (e : Entry). AreInRange e.group);
+      start = is.mailbox;
+      start_mark = (is.numbers.1, is.numbers.2);
+      indexid = is.numbers.0;
+      guids = stored_guid stored is.guids;
+      entries = All-nil IsEntry;
+      mailboxes = λ k le. none k;
     })
   where
     none : (k : ℕ) → IsSome (at (record { start = start; start_mark = mark; rotates = true; entries = []; indexid = indexid; mail = mail_of stored; guid = guid_of stored }) k)

@@ -9,7 +9,7 @@ use Rattle.dv_model.specs.declared.types.Mailbox.{Mailbox}
 use Rattle.dv_model.specs.declared.types.Reply.{Reply}
 use Rattle.dv_model.specs.declared.types.Step.{Step}
 use Rattle.dv_model.specs.declared.types.Step.TheVariants.{Full}
-use Rattle.dv_model.specs.Journals.{Log, at, mark_of}
+use Rattle.dv_model.specs.Journals.{Log, IsSound, at, mark_of}
 use Rattle.dv_model.specs.Sessions.{Answer, State, answer, step_of, view_before}
 use Rattle.dv_model.specs.Transcripts.{LeadsTo, Turn}
 use Rattle.dv_model.specs.Views.{View, all_heard, moved, shown}
@@ -18,10 +18,8 @@ use Rattle.dv_interleavings.specs.Worlds.{World, Session, Pending}
 use Rattle.dv_promises.specs.Standing.{begins_at, IsLive, IsToldTurn, Stands}
 use Rattle.dv_promises.proofs.Crashing.{all_back}
 use Rattle.dv_promises.proofs.Knowing.{KnowsSelected, turns_know}
-use Rattle.dv_promises.proofs.Logs.{IsWhole}
 use Rattle.dv_promises.proofs.Staying.{numbers_stay}
 use Rattle.dv_promises.proofs.Transcripts.{is_spoken, pair_of}
-use Rattle.dv_promises.proofs.Writing.{whole_of}
 
 -- ---- a Full step shows the mailbox
 
@@ -85,26 +83,26 @@ replies_said : (turns : List Turn) → flat_map (λ t. t.replies) turns ≡ flat
 replies_said [] = refl
 replies_said (t ∷ turns) = ap (λ rs. t.replies ++ rs) (replies_said turns)
 
-module _ (log : Log) (whole : IsWhole log) (published : ℕ) (pending : Option Pending) (s : ℕ) (session : Session) (live : IsLive log published pending s session) where
-  none_selected : KnowsSelected log whole (begins_at live.start) []
+module _ (log : Log) (sound : IsSound log) (published : ℕ) (pending : Option Pending) (s : ℕ) (session : Session) (live : IsLive log published pending s session) where
+  none_selected : KnowsSelected log sound (begins_at live.start) []
   none_selected selected = absurd cc
 
-  knows_end : KnowsSelected log whole session.state (all_heard [] (flat_map (λ a. a.1) session.answers))
+  knows_end : KnowsSelected log sound session.state (all_heard [] (flat_map (λ a. a.1) session.answers))
   knows_end =
-      subst (KnowsSelected log whole session.state) (ap (all_heard []) (replies_said live.turns ∙ ap (flat_map (λ (a : Command × List Reply). a.1)) live.answers))
-      (turns_know log whole s (begins_at live.start) live.turns session.state [] live.each live.leads none_selected)
+      subst (KnowsSelected log sound session.state) (ap (all_heard []) (replies_said live.turns ∙ ap (flat_map (λ (a : Command × List Reply). a.1)) live.answers))
+      (turns_know log sound s (begins_at live.start) live.turns session.state [] live.each live.leads none_selected)
 
 -- ---- the world
 
 holds_of : (w : World) → Stands w → (s : ℕ) (session : Session) → w.sessions s ≡ Some session → HoldsOf w s session
 holds_of w stands s session is =
     let live = stands.each s session is in
-    let whole = whole_of w stands in
+    let sound = stands.sound in
     record {
       spoken = is_spoken w s session stands.sound live;
       order = record { told = live.told; seen = live.seen; published = stands.published };
-      shown = λ selected. let knows = knows_end w.log whole w.published w.pending s session live selected in record { mailbox = knows.mailbox; is = knows.is; rows = knows.rows; client = knows.client };
-      numbers = numbers_stay w.log whole w.published w.pending s session live;
+      shown = λ selected. let knows = knows_end w.log sound w.published w.pending s session live selected in record { mailbox = knows.mailbox; is = knows.is; rows = knows.rows; client = knows.client };
+      numbers = numbers_stay w.log sound w.published w.pending s session live;
     }
 
 pub holds : (w : World) → Stands w → Holds w

@@ -12,7 +12,7 @@ use Rattle.dv_model.specs.declared.types.Reply.{Reply}
 use Rattle.dv_model.specs.declared.types.Reply.TheVariants as reply
 use Rattle.dv_model.specs.declared.types.Step.{Step}
 use Rattle.dv_model.specs.declared.types.Step.TheVariants.{Held, Full}
-use Rattle.dv_model.specs.Journals.{Log, Mail, at, mark_of}
+use Rattle.dv_model.specs.Journals.{Log, IsSound, Mail, at, mark_of}
 use Rattle.dv_model.specs.Laws.{Follows, IsReadIn}
 use Rattle.dv_model.specs.Sessions.{Answer, State, answer, data_of, ending_of, is_select, step_of, told_of}
 use Rattle.dv_model.specs.Transcripts.{LeadsTo, Turn, refused_at}
@@ -21,7 +21,7 @@ use Rattle.dv_model.proofs.Clients.{client_has_view}
 use Rattle.dv_validity.proofs.Following.{following_stays}
 use Rattle.dv_promises.specs.Standing.{IsToldTurn}
 use Rattle.dv_promises.proofs.Hearing.{data_known, ending_heard, select_heard}
-use Rattle.dv_promises.proofs.Logs.{IsWhole, leads_at, valid_at}
+use Rattle.dv_promises.proofs.Logs.{leads_at, valid_at}
 use Rattle.dv_promises.proofs.Views.{full_read, full_shows, moved_read, moved_shows, shows_its_uid}
 
 -- a session that was told of a mailbox, and a client that has its view
@@ -44,13 +44,13 @@ is_selected log k x c m other allowed = by_test x.selected refl
 
 -- ---- one turn
 
-module _ (log : Log) (whole : IsWhole log) where
+module _ (log : Log) (sound : IsSound log) where
   pub follows_later : (x : State) (client : List Known) (knows : Knows log x client) (q : ℕ) (m : Mailbox) → x.told ≤ q → at log q ≡ Some m → Follows knows.mailbox x.view m
   follows_later x client knows q m le is =
-      let leads = leads_at log whole x.told q knows.mailbox m le knows.is is in
+      let leads = leads_at log sound x.told q knows.mailbox m le knows.is is in
       following_stays knows.mailbox knows.mailbox m x.view leads.records
       (record {
-        valid = valid_at log whole x.told knows.mailbox knows.is;
+        valid = valid_at log sound x.told knows.mailbox knows.is;
         next_uid = knows.next_uid;
         rows = All-weaker (λ row. Contains x.view.rows (shown row)) (λ row. (shows_uid x.view row.uid ≡ true) ⊎ (x.view.next_uid ≤ row.uid)) (λ row is. inl (shows_its_uid x.view row is)) knows.mailbox.rows knows.rows;
         more = [];
@@ -75,7 +75,7 @@ module _ (log : Log) (whole : IsWhole log) where
   module _ (mail : ℕ → Mail) (x : State) (met m : Mailbox) (q : ℕ) (mark : Mark) (is : at log q ≡ Some m) where
     pub select_knows : (client : List Known) → Knows log (answer mail x command.Select met q m mark).next (all_heard client (answer mail x command.Select met q m mark).replies)
     select_knows client =
-        let valid = valid_at log whole q m is in
+        let valid = valid_at log sound q m is in
         let view : View = moved Full empty_view m in
         let last : Reply = ending_of mail command.Select empty_view met m mark in
         record {

@@ -1,8 +1,6 @@
 pub mod Small
-pub mod Agreeing
-pub mod Groups
 pub mod Logs
-pub mod Entries
+pub mod Guids
 pub mod Writing
 pub mod Going
 pub mod Syncing

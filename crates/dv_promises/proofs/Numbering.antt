@@ -287,7 +287,14 @@ pub select_steady : (mail : ℕ → Mail) (met m : Mailbox) (view : View) (mark 
 select_steady mail met m view mark =
     let one = exists_fits view.rows [] (length view.rows) (omega arith) tt in
     let rows : List Known = heard [] (reply.Exists (length view.rows)) in
-    let last : List Reply = ending_of mail command.Select empty_view met m mark ∷ [] in
-    (λ e. keeps_uids [] rows one.keeps, (λ e. keeps_itself rows, (λ e. keeps_itself rows,
-      replies_then rows (changes m empty_view view) last (changes_steady m empty_view view rows one.fits)
-      (ending_steady mail command.Select empty_view met m mark (all_heard rows (changes m empty_view view))))))
+    let last : List Reply = ending_of mail command.Select empty_view met m mark ∷ [] in (
+      λ e. keeps_uids [] rows one.keeps,
+      (
+        λ e. keeps_itself rows,
+        (
+          λ e. keeps_itself rows,
+          replies_then rows (changes m empty_view view) last (changes_steady m empty_view view rows one.fits)
+              (ending_steady mail command.Select empty_view met m mark (all_heard rows (changes m empty_view view))),
+        ),
+      ),
+    )

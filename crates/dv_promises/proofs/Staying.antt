@@ -6,7 +6,7 @@ use Rattle.dv_model.specs.declared.types.Command.{Command}
 use Rattle.dv_model.specs.declared.types.Command.TheVariants as command
 use Rattle.dv_model.specs.declared.types.Mailbox.{Mailbox}
 use Rattle.dv_model.specs.declared.types.Reply.{Reply}
-use Rattle.dv_model.specs.Journals.{Log, at, mark_of}
+use Rattle.dv_model.specs.Journals.{Log, IsSound, at, mark_of}
 use Rattle.dv_model.specs.Sessions.{Answer, State, answer, is_select, step_of}
 use Rattle.dv_model.specs.Transcripts.{LeadsTo, Turn, refused_at}
 use Rattle.dv_model.specs.Views.{Known, all_heard, empty_view, moved}
@@ -14,7 +14,6 @@ use Rattle.dv_interleavings.specs.Promises.{Heard, Selects, Hears, NumbersStay, 
 use Rattle.dv_interleavings.specs.Worlds.{Session, Pending}
 use Rattle.dv_promises.specs.Standing.{begins_at, IsLive, IsToldTurn}
 use Rattle.dv_promises.proofs.Knowing.{Knows, KnowsSelected, follows_later, is_selected, other_knows, select_knows}
-use Rattle.dv_promises.proofs.Logs.{IsWhole}
 use Rattle.dv_promises.proofs.Numbering.{AreSteady, Steady, answer_steady, known_heard, select_steady, steady_replies, steady_stay, steady_then}
 use Rattle.dv_promises.proofs.Transcripts.{pair_of}
 
@@ -28,8 +27,8 @@ record KeepsOn (log : Log) (client : List Known) (c : Command) (a : Answer) : Ty
   steady : AreSteady client (heard_of (c, a.replies))
   known : Knows log a.next (fold knows client (heard_of (c, a.replies)))
 
-module _ (log : Log) (whole : IsWhole log) (s : ℕ) where
-  module _ (t : Turn) (client : List Known) (told : IsToldTurn log s t) (known : KnowsSelected log whole t.before client) where
+module _ (log : Log) (sound : IsSound log) (s : ℕ) where
+  module _ (t : Turn) (client : List Known) (told : IsToldTurn log s t) (known : KnowsSelected log sound t.before client) where
     abbrev before : Mailbox
     before = told.told.before
 
@@ -46,7 +45,7 @@ module _ (log : Log) (whole : IsWhole log) (s : ℕ) where
           steady = (λ e. absurd cc, steady_replies [] replies (select_steady log.mail before m (moved (step_of command.Select) empty_view m) (mark_of log t.behind)));
           known =
               subst (Knows log (answer_to command.Select).next) (sym (known_heard [] replies))
-              (select_knows log whole log.mail t.before before m t.behind (mark_of log t.behind) told.told.is_there []);
+              (select_knows log sound log.mail t.before before m t.behind (mark_of log t.behind) told.told.is_there []);
         }
 
     other_keeps : (c : Command) → is_select c ≡ false → refused_at log t.met t.before c before ≡ None → KeepsOn log client c (answer_to c)
@@ -57,12 +56,12 @@ module _ (log : Log) (whole : IsWhole log) (s : ℕ) where
         let steady : Steady client replies =
         subst (λ rows. Steady rows replies) (sym has.client)
         (answer_steady log.mail c (step_of c) has.mailbox before m t.before.view (mark_of log t.behind) has.read
-        (follows_later log whole t.before client has t.behind m told.told.seen.0 told.told.is_there)) in
+        (follows_later log sound t.before client has t.behind m told.told.seen.0 told.told.is_there)) in
         record {
           steady = steady_replies client replies steady;
           known =
               subst (Knows log (answer_to c).next) (sym (known_heard client replies))
-              (other_knows log whole log.mail t.before before m t.behind (mark_of log t.behind) told.told.is_there c client other told.told.seen.0 has);
+              (other_knows log sound log.mail t.before before m t.behind (mark_of log t.behind) told.told.is_there c client other told.told.seen.0 has);
         }
 
     turn_keeps : KeepsOn log client t.command (record { replies = t.replies; next = t.after })
@@ -74,18 +73,18 @@ module _ (log : Log) (whole : IsWhole log) (s : ℕ) where
         by_command c true is allowed = absurd cc
         by_command c false is allowed = other_keeps c is allowed
 
-  turns_steady : (x : State) (turns : List Turn) (y : State) (client : List Known) → All (IsToldTurn log s) turns → LeadsTo x turns y → KnowsSelected log whole x client
+  turns_steady : (x : State) (turns : List Turn) (y : State) (client : List Known) → All (IsToldTurn log s) turns → LeadsTo x turns y → KnowsSelected log sound x client
       → AreSteady client (flat_map heard_of (map pair_of turns))
   turns_steady x [] y client each leads known = tt
   turns_steady x (t ∷ turns) y client each leads known =
-      let first = turn_keeps t client (All-head (IsToldTurn log s) t turns each) (subst (λ z. KnowsSelected log whole z client) (sym leads.0) known) in
+      let first = turn_keeps t client (All-head (IsToldTurn log s) t turns each) (subst (λ z. KnowsSelected log sound z client) (sym leads.0) known) in
       let hs : List Heard = heard_of (pair_of t) in
       steady_then client hs (flat_map heard_of (map pair_of turns)) first.steady
       (turns_steady t.after turns y (fold knows client hs) (All-tail (IsToldTurn log s) t turns each) leads.1 (λ selected. first.known))
 
-pub numbers_stay : (log : Log) (whole : IsWhole log) (published : ℕ) (pending : Option Pending) (s : ℕ) (session : Session) → IsLive log published pending s session → NumbersStay session
-numbers_stay log whole published pending s session live before between behind is keeps =
+pub numbers_stay : (log : Log) (sound : IsSound log) (published : ℕ) (pending : Option Pending) (s : ℕ) (session : Session) → IsLive log published pending s session → NumbersStay session
+numbers_stay log sound published pending s session live before between behind is keeps =
     steady_stay (flat_map heard_of session.answers) before between behind
     (subst (λ answers. AreSteady [] (flat_map heard_of answers)) live.answers
-    (turns_steady log whole s (begins_at live.start) live.turns session.state [] live.each live.leads (λ selected. absurd cc)))
+    (turns_steady log sound s (begins_at live.start) live.turns session.state [] live.each live.leads (λ selected. absurd cc)))
     is keeps

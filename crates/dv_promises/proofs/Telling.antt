@@ -214,7 +214,6 @@ module _ (w : World) (s : ℕ) (c : Command) (stands : Stands w) (session : Sess
   stands_told : (q met : ℕ) (before m : Mailbox) → MayTell w.log s session c q met before → at w.log met ≡ Some before → at w.log q ≡ Some m
       → Stands (with_answer w s session c (answer w.log.mail session.state c before q m (mark_of w.log q)))
   stands_told q met before m may was_there is_there = record {
-    range = stands.range;
     sound = stands.sound;
     published = stands.published;
     each = each_with w s _ (option_map (stopped_of s) w.pending) w.log

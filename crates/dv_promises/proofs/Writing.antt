@@ -9,16 +9,12 @@ use Rattle.dv_model.specs.declared.types.Command.{Command}
 use Rattle.dv_model.specs.declared.types.Mailbox.{Mailbox}
 use Rattle.dv_model.specs.declared.types.Record.{Record}
 use Rattle.dv_model.specs.declared.types.Reply.{Reply}
-use Rattle.dv_model.specs.Journals.{Log, IsU32, at}
+use Rattle.dv_model.specs.Journals.{Log, IsSound, IsU32, at}
 use Rattle.dv_model.specs.Sessions.{State, IsCommand, group_of, is_write}
 use Rattle.dv_model.specs.Transcripts.{LeadsTo, Turn, WroteEntry, refused_at}
 use Rattle.dv_interleavings.specs.Worlds.{World, Session, Pending, Wrote, Write, with_session, without_running, stopped, may_write, written, length_of, happens}
 use Rattle.dv_promises.specs.Standing.{begins_at, HasAuthor, IsLive, IsTried, IsWaiting, Stands}
-use Rattle.dv_promises.proofs.Logs.{IsWhole}
 use Rattle.dv_promises.proofs.Small.{absent_with, author_with, each_with, if_some, live_by, none_past}
-
-pub whole_of : (w : World) → Stands w → IsWhole w.log
-whole_of w stands = record { sound = stands.sound; range = stands.range }
 
 -- ---- the pending entry stops
 
@@ -135,7 +131,6 @@ module _ (w : World) (s : ℕ) (session : Session) (c : Command) (m : Mailbox) (
   done : (group_of c session.state.view m w.log.guid).records ≡ []
       → Stands (with_session (without_running w) s (Some (record session { wrote = Some (record { place = length_of w; met = length_of w; command = c }) })))
   done empty = record {
-    range = stands.range;
     sound = stands.sound;
     published = stands.published;
     each = each_with w s _ (option_map stopped w.pending) w.log (done_live empty)
@@ -150,7 +145,6 @@ module _ (w : World) (s : ℕ) (session : Session) (c : Command) (m : Mailbox) (
   tries : (received : ℕ) → nat_eq (length (group_of c session.state.view m w.log.guid).records) 0 ≡ false
       → Stands (record w { pending = Some (record { author = s; command = c; group = group_of c session.state.view m w.log.guid; received = received; running = true }) })
   tries received some = record {
-    range = stands.range;
     sound = stands.sound;
     published = stands.published;
     each = λ t other there. let live = stands.each t other there in

@@ -1,7 +1,6 @@
 -- What stands in each world that good events lead to.
 use Rattle.std.specs.Prelude.{◌≡◌, ◌⊎◌, ℕ, ◌+◌, ◌≤◌, true, List, ◌++◌, length, map, All, Option, Some, None, IfSome}
 use Rattle.dv_model.specs.declared.types.Command.{Command}
-use Rattle.dv_model.specs.declared.types.Group.{Group}
 use Rattle.dv_model.specs.declared.types.Mailbox.{Mailbox}
 use Rattle.dv_model.specs.declared.types.Mark.{Mark}
 use Rattle.dv_model.specs.Journals.{Log, HasResets, IsGuid, IsSound, IsU32, at}
@@ -9,7 +8,6 @@ use Rattle.dv_model.specs.Mailboxes.{IsValid}
 use Rattle.dv_model.specs.Sessions.{State, IsCommand, new_session, group_of, is_write}
 use Rattle.dv_model.specs.Transcripts.{IsOwn, IsTold, LeadsTo, Turn, Wrote as HasWrote, WroteEntry, refused_at}
 use Rattle.dv_interleavings.specs.Worlds.{World, Session, Pending, Wrote, Event, Write, Stored}
-use Rattle.dv_validity.specs.Laws.{IsInRange}
 
 -- ---- events
 
@@ -27,10 +25,6 @@ pub record IsStart (start : Mailbox) (indexid : ℕ) (mark : Mark) (stored : Lis
   pub guids : All (λ s. IsGuid s.guid) stored
 
 -- ---- a session's story
-
--- each record of the group leaves a valid mailbox of a valid one
-abbrev pub AreInRange : Group → Type 0
-AreInRange g = All (λ r. IsInRange r.body) g.records
 
 -- a turn that was answered with a mark, and met no fewer entries than its session was told of
 pub record IsToldTurn (log : Log) (s : ℕ) (t : Turn) : Type 0 where
@@ -116,12 +110,10 @@ pub record IsLive (log : Log) (published : ℕ) (waiting : Option Pending) (s : 
 abbrev pub HasAuthor : World → Pending → Type 0
 HasAuthor w p = (session : Session) × (w.sessions p.author ≡ Some session)
 
--- Each prefix of the log is a valid mailbox, each live session has its story, and a session that isn't there wrote
+-- The log is sound, each live session has its story, and a session that isn't there wrote
 -- nothing that isn't published.
 pub record Stands (w : World) : Type 0 where
-  -- the log is sound, and its records leave valid mailboxes
   pub sound : IsSound w.log
-  pub range : All (λ e. AreInRange e.group) w.log.entries
   -- no more is published than is durable
   pub published : w.published ≤ length w.log.entries
   -- each live session has its story
