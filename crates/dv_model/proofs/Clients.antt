@@ -398,7 +398,7 @@ module _ (before m : Mailbox) (view : View) (read : IsReadIn before view) (more 
   abbrev old : List Shown
   old = view.rows
 
-  abbrev In : Shown → Type 0
+  abbrev pub In : Shown → Type 0
   In s = IsOne s old
 
   old_above : Above 0 old
@@ -431,16 +431,16 @@ module _ (before m : Mailbox) (view : View) (read : IsReadIn before view) (more 
   new_told s le = ap not (none_same view.next_uid s old old_below le)
 
   module _ (new : List Shown) (next_uid : ℕ) (moves : Moves view new) where
-    abbrev kept_rows : List Shown
+    abbrev pub kept_rows : List Shown
     kept_rows = staying old new
 
-    lined_up : Aligned In view.next_uid kept_rows new
+    pub lined_up : Aligned In view.next_uid kept_rows new
     lined_up = aligned In view.next_uid 0 old new old_above old_below (each_is_one old old (λ s one. one)) moves.rising moves.comes
 
     abbrev later : View
     later = record { rows = new; next_uid = next_uid }
 
-    after_removals : fold heard (known_of before view) (removals view later) ≡ map (known_row before) kept_rows
+    pub after_removals : fold heard (known_of before view) (removals view later) ≡ map (known_row before) kept_rows
     after_removals =
         heard_expunges (known_row before) (λ s. not (shows new s.uid)) 1 [] old refl
         ∙ ap (map (known_row before)) (filter_same (λ s. not (not (shows new s.uid))) (λ s. shows new s.uid) old (each_not_not old))

@@ -80,12 +80,12 @@ module _ (m : Mailbox) (valid : IsValid m) where
     group_agree (command.UidRemove set) v = ap (λ (rs : List Record). record { records = rs }) (expunges_agree (removed_uids set v m) (removed_below (map (λ row. row.1.uid) (named_by_uid set v))))
     group_agree c v = refl
 
-    pub refusal_agree : (x : State) (c : Command) (mark : Mark) → refusal_of x c m mark f ≡ refusal_of x c m mark g
-    refusal_agree x c mark = by_number (missing_number c x.view) refl
+    pub refusal_agree : (x : State) (c : Command) (rotates : Bool) (mark : Mark) → refusal_of x c m rotates mark f ≡ refusal_of x c m rotates mark g
+    refusal_agree x c rotates mark = by_number (missing_number c x.view) refl
       where
-        by_number : (o : Option ℕ) → missing_number c x.view ≡ o → refusal_of x c m mark f ≡ refusal_of x c m mark g
+        by_number : (o : Option ℕ) → missing_number c x.view ≡ o → refusal_of x c m rotates mark f ≡ refusal_of x c m rotates mark g
         by_number (Some n) is = rw is refl
-        by_number None is = rw is (ap (λ (grp : Group). cond (not x.selected && not (is_select c)) (Some reply.NotSelected) (cond (is_write c) (limit_of c m mark grp) None)) (group_agree c x.view))
+        by_number None is = rw is (ap (λ (grp : Group). cond (not x.selected && not (is_select c)) (Some reply.NotSelected) (cond (is_write c) (limit_of c m rotates mark grp) None)) (group_agree c x.view))
 
   -- ---- what a command is answered
 

@@ -21,13 +21,13 @@ use Rattle.dv_model.specs.declared.types.Row.{Row}
 use Rattle.dv_model.specs.Effects.{after_record, applied, effect, is_request, no_id, stamped, with_higher}
 use Rattle.dv_model.specs.Mailboxes.{IsValid}
 use Rattle.dv_model.specs.Names.{IsName}
-use Rattle.dv_model.specs.Sessions.{State, group_of, refusal_of, is_append, end_of_uids, message_limit, group_limit, log_limit, external, external_record, internal_record, keyword_adds, keyword_updates, keyword_resets, flag_updates, store_records, expunges, check_records, pieces, ranges_of, stored_uids, deleted_uids, removed_uids, offset_row, cache_number, next_number}
+use Rattle.dv_model.specs.Sessions.{State, IsCommand, group_of, refusal_of, is_append, is_log_full, end_of_uids, message_limit, group_limit, external, external_record, internal_record, keyword_adds, keyword_updates, keyword_resets, flag_updates, store_records, expunges, check_records, pieces, ranges_of, stored_uids, deleted_uids, removed_uids, offset_row, cache_number, next_number}
 use Rattle.dv_model.specs.Spelling.{group_text}
 use Rattle.dv_model.specs.Views.{View}
 use Rattle.dv_model.proofs.Appends.{append_is, append_record, appended}
 use Rattle.dv_validity.proofs.Numbers.{records_keep}
 use Rattle.dv_validity.specs.Laws.{IsInRange}
-use Rattle.dv_promises.specs.Standing.{AreInRange, HasNames}
+use Rattle.dv_validity.specs.Entries.{AreInRange}
 
 -- ---- no record of the group is an append
 
@@ -139,18 +139,18 @@ all_apply m (r ∷ rs) plain = first_applies rs (after_record m r) (plain_applie
 -- ---- any command
 
 -- its group is an append and more, or no append at all
-group_plain : (c : Command) (v : View) (m : Mailbox) (guid : ℕ → List ℕ) → HasNames c → is_append c ≡ false → ArePlain (group_of c v m guid).records
-group_plain (command.Append flags keywords message) v m guid names other = absurd cc
-group_plain (command.Store by_uid set h flags keywords since) v m guid names other = store_plain h flags keywords (ranges_of (stored_uids by_uid set since v m)) names
-group_plain command.Expunge v m guid names other = expunges_plain guid (deleted_uids m)
-group_plain (command.UidRemove set) v m guid names other = expunges_plain guid (removed_uids set v m)
-group_plain command.Check v m guid names other = check_plain m
-group_plain c v m guid names other = All-nil IsPlain
+group_plain : (c : Command) (v : View) (m : Mailbox) (guid : ℕ → List ℕ) → IsCommand c → is_append c ≡ false → ArePlain (group_of c v m guid).records
+group_plain (command.Append flags keywords message) v m guid good other = absurd cc
+group_plain (command.Store by_uid set h flags keywords since) v m guid good other = store_plain h flags keywords (ranges_of (stored_uids by_uid set since v m)) good.1
+group_plain command.Expunge v m guid good other = expunges_plain guid (deleted_uids m)
+group_plain (command.UidRemove set) v m guid good other = expunges_plain guid (removed_uids set v m)
+group_plain command.Check v m guid good other = check_plain m
+group_plain c v m guid good other = All-nil IsPlain
 
 -- APPEND is refused where the UIDs are used up
-uids_left : (x : State) (flags : ℕ) (keywords : List (List ℕ)) (message : List ℕ) (m : Mailbox) (mark : Mark) (guid : ℕ → List ℕ)
-    → refusal_of x (command.Append flags keywords message) m mark guid ≡ None → m.next_uid ≢ end_of_uids
-uids_left x flags keywords message m mark guid allowed same =
+uids_left : (x : State) (flags : ℕ) (keywords : List (List ℕ)) (message : List ℕ) (m : Mailbox) (rotates : Bool) (mark : Mark) (guid : ℕ → List ℕ)
+    → refusal_of x (command.Append flags keywords message) m rotates mark guid ≡ None → m.next_uid ≢ end_of_uids
+uids_left x flags keywords message m rotates mark guid allowed same =
     let found : nat_eq m.next_uid end_of_uids ≡ true = grind (arith, nat_tests) in by_selected (not x.selected && true) (nat_eq m.next_uid end_of_uids) found allowed
   where
     text : ℕ
@@ -159,24 +159,24 @@ uids_left x flags keywords message m mark guid allowed same =
     rest : Option Reply
     rest =
         cond (nat_lt message_limit (length message)) (Some (reply.TooLong (length message)))
-        (cond (nat_lt group_limit text) (Some (reply.TooLong text)) (cond (nat_lt log_limit (mark.offset + text)) (Some (reply.TooLong text)) None))
+        (cond (nat_lt group_limit text) (Some (reply.TooLong text)) (cond (is_log_full rotates mark text) (Some (reply.TooLong text)) None))
 
     by_selected : (a b : Bool) → b ≡ true → cond a (Some reply.NotSelected) (cond b (Some reply.UidsUsedUp) rest) ≡ None → ⊥
     by_selected true b is e = absurd cc
     by_selected false true is e = absurd cc
     by_selected false false is e = absurd cc
 
-pub group_in_range : (x : State) (c : Command) (m : Mailbox) (mark : Mark) (guid : ℕ → List ℕ) → IsValid m → HasNames c → refusal_of x c m mark guid ≡ None → AreInRange (group_of c x.view m guid)
-group_in_range x (command.Append flags keywords message) m mark guid valid names allowed =
+pub group_in_range : (x : State) (c : Command) (m : Mailbox) (rotates : Bool) (mark : Mark) (guid : ℕ → List ℕ) → IsValid m → IsCommand c → refusal_of x c m rotates mark guid ≡ None → AreInRange (group_of c x.view m guid)
+group_in_range x (command.Append flags keywords message) m rotates mark guid valid good allowed =
     All-cons (λ r. IsInRange r.body) (append_record m flags) (keyword_adds m.next_uid keywords)
-    (let other = uids_left x flags keywords message m mark guid allowed in let below = valid.next_uid.1 in
+    (let other = uids_left x flags keywords message m rotates mark guid allowed in let below = valid.next_uid.1 in
     All-cons (λ (row : NewRow). row.uid < 2 ^ 32 - 1) (record { uid = m.next_uid; flags = flags }) [] (omega (arith, other, below)) (All-nil (λ (row : NewRow). row.uid < 2 ^ 32 - 1)))
-    (All-weaker IsPlain (λ r. IsInRange r.body) (λ r is. is.range) (keyword_adds m.next_uid keywords) (adds_plain m.next_uid keywords names))
-group_in_range x c m mark guid valid names allowed = All-weaker IsPlain (λ r. IsInRange r.body) (λ r is. is.range) (group_of c x.view m guid).records (group_plain c x.view m guid names refl)
+    (All-weaker IsPlain (λ r. IsInRange r.body) (λ r is. is.range) (keyword_adds m.next_uid keywords) (adds_plain m.next_uid keywords good.1))
+group_in_range x c m rotates mark guid valid good allowed = All-weaker IsPlain (λ r. IsInRange r.body) (λ r is. is.range) (group_of c x.view m guid).records (group_plain c x.view m guid good refl)
 
-pub group_applies : (c : Command) (v : View) (m : Mailbox) (guid : ℕ → List ℕ) → HasNames c → IsSome (applied m (group_of c v m guid).records)
-group_applies (command.Append flags keywords message) v m guid names = rw (append_is m flags) (all_apply (appended m flags) (keyword_adds m.next_uid keywords) (adds_plain m.next_uid keywords names))
-group_applies c v m guid names = all_apply m (group_of c v m guid).records (group_plain c v m guid names refl)
+pub group_applies : (c : Command) (v : View) (m : Mailbox) (guid : ℕ → List ℕ) → IsCommand c → IsSome (applied m (group_of c v m guid).records)
+group_applies (command.Append flags keywords message) v m guid good = rw (append_is m flags) (all_apply (appended m flags) (keyword_adds m.next_uid keywords) (adds_plain m.next_uid keywords good.1))
+group_applies c v m guid good = all_apply m (group_of c v m guid).records (group_plain c v m guid good refl)
 
 -- an append raises the UIDNEXT
 pub append_raises : (flags : ℕ) (keywords : List (List ℕ)) (message : List ℕ) (v : View) (m n : Mailbox) (guid : ℕ → List ℕ)
