@@ -7,6 +7,7 @@ use Rattle.std.proofs.lemmas.List.Elements.{All-cons, All-contains, All-head, Al
 use Rattle.std.proofs.lemmas.List.Sums.{sum_by-cons}
 use Rattle.std.proofs.Math.Seq.{take-append_seam}
 use Rattle.std.proofs.lemmas.Nat.{from_le_bytes-to_le_bytes_4}
+use Rattle.dv_formats.proofs.Texts.{parts_one, word_one}
 use Rattle.dv_cache.specs.Caches.{field_size, field_text, fields_text, IsShort}
 use Rattle.dv_cache.specs.Finding.{AreFieldsOf}
 
@@ -27,22 +28,6 @@ all_short (Some value ∷ fields) few =
     All-cons IsShort (Some value) fields (omega (arith, few, split)) (all_short fields (omega (arith, few, split)))
 
 -- ---- a text is of one list of fields
-
-word_one : (m n : ℕ) → m < 2 ^ 32 → n < 2 ^ 32 → to_le_bytes w32 m ≡ to_le_bytes w32 n → m ≡ n
-word_one m n p q e = sym (from_le_bytes-to_le_bytes_4 m p) ∙ ap (from_le_bytes w32) e ∙ from_le_bytes-to_le_bytes_4 n q
-
-head_one : (x y : ℕ) (xs ys : List ℕ) → x ∷ xs ≡ y ∷ ys → x ≡ y
-head_one x y xs ys e = cc
-
--- lists of one length in front of others
-pub parts_one : (a c b d : List ℕ) → length a ≡ length c → a ++ b ≡ c ++ d → (a ≡ c) × (b ≡ d)
-parts_one [] [] b d same e = (refl, e)
-parts_one [] (y ∷ c) b d same e = absurd (omega (arith, same))
-parts_one (x ∷ a) [] b d same e = absurd (omega (arith, same))
-parts_one (x ∷ a) (y ∷ c) b d same e =
-    let first = head_one x y (a ++ b) (c ++ d) e in
-    let rest = parts_one a c b d (omega (arith, same)) (ap (drop 1) e) in
-    (ap (λ z. z ∷ a) first ∙ ap (λ zs. y ∷ zs) rest.0, rest.1)
 
 field_one : (f g : Option (List ℕ)) (b c : List ℕ) → IsShort f → IsShort g → field_text f ++ b ≡ field_text g ++ c → (f ≡ g) × (b ≡ c)
 field_one None None b c p q e = (refl, ap (drop 4) e)

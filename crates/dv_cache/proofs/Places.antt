@@ -3,20 +3,13 @@ use Rattle.std.proofs.Common.{◌≡◌, ℕ, ◌+◌, ◌≤◌, Bool, true, fa
 use Rattle.std.specs.Prelude.{nat_le, ◌&&◌, sum_by, if◌then◌else◌}
 use Rattle.std.proofs.lemmas.Bool.{le-leb, leb-true}
 use Rattle.std.proofs.lemmas.List.{append-nil}
+use Rattle.std.proofs.Math.Bool.{and-eq-true_iff}
 use Rattle.dv_cache.specs.declared.row.CacheRow.{CacheRow}
 use Rattle.dv_cache.specs.declared.row.Known.{Known}
 use Rattle.dv_cache.specs.Caches.{entries_from, field_size, fields_text, fits, IsShort, kept, known_text, place_behind, row_entry, texts_from}
 use Rattle.dv_cache.proofs.FieldTexts.{all_short, text_size}
 
 -- ---- what is kept
-
-and_left : (a b : Bool) → (a && b) ≡ true → a ≡ true
-and_left true b e = refl
-and_left false b e = absurd cc
-
-and_right : (a b : Bool) → (a && b) ≡ true → b ≡ true
-and_right true b e = e
-and_right false b e = absurd cc
 
 pub record Fits (at : ℕ) (known : Known) : Type 0 where
   pub sizes : (known.physical ≤ 2147483648) × (known.virtual_size ≤ 2147483648)
@@ -29,12 +22,13 @@ fits_is at known e =
     let b = nat_le known.virtual_size 2147483648 in
     let c = nat_le (sum_by field_size known.fields) 65536 in
     let d = nat_le (at + length (fields_text known.fields)) 1073741824 in
-    let abc = and_left (a && b && c) d e in
-    let ab = and_left (a && b) c abc in
+    let all = (and-eq-true_iff (a && b && c) d).0 e in
+    let three = (and-eq-true_iff (a && b) c).0 all.0 in
+    let two = (and-eq-true_iff a b).0 three.0 in
     record {
-      sizes = (leb-true known.physical 2147483648 (and_left a b ab), leb-true known.virtual_size 2147483648 (and_right a b ab));
-      fields = leb-true (sum_by field_size known.fields) 65536 (and_right (a && b) c abc);
-      end = leb-true (at + length (fields_text known.fields)) 1073741824 (and_right (a && b && c) d e);
+      sizes = (leb-true known.physical 2147483648 two.0, leb-true known.virtual_size 2147483648 two.1);
+      fields = leb-true (sum_by field_size known.fields) 65536 three.1;
+      end = leb-true (at + length (fields_text known.fields)) 1073741824 all.1;
     }
 
 -- the test of the end is the last

@@ -9,7 +9,7 @@ use Rattle.std.proofs.lemmas.List.{append-nil, drop-drop, drop_at, get_or-append
 use Rattle.std.proofs.lemmas.List.Folds.{list_all-append}
 use Rattle.std.proofs.lemmas.List.Splits.{slice_split_at, slice_split_none}
 use Rattle.std.proofs.lemmas.List.Sums.{AllPass-from_list_all, list_all-from_AllPass, position_or_len_is}
-use Rattle.dv_model.specs.BoxTexts.{are_hex, AreEntries, AreFields, before_empty, box_content, BoxContent, BoxText, content_from, entries_of, entries_text, fields_text, first_line, header_at, header_size, is_entry, is_feed, is_field, is_item, is_space, IsMessageHeader, line_stamp, message_at, size_at, size_text, trailer}
+use Rattle.dv_dbox.specs.BoxTexts.{are_hex, AreEntries, AreFields, before_empty, box_content, BoxContent, BoxText, content_from, entries_of, entries_text, fields_text, first_line, header_at, header_size, is_entry, is_feed, is_field, is_item, is_space, IsMessageHeader, line_stamp, message_at, size_at, size_text, trailer}
 use Rattle.dv_dbox.proofs.Lines.{before_more, before_now, some_part}
 
 -- ---- bytes that end nothing

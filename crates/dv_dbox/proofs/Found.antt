@@ -11,7 +11,7 @@ use Rattle.std.proofs.lemmas.List.Splits.{join_with_byte-slice_split}
 use Rattle.std.proofs.lemmas.List.Sums.{AllPass-from_list_all, fails_before_first, list_all-from_AllPass, passes_at_first, split_at_first}
 use Rattle.std.proofs.lemmas.Slice.Eq.{bytes_eq-Decides}
 use Rattle.dv_fields.proofs.FirstLines.{position-some}
-use Rattle.dv_model.specs.BoxTexts.{◌>>=◌, are_hex, AreEntries, AreFields, BadEnd, BadHeader, BadMessageHeader, BadMetadata, BadSize, before_empty, box_content, BoxContent, BoxFault, BoxText, content_from, end_at, entries_of, entries_text, fields_of, fields_text, first_line, guid_number, header_at, header_size, hex_number, is_entry, is_feed, is_field, is_header_size, is_item, is_other, is_space, IsMessageHeader, line_stamp, message_at, size_at, size_text, stamp_of, trailer, value_at, value_of}
+use Rattle.dv_dbox.specs.BoxTexts.{◌>>=◌, are_hex, AreEntries, AreFields, BadEnd, BadHeader, BadMessageHeader, BadMetadata, BadSize, before_empty, box_content, BoxContent, BoxFault, BoxText, content_from, end_at, entries_of, entries_text, fields_of, fields_text, first_line, guid_number, header_at, header_size, hex_number, is_entry, is_feed, is_field, is_header_size, is_item, is_other, is_space, IsMessageHeader, line_stamp, message_at, size_at, size_text, stamp_of, trailer, value_at, value_of}
 use Rattle.dv_dbox.proofs.Again.{ended, is_plain, is_unended, regrouped, spaced}
 
 -- ---- steps that did not fail

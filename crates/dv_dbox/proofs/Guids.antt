@@ -9,7 +9,7 @@ use Rattle.hex.specs.declared.error.FromHexError.{FromHexError}
 use Rattle.std.specs.Char.{digit_char}
 use Rattle.std.specs.Prelude.{slice_index}
 use Rattle.hex.specs.Hex.{IsBytes, encode_lower, encode_with, lower_digits, decode_pairs, decode_sized, hex_digit_value, pair_value, ◌>>=◌}
-use Rattle.dv_model.specs.BoxTexts.{are_hex, guid_number, is_hex, paired, pairs_text}
+use Rattle.dv_dbox.specs.BoxTexts.{are_hex, guid_number, is_hex, paired, pairs_text}
 
 digit_is : (c : ℕ) → hex_digit_value c ≡ cond (is_hex c) (Some (digit_value c)) None
 digit_is c = grind (arith, nat_tests)

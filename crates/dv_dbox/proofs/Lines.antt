@@ -5,7 +5,7 @@ use Rattle.std.specs.Option.{option_map}
 use Rattle.std.proofs.lemmas.List.{append-nil}
 use Rattle.std.proofs.lemmas.List.Splits.{slice_split_first, slice_split_none, length-slice_split}
 use Rattle.std.proofs.lemmas.List.Sums.{fails_before_first}
-use Rattle.dv_model.specs.BoxTexts.{before_empty, first_line, is_feed}
+use Rattle.dv_dbox.specs.BoxTexts.{before_empty, first_line, is_feed}
 use Rattle.dv_fields.proofs.FirstLines.{position-none, position-some}
 
 -- lines that were read, before the others

@@ -3,7 +3,7 @@ use Rattle.std.proofs.Common.{◌≡◌, ℕ, ◌-◌, ◌^◌, false, List, [],
 use Rattle.std.specs.Prelude.{IfOk, codes}
 use Rattle.std.specs.Fmt.{char_count, format_spec, padded_integral}
 use Rattle.std.proofs.lemmas.List.{append-nil}
-use Rattle.dv_model.specs.BoxTexts.{first_line_text, hex_text, message_header_text, metadata_text, pairs_text, trailer}
+use Rattle.dv_dbox.specs.BoxTexts.{first_line_text, hex_text, message_header_text, metadata_text, pairs_text, trailer}
 
 -- what `{:016x}` writes
 pub zeros_before : (numeral : List ℕ) → padded_integral (format_spec 32 0 4 16 (2 ^ 64 - 1)) false [] numeral ≡ replicate (16 - length numeral) 48 ++ numeral

@@ -12,7 +12,7 @@ use Rattle.std.proofs.lemmas.List.{append-nil, length-append, length-replicate}
 use Rattle.std.proofs.lemmas.List.Sums.{AllPass-from_list_all, count_by-le-length}
 use Rattle.std.proofs.Math.Nat.{pow-suc}
 use Rattle.dv_model.specs.Fields.{is_bare_feed, virtual_size, with_previous}
-use Rattle.dv_model.specs.BoxTexts.{are_hex, AreEntries, AreFields, BoxText, entries_text, fields_text, first_line_text, guid_number, hex_number, hex_text, is_entry, is_field, is_hex, IsMessageHeader, message_header_text, metadata_text, paired, pairs_text, trailer, wide_hex_text, written}
+use Rattle.dv_dbox.specs.BoxTexts.{are_hex, AreEntries, AreFields, BoxText, entries_text, fields_text, first_line_text, guid_number, hex_number, hex_text, is_entry, is_field, is_hex, IsMessageHeader, message_header_text, metadata_text, paired, pairs_text, trailer, wide_hex_text, written}
 use Rattle.dv_dbox.specs.Reading.{written_content}
 use Rattle.dv_dbox.proofs.Again.{is_plain, is_unended}
 

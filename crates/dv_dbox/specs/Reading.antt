@@ -2,8 +2,8 @@
 use Rattle.std.specs.Prelude.{◌≡◌, ℕ, List, [], map, Some, Result, Ok, Err}
 use Rattle.std.specs.Borrow.{Bor}
 use Rattle.dv_model.specs.Fields.{physical_size, virtual_size}
-use Rattle.dv_model.specs.BoxTexts.{BoxContent}
-use Rattle.dv_model.specs.BoxTexts.{BoxFault as Broken, BadHeader as HeaderBroken, BadMessageHeader as MessageHeaderBroken, BadSize as SizeBroken, BadEnd as EndBroken, BadMetadata as MetadataBroken}
+use Rattle.dv_dbox.specs.BoxTexts.{BoxContent}
+use Rattle.dv_dbox.specs.BoxTexts.{BoxFault as Broken, BadHeader as HeaderBroken, BadMessageHeader as MessageHeaderBroken, BadSize as SizeBroken, BadEnd as EndBroken, BadMetadata as MetadataBroken}
 use Rattle.dv_dbox.specs.declared.fault.BoxEnd.{BoxEnd}
 use Rattle.dv_dbox.specs.declared.fault.BoxEnd.TheVariants as ends
 use Rattle.dv_dbox.specs.declared.fault.BoxFault.{BoxFault}

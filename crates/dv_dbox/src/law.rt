@@ -1,5 +1,5 @@
 ghost use Rattle.std.specs.Prelude.{◌≡◌, ◌^◌, ◌<◌, ◌++◌, ℕ, List, length, slice_index};
-ghost use Rattle.dv_model.specs.BoxTexts.{box_content, BoxContent, BoxText, written};
+ghost use Rattle.dv_dbox.specs.BoxTexts.{box_content, BoxContent, BoxText, written};
 ghost use Rattle.dv_dbox.specs.Reading.{written_content};
 
 /// What is written is of the format, and is read back, whatever follows it.

@@ -1,8 +1,8 @@
 ghost use Rattle.std.specs.Prelude.{◌≡◌, filter, IfOk};
 ghost use Rattle.std.specs.List.{slice_split};
 ghost use Rattle.std.specs.Option.{option_and_then, option_copied, ok_or};
-ghost use Rattle.dv_model.specs.BoxTexts.{before_empty, box_content, BoxContent, BoxText, content_from, end_at, entries_of, fields_of, guid_number, header_at, header_size, hex_number, is_feed, is_header_size, is_other, is_space, message_at, read_at, size_at, stamp_of};
-ghost use Rattle.dv_model.specs.BoxTexts.{BadMetadata as MetadataBroken};
+ghost use Rattle.dv_dbox.specs.BoxTexts.{before_empty, box_content, BoxContent, BoxText, content_from, end_at, entries_of, fields_of, guid_number, header_at, header_size, hex_number, is_feed, is_header_size, is_other, is_space, message_at, read_at, size_at, stamp_of};
+ghost use Rattle.dv_dbox.specs.BoxTexts.{BadMetadata as MetadataBroken};
 ghost use Rattle.dv_dbox.specs.Reading.{content_of, texts, Gives, Reads};
 
 use crate::digits::{guid_of, hex_number};

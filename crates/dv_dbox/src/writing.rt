@@ -1,5 +1,5 @@
 ghost use Rattle.std.specs.Prelude.{◌≡◌, ◌++◌, IfOk, string_bytes};
-ghost use Rattle.dv_model.specs.BoxTexts.{first_line_text, message_header_text, metadata_text, trailer, written};
+ghost use Rattle.dv_dbox.specs.BoxTexts.{first_line_text, message_header_text, metadata_text, trailer, written};
 
 use dv_fields::{physical, virtual_size};
 use dv_model::{Bytes, NoMemory};

@@ -1,3 +1,4 @@
 pub mod Bits
 pub mod Texts
 pub mod Wholes
+pub mod Lines

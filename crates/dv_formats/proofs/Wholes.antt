@@ -178,12 +178,12 @@ pub each_of_all : {X : Type 0} (P Q : X → Type 0) → ((x : X) → P x → Q x
 each_of_all P Q weaker [] all = tt
 each_of_all P Q weaker (x ∷ xs) all = (weaker x (All-head P x xs all), each_of_all P Q weaker xs (All-tail P x xs all))
 
-rising_tail : (n : ℕ) (ns : List ℕ) → IsStrictlyIncreasing (n ∷ ns) → IsStrictlyIncreasing ns
+pub rising_tail : (n : ℕ) (ns : List ℕ) → IsStrictlyIncreasing (n ∷ ns) → IsStrictlyIncreasing ns
 rising_tail n ns up k below =
     let next : suc k + 1 ≡ suc (k + 1) = omega arith in
     subst (λ j. slice_index ns k < slice_index (n ∷ ns) j) next (up (suc k) (omega (arith, below)))
 
-rise_behind : (n : ℕ) (ns : List ℕ) → IsStrictlyIncreasing (n ∷ ns) → Rise (n + 1) ns
+pub rise_behind : (n : ℕ) (ns : List ℕ) → IsStrictlyIncreasing (n ∷ ns) → Rise (n + 1) ns
 rise_behind n [] up = tt
 rise_behind n (m ∷ ns) up = let step = up 0 (omega arith) in (omega (arith, step), rise_behind m ns (rising_tail n (m ∷ ns) up))
 

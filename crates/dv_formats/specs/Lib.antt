@@ -1,5 +1,6 @@
 pub mod Scripts
 pub mod Printing
+pub mod Generators
 pub mod Snapshots
 pub mod Feeds
 pub mod Laws

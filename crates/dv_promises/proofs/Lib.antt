@@ -1,4 +1,3 @@
-pub mod Moves
 pub mod Small
 pub mod Agreeing
 pub mod Groups

@@ -23,7 +23,7 @@ use Rattle.dv_model.specs.Laws.{Follows, IsReadIn}
 use Rattle.dv_model.specs.Sessions.{data_of, ending_of, fetch_lines, message_in, reads_message, value_of}
 use Rattle.dv_model.specs.Sets.{named}
 use Rattle.dv_model.specs.Views.{Known, View, all_heard, changes, growth, heard, known_of, known_row, moved, names_of, numbers, said, same_row, shows_uid, unknown, with_number}
-use Rattle.dv_promises.proofs.Moves.{Aligned, Moves, aligned, aligned_short, above_of_rising, each_of_all, full_moves, held_moves}
+use Rattle.dv_model.proofs.Clients.{Aligned, Moves, aligned, aligned_short, above_of_rising, each_of_all, full_moves, held_moves}
 use Rattle.dv_interleavings.specs.Promises.{KeepsNumbers, is_expunge}
 use Rattle.dv_promises.proofs.Hearing.{StandsAt, ending_heard, named_stand, numbered_stand}
 

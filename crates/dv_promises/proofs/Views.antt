@@ -16,7 +16,7 @@ use Rattle.dv_model.specs.declared.types.Step.TheVariants.{Held, Full}
 use Rattle.dv_model.specs.Laws.{Follows, IsReadIn}
 use Rattle.dv_model.specs.Mailboxes.{IsRowOf, IsValid}
 use Rattle.dv_model.specs.Views.{View, moved, shown, shows_uid}
-use Rattle.dv_promises.proofs.Moves.{Above, from_uid, held_moves, held_row, held_uid, shows}
+use Rattle.dv_model.proofs.Clients.{Above, from_uid, held_moves, held_row, held_uid, shows}
 
 -- ---- rows in rising order
 

@@ -14,16 +14,18 @@ use Rattle.dv_validity.specs.Laws.{IsInRange}
 
 -- ---- events
 
--- the keywords that the command names are names (RFC 3501, section 9, atom)
-abbrev pub HasNames : Command → Type 0
-HasNames (command.Append flags keywords message) = All IsName keywords
-HasNames (command.Store by_uid set how flags keywords since) = All IsName keywords
-HasNames c = Unit {0}
-
--- a command that is written names keywords by names alone, since records of other names have no spelling
+-- a session's number has 32 bits, and a command that is written is one of its type, since other records have no spelling
 abbrev pub IsGoodEvent : Event → Type 0
-IsGoodEvent (Write s c received) = HasNames c
+IsGoodEvent (Write s c received) = IsU32 s × IsCommand c
 IsGoodEvent event = Unit {0}
+
+-- ---- the beginning
+
+-- a valid mailbox, a place of a log, and messages with GUIDs of 16 bytes
+pub record IsStart (start : Mailbox) (indexid : ℕ) (mark : Mark) (stored : List Stored) : Type 0 where
+  pub mailbox : IsValid start × HasResets start
+  pub numbers : IsU32 indexid × IsU32 mark.file_seq × IsU32 mark.offset
+  pub guids : All (λ s. IsGuid s.guid) stored
 
 -- ---- a session's story
 
@@ -46,7 +48,7 @@ pub record IsWriting (log : Log) (s : ℕ) (x : State) (write : Wrote) : Type 0 
   -- the mailbox that it met
   pub before : Mailbox
   pub was_there : at log write.met ≡ Some before
-  pub allowed : refusal_of x write.command before (mark_of log write.met) log.guid ≡ None
+  pub allowed : refused_at log write.met x write.command before ≡ None
   pub wrote : HasWrote log s write.met write.place x.view write.command before
   -- it met no fewer entries than its session was told of, and its place is in the log
   pub told : x.told ≤ write.met
@@ -67,12 +69,12 @@ pub record IsTried (log : Log) (start : ℕ) (turns : List Turn) (last : State) 
   -- the mailbox that it met, where it was allowed
   pub mailbox : Mailbox
   pub is_there : at log (length log.entries) ≡ Some mailbox
-  pub allowed : refusal_of state p.command mailbox (mark_of log (length log.entries)) log.guid ≡ None
+  pub allowed : refused_at log (length log.entries) state p.command mailbox ≡ None
   -- its group is that of the rules, and isn't empty
   pub group : p.group ≡ group_of p.command state.view mailbox log.guid
   pub some : 1 ≤ length p.group.records
   -- it is a write of a good event, and met no fewer entries than its session was told of
-  pub names : HasNames p.command
+  pub good : IsCommand p.command
   pub write : is_write p.command ≡ true
   pub told : state.told ≤ length log.entries
   -- the session wrote no entry since

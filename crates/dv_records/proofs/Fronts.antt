@@ -3,7 +3,7 @@ use Rattle.std.proofs.Common.{◌≡◌, ℕ, ◌+◌, ◌-◌, ◌^◌, ◌<◌
 use Rattle.std.specs.Int.{w16, w32, to_le_bytes, from_le_bytes}
 use Rattle.std.proofs.lemmas.Bool.{ltb-false, le-ltb, eqb-false, ne_eqb, or_from, or_parts}
 use Rattle.std.proofs.lemmas.Option.{none-some, same_Some}
-use Rattle.std.proofs.lemmas.List.{length-take, length-drop, drop-take, get_or-take, take_all}
+use Rattle.std.proofs.lemmas.List.{length-take, length-drop, drop-take, get_or-take, take-take, take_all}
 use Rattle.std.proofs.Math.Seq.{take-add, drop-cons}
 use Rattle.std.proofs.lemmas.Nat.{le_bytes_2, le_bytes_4, from_le_bytes-to_le_bytes_2, from_le_bytes-to_le_bytes_4}
 use Rattle.dv_model.specs.declared.types.Change.{Change}
@@ -43,12 +43,6 @@ pub joined : (n m : ℕ) (b x y : List ℕ) → take n b ≡ x → take m (drop 
 joined n m b x y p q = take-add n m b ∙ ap (λ (t : List ℕ). t ++ take m (drop n b)) p ∙ ap (λ (t : List ℕ). x ++ t) q
 
 -- ---- what stands in a front of the bytes
-
-pub take-take : (m n : ℕ) (b : List ℕ) → m ≤ n → take m (take n b) ≡ take m b
-take-take zero n b le = refl
-take-take (suc m) zero b le = absurd (omega arith)
-take-take (suc m) (suc n) [] le = refl
-take-take (suc m) (suc n) (x ∷ b) le = ap (λ (t : List ℕ). x ∷ t) (take-take m n b (omega arith))
 
 pub inner : (at m k : ℕ) (b : List ℕ) → at + m ≤ k → take m (drop at (take k b)) ≡ take m (drop at b)
 inner at m k b le =

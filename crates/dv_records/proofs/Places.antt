@@ -2,7 +2,7 @@
 use Rattle.std.proofs.Common.{◌≡◌, ℕ, ◌+◌, ◌-◌, ◌/◌, ◌%◌, ◌^◌, ◌<◌, ◌≤◌, false, ltb, List, length, take, drop, Err, sym, ap, subst, ◌∙◌, arith}
 use Rattle.std.specs.Int.{w32, to_le_bytes}
 use Rattle.std.proofs.lemmas.Bool.{or_parts, ltb-false}
-use Rattle.std.proofs.lemmas.List.{length-take, drop-take}
+use Rattle.std.proofs.lemmas.List.{length-take, drop-take, take-take}
 use Rattle.dv_model.specs.declared.types.Body.{Body}
 use Rattle.dv_model.specs.declared.types.Record.{Record}
 use Rattle.dv_model.specs.Spelling.{size_code, is_closed, type_of}
@@ -11,7 +11,7 @@ use Rattle.dv_records.specs.declared.fault.DecodeEnd.TheVariants.{Fault, NoMemor
 use Rattle.dv_records.specs.Faults.{size_at, code_at, payload_at, has_bad_size, lacks_guard, IsBodyOf, IsFault, IsRecordAt, OnFault}
 use Rattle.dv_records.specs.Fronts.{Reads, word_at}
 use Rattle.dv_records.proofs.Loop.{IsBytes}
-use Rattle.dv_records.proofs.Fronts.{word_is, word_below, inner, take-take}
+use Rattle.dv_records.proofs.Fronts.{word_is, word_below, inner}
 use Rattle.dv_records.proofs.Sizes.{code_of_value, is_open}
 
 -- a good size has room for the header, and ends among the bytes

@@ -2,14 +2,11 @@
 use Rattle.std.proofs.Common.{◌≡◌, ℕ, ◌+◌, ◌-◌, ◌*◌, ◌/◌, ◌%◌, ◌^◌, ◌<◌, ◌≤◌, Bool, true, false, not, ◌&&◌, ◌||◌, eqb, ltb, leb, List, [], ◌∷◌, ◌++◌, length, get_or, take, Option, Some, None, refl, ap, arith}
 use Rattle.std.specs.Prelude.{is_none}
 use Rattle.std.proofs.lemmas.Bool.{or_parts, ltb-false, eqb-true, leb-true, le-leb}
+use Rattle.std.proofs.Math.Bool.{and-eq-true_iff}
 use Rattle.std.proofs.lemmas.Option.{cond_some}
 use Rattle.dv_model.specs.Spelling.{size_code, size_value, is_closed}
 use Rattle.dv_records.specs.Faults.{size_at, size_or_zero}
 use Rattle.dv_records.proofs.Loop.{IsBytes}
-
-and_true : (s t : Bool) → (s && t) ≡ true → (s ≡ true) × (t ≡ true)
-and_true true t e = (refl, e)
-and_true false t e = absurd cc
 
 four : (a b c d x y z w : ℕ) → a ≡ x → b ≡ y → c ≡ z → d ≡ w → a ∷ b ∷ c ∷ d ∷ [] ≡ x ∷ y ∷ z ∷ w ∷ []
 four a b c d x y z w p q r s = cc
@@ -22,9 +19,9 @@ code_of_value (a ∷ b ∷ []) n fits long is = absurd (omega arith)
 code_of_value (a ∷ b ∷ c ∷ []) n fits long is = absurd (omega arith)
 code_of_value (a ∷ b ∷ c ∷ d ∷ rest) n fits long is =
     let p = cond_some (leb 128 a && leb 128 b && leb 128 c && leb 128 d) (4 * (2 ^ 21 * (a - 128) + 2 ^ 14 * (b - 128) + 2 ^ 7 * (c - 128) + (d - 128))) n is in
-    let q = and_true (leb 128 a && leb 128 b && leb 128 c) (leb 128 d) p.0 in
-    let r = and_true (leb 128 a && leb 128 b) (leb 128 c) q.0 in
-    let s = and_true (leb 128 a) (leb 128 b) r.0 in
+    let q = (and-eq-true_iff (leb 128 a && leb 128 b && leb 128 c) (leb 128 d)).0 p.0 in
+    let r = (and-eq-true_iff (leb 128 a && leb 128 b) (leb 128 c)).0 q.0 in
+    let s = (and-eq-true_iff (leb 128 a) (leb 128 b)).0 r.0 in
     let a_high : 128 ≤ a = leb-true 128 a s.0 in
     let b_high : 128 ≤ b = leb-true 128 b s.1 in
     let c_high : 128 ≤ c = leb-true 128 c r.1 in

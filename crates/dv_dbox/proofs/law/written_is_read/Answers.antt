@@ -1,5 +1,5 @@
 use Rattle.std.proofs.Common.{◌++◌}
-use Rattle.dv_model.specs.BoxTexts.{written}
+use Rattle.dv_dbox.specs.BoxTexts.{written}
 use Rattle.dv_dbox.specs.Reading.{written_content}
 use Rattle.dv_dbox.proofs.Again.{read_again}
 use Rattle.dv_dbox.proofs.Written.{written_is_text}

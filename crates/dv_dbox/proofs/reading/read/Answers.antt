@@ -1,6 +1,6 @@
 use Rattle.std.proofs.Common.{List, ℕ, Result, Ok, Err}
 use Rattle.std.specs.Prelude.{IfOk}
-use Rattle.dv_model.specs.BoxTexts.{box_content, BoxText}
+use Rattle.dv_dbox.specs.BoxTexts.{box_content, BoxText}
 use Rattle.dv_dbox.specs.declared.fault.BoxEnd.{BoxEnd}
 use Rattle.dv_dbox.specs.declared.message.Message.{Message}
 use Rattle.dv_dbox.specs.Reading.{content_of, Gives}
