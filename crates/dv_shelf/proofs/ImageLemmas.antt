@@ -1,18 +1,16 @@
 -- What a crash may leave after one call more.
-use Rattle.std.proofs.Common.{◌≡◌, ◌⊎◌, ℕ, ◌+◌, ◌/◌, ◌<◌, ◌≤◌, Bool, true, false, cond, List, [], ◌∷◌, ◌++◌, length, map, Option, Some, None, Result, Ok, Err, OnOk, refl, sym, ◌∙◌, ap, subst, arith, inl, inr, ⊎_elim}
-use Rattle.std.specs.Prelude.{fold}
-use Rattle.std.proofs.lemmas.Bool.{eqb-true, eq-eqb}
-use Rattle.std.proofs.lemmas.List.{same_lists, get_or_default, length-take}
+use Rattle.std.proofs.Common.{◌≡◌, ◌⊎◌, ℕ, ◌<◌, ◌≤◌, Bool, true, false, cond, List, [], ◌∷◌, ◌++◌, length, map, Option, Some, None, Result, Ok, Err, OnOk, refl, sym, ◌∙◌, ap, subst, arith, inl, inr, ⊎_elim}
+use Rattle.std.proofs.lemmas.List.{same_lists, get_or_default}
 use Rattle.dv_shelf.specs.declared.shelf.Name.{Name}
 use Rattle.dv_shelf.specs.declared.shelf.Failed.{Failed}
 use Rattle.dv_shelf.specs.declared.record.Deed.{Deed}
 use Rattle.dv_shelf.specs.declared.record.Deed.TheVariants.{Write, Sync, Replace, Remove}
 use Rattle.dv_shelf.specs.declared.record.Outcome.{Outcome}
 use Rattle.dv_shelf.specs.declared.record.Outcome.TheVariants.{Done, Hidden, Shown}
-use Rattle.dv_shelf.specs.Folders.{Folder, with_file, same_name, name_number, ChangesOnly, TornFile, IsEither}
+use Rattle.dv_shelf.specs.Folders.{Folder, with_file, same_name, ChangesOnly, TornFile, IsEither}
 use Rattle.dv_shelf.specs.Crashes.{Follows, FollowsNone}
-use Rattle.dv_shelf.specs.Disks.{Made, Version, Gone, There, Versions, Disk, version_bytes, version_written, versions_then, versions_put, settled, settled_version, stuck, as_read, disk_then, disk_after, new_disk, files_after}
-use Rattle.dv_shelf.specs.Images.{IsTornImage, IsFileImage, IsImageOfOne, IsOneImage, IsLoose, LeftBy}
+use Rattle.dv_shelf.specs.Disks.{Made, Version, Versions, Disk, version_written, versions_then, versions_put, settled, settled_version, stuck, as_read, disk_then, disk_after, files_after}
+use Rattle.dv_shelf.specs.Images.{IsFileImage, IsImageOfOne, IsOneImage, IsLoose, LeftBy}
 use Rattle.dv_shelf.proofs.DiskLemmas.{disk_more}
 use Rattle.dv_shelf.proofs.ShelfLemmas.{Grew, call_made, same_torn, sync_reads}
 use Rattle.dv_shelf.proofs.FolderLemmas.{Step, same_is, is_same, with_changes}

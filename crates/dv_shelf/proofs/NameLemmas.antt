@@ -1,13 +1,12 @@
 -- Which files are there.
-use Rattle.std.proofs.Common.{◌≡◌, ◌≢◌, ◌⊎◌, ℕ, ◌+◌, ◌<◌, suc, zero, Bool, true, false, List, [], ◌∷◌, ◌++◌, length, take, map, fold, get_or, is_some, IsSome, Contains, refl, sym, ap, subst, arith, inl, inr, ⊎_elim}
+use Rattle.std.proofs.Common.{◌≡◌, ◌≢◌, ◌⊎◌, ℕ, ◌+◌, ◌<◌, suc, zero, Bool, true, false, List, [], ◌∷◌, ◌++◌, length, take, map, fold, get_or, is_some, IsSome, Contains, refl, sym, subst, arith, inl, inr, ⊎_elim}
 use Rattle.std.specs.Prelude.{AllPairs}
-use Rattle.std.proofs.lemmas.Bool.{eqb-true, eq-eqb}
 use Rattle.std.proofs.lemmas.List.{map-append, take_more}
 use Rattle.std.proofs.lemmas.List.Elements.{Contains-append_right, Contains-append_left, Contains-push, Contains-push_cases}
 use Rattle.std.proofs.lemmas.List.Quantifiers.{all_pairs_push}
 use Rattle.dv_shelf.specs.declared.shelf.Name.{Name}
 use Rattle.dv_shelf.specs.declared.record.Call.{Call}
-use Rattle.dv_shelf.specs.Folders.{Folder, Lists, same_name, has_name, name_number, names_then}
+use Rattle.dv_shelf.specs.Folders.{Folder, Lists, same_name, has_name, names_then}
 use Rattle.dv_shelf.specs.Disks.{Disk, disk_then, new_disk, files_after, as_read}
 use Rattle.dv_shelf.specs.Records.{made_call}
 use Rattle.dv_shelf.specs.Samples.{AreNamesWith}

@@ -3,13 +3,12 @@ use Rattle.std.proofs.Common.{◌≡◌, ◌⊎◌, ℕ, ◌+◌, ◌<◌, ◌�
 use Rattle.std.specs.Prelude.{fold, unwrap_or}
 use Rattle.std.specs.List.{list_any}
 use Rattle.std.proofs.lemmas.List.{take-append-drop, drop_more}
-use Rattle.std.proofs.lemmas.Bool.{eqb-true, eq-eqb}
 use Rattle.dv_shelf.specs.declared.shelf.Name.{Name}
 use Rattle.dv_shelf.specs.declared.record.Deed.{Deed}
 use Rattle.dv_shelf.specs.declared.record.Deed.TheVariants.{Write, Sync, Replace, Remove}
 use Rattle.dv_shelf.specs.declared.record.Outcome.{Outcome}
 use Rattle.dv_shelf.specs.declared.record.Outcome.TheVariants.{Done, Hidden, Shown}
-use Rattle.dv_shelf.specs.Folders.{with_file, patched, same_name, name_number}
+use Rattle.dv_shelf.specs.Folders.{with_file, patched, same_name}
 use Rattle.dv_shelf.specs.Disks.{Made, Range, Version, Gone, There, Versions, Disk, version_bytes, version_written, versions_then, stuck, disk_then, disk_after, new_disk, files_after, settles_file}
 use Rattle.dv_shelf.specs.Images.{Covers, furthest, IsFileImage, IsOneImage, LeftBy, settles}
 use Rattle.dv_shelf.specs.Samples.{IsUnsynced, torn_file}

@@ -23,10 +23,14 @@ patched_length old at bytes =
     let filled = length-append old zeros in
     let gap = length-replicate {A = ℕ} (at - length old) 0 in
     let long : length front ≡ at = omega (arith, length-take at (old ++ zeros), filled, gap) in
-    let both : length (front ++ bytes) ≡ at + length bytes = omega (arith, length-append front bytes) in
+    let both : length (front ++ bytes) ≡ at + length bytes =
+    omega (arith, length-append front bytes) in
     let all = length-append (front ++ bytes) (drop (at + length bytes) old) in
     let less = length-drop (at + length bytes) old in
-    record { no_shorter = omega (arith, all, less, both); no_longer = omega (arith, all, less, both) }
+    record {
+      no_shorter = omega (arith, all, less, both);
+      no_longer = omega (arith, all, less, both);
+    }
 
 pub stuck_short : (outcome : Outcome) (bytes : List ℕ) → length (stuck outcome bytes) ≤ length bytes
 stuck_short Done bytes = omega arith
@@ -43,7 +47,11 @@ abbrev pub IsReadable : Version → Type 0
 IsReadable version = IsFileImage version (version_bytes version)
 
 whole_image : (bytes : List ℕ) → IsTornImage bytes (length bytes) [] bytes
-whole_image bytes = record { firm = λ k firm. refl; no_shorter = omega arith; no_longer = omega arith }
+whole_image bytes = record {
+  firm = λ k firm. refl;
+  no_shorter = omega arith;
+  no_longer = omega arith;
+}
 
 pub settled_readable : (file : Option (List ℕ)) → IsReadable (settled_version file)
 settled_readable None = tt
@@ -53,7 +61,11 @@ pub written_readable : (at n : ℕ) (stuck : List ℕ) (version : Version) → l
     → IsReadable version → IsReadable (version_written at n stuck version)
 written_readable at n stuck Gone le is =
     let long = patched_length [] at stuck in
-    record { firm = λ k firm. refl; no_shorter = omega arith; no_longer = omega (arith, long.no_longer) }
+    record {
+      firm = λ k firm. refl;
+      no_shorter = omega arith;
+      no_longer = omega (arith, long.no_longer);
+    }
 written_readable at n stuck (There bytes base written new) le is =
     let long = patched_length bytes at stuck in
     let more = furthest-push written (record { from = at; upto = at + n }) in
@@ -70,7 +82,8 @@ Readable versions = IsFileImage versions.first (as_read versions)
 then_readable : (deed : Deed) (outcome : Outcome) (bytes : List ℕ) (versions : Versions)
     → Readable versions → Readable (versions_then deed outcome bytes versions)
 then_readable (Write at) outcome bytes versions is =
-    written_readable at (length bytes) (stuck outcome bytes) versions.first (stuck_short outcome bytes) is
+    written_readable at (length bytes) (stuck outcome bytes) versions.first
+    (stuck_short outcome bytes) is
 then_readable Sync Done bytes versions is = settled_readable (as_read versions)
 then_readable Sync Hidden bytes versions is = is
 then_readable Sync Shown bytes versions is = is

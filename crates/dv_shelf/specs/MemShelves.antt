@@ -1,5 +1,5 @@
 -- What a shelf in memory holds.
-use Rattle.std.specs.Prelude.{◌≡◌, ◌-◌, not, Result, is_ok, is_err, ℕ, ◌+◌, Bool, true, false, ◌&&◌, nat_le, cond, List, [], ◌∷◌, ◌++◌, length, Option}
+use Rattle.std.specs.Prelude.{◌≡◌, ◌-◌, not, Result, is_ok, is_err, ℕ, ◌+◌, Bool, false, ◌&&◌, nat_le, cond, List, [], ◌∷◌, ◌++◌, length, Option}
 use Rattle.dv_shelf.specs.declared.shelf.Name.{Name}
 use Rattle.dv_shelf.specs.declared.record.Deed.{Deed}
 use Rattle.dv_shelf.specs.declared.record.Outcome.{Outcome}
@@ -68,7 +68,8 @@ leaves_trace shelf bytes = is_reached (turn_of shelf.failures) && fits shelf (le
 abbrev pub calls_then : MemShelf → Name → Deed → List ℕ → List Made
 calls_then shelf name deed bytes =
     cond (leaves_trace shelf bytes)
-    (calls_of shelf ++ record { name = name; deed = deed; outcome = outcome_of shelf; bytes = bytes } ∷ [])
+    (calls_of shelf
+    ++ record { name = name; deed = deed; outcome = outcome_of shelf; bytes = bytes } ∷ [])
     (calls_of shelf)
 
 -- the room after one call more

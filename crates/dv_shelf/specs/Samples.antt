@@ -81,4 +81,4 @@ abbrev pub AddsSamples : List Made → ℕ → Images → Images → Type 0
 AddsSamples calls i old new =
     (((made : Made) (at : ℕ) → IsUnsynced calls i made at → ⊥) × (new ≡ old))
     ⊎ ((made : Made) × ((at : ℕ) × (IsUnsynced calls i made at
-        × AddsImages calls made.name (sample_files calls i made at) old new)))
+    × AddsImages calls made.name (sample_files calls i made at) old new)))

@@ -90,8 +90,8 @@ impl Record {
     ) -> Result<(), NoMemory>
         requires { 0 < length bytes.now }
         ensures { OnOk result (AddsImages (made_calls self.now) name
-            (map (torn_with (made_calls self.now) name at (drop 1 bytes.now)) (first_bytes bytes.now))
-            images.old images.new) }
+            (map (torn_with (made_calls self.now) name at (drop 1 bytes.now))
+            (first_bytes bytes.now)) images.old images.new) }
     {
         let (_, rest) = bytes.split_at(1);
         self.add_torn(alloc, images, name, at, bytes[0], rest)?;
@@ -128,7 +128,8 @@ impl Record {
         name: Name,
         file: &Option<Bytes>,
     ) -> Result<(), NoMemory>
-        ensures { OnOk result (AddsImage (made_calls self.now) name file.now images.old images.new) }
+        ensures { OnOk result
+            (AddsImage (made_calls self.now) name file.now images.old images.new) }
     {
         let image = self.image(alloc, name, file)?;
         images.push(image)?;
@@ -150,7 +151,8 @@ impl Record {
 
     /// The names of the files that are there, and this one.
     fn names_with(&self, alloc: Global, name: Name) -> Result<List<Name>, NoMemory>
-        ensures { IfOk result (λ names. AreNamesWith (files_after (made_calls self.now)) name names) }
+        ensures { IfOk result (λ names.
+            AreNamesWith (files_after (made_calls self.now)) name names) }
     {
         let mut names = self.names(alloc)?;
         if has_name(names.as_slice(), name) {

@@ -23,7 +23,7 @@ pub struct MemShelf {
 }
 
 impl MemShelf {
-    ghost use Rattle.dv_shelf.specs.Failures.{turn_of, after_answer, after_fault};
+    ghost use Rattle.dv_shelf.specs.Failures.{turn_of, after_answer};
     ghost use Rattle.dv_shelf.specs.MemShelves.{call_count, calls_of, faults_of, files_of, images_of, IsAnswered, IsUntried};
     ghost use Rattle.dv_shelf.specs.Folders.{no_files, folder_of};
     ghost use Rattle.dv_shelf.specs.Crashes.{IsSettled};
@@ -107,21 +107,15 @@ impl MemShelf {
     {
         let turn = self.failures.count_call();
         if turn == Turn::Stopped || !self.record.fits(bytes.len()) {
-            return self.fail();
+            return self.failures.fail();
         }
         let outcome = outcome_of(turn, self.shows_failed);
         self.record.add(name, deed, outcome, bytes);
-        if is_done(outcome) { Ok(()) } else { self.fail() }
-    }
-
-    /// Counts a fault.
-    fn fail(&mut self) -> Result<(), Failed>
-        ensures err { IsErr result }
-        ensures counted { self.new ≡ record self.old { failures = after_fault self.old.failures } }
-        ensures cause { HasCause (faults_of self.old) (faults_of self.new) result }
-    {
-        self.failures.count_fault();
-        Err(Failed)
+        if is_done(outcome) {
+            Ok(())
+        } else {
+            self.failures.fail()
+        }
     }
 }
 
@@ -160,7 +154,8 @@ impl Shelf for MemShelf {
         ensures time { Elapses (moment_of self.old) (moment_of self.new)
             (images_since self.old) (images_since self.new) (images_of self.new) }
         ensures reads { self.new.mail_reads ≡ counted self.old.mail_reads (mail_reads_of name) }
-        ensures cause { HasCauseOf ShelfFault.Failed (faults_of self.old) (faults_of self.new) result }
+        ensures cause { HasCauseOf ShelfFault.Failed
+            (faults_of self.old) (faults_of self.new) result }
 
         // Exactly the listed calls and those behind the stop fail.
         ensures seen { IsLook self.old self.new }
@@ -185,7 +180,8 @@ impl Shelf for MemShelf {
         ensures time { Elapses (moment_of self.old) (moment_of self.new)
             (images_since self.old) (images_since self.new) (images_of self.new) }
         ensures reads { self.new.mail_reads ≡ self.old.mail_reads }
-        ensures cause { HasCauseOf ShelfFault.Failed (faults_of self.old) (faults_of self.new) result }
+        ensures cause { HasCauseOf ShelfFault.Failed
+            (faults_of self.old) (faults_of self.new) result }
 
         // Exactly the listed calls and those behind the stop fail.
         ensures seen { IsLook self.old self.new }
@@ -243,7 +239,8 @@ impl Shelf for MemShelf {
             ≡ with_file (files_of self.old) name (Some bytes.now)) }
         ensures err { OnErr result (ChangesOnly name (IsEither (Some bytes.now))
             (files_of self.old) (files_of self.new)) }
-        ensures durable { OnOk result ((c : Folder) → images_of self.new c → c name ≡ Some bytes.now) }
+        ensures durable { OnOk result ((c : Folder) → images_of self.new c →
+            c name ≡ Some bytes.now) }
         ensures crash { Follows (ChangesOnly name (IsEither (Some bytes.now)))
             (images_of self.old) (images_of self.new) }
         ensures time { Elapses (moment_of self.old) (moment_of self.new)

@@ -139,7 +139,7 @@ impl Record {
         requires { call.now.from + call.now.len ≤ length self.now.bytes.items }
         ensures { IfOk result (λ made. made
             ≡ (if same_name call.now.name name then file_then call.now.deed call.now.outcome
-                (made_call self.now.bytes.items call.now).bytes file else file)) }
+            (made_call self.now.bytes.items call.now).bytes file else file)) }
     {
         if same_name(call.name, name) {
             file_then(alloc, call.deed, call.outcome, self.bytes_of(call), file)
