@@ -1,7 +1,7 @@
 -- What the two writes of a commit come to.
-use Rattle.std.proofs.Common.{◌≡◌, inl, inr, ℕ, suc, ◌+◌, ◌<◌, ◌≤◌, List, [], ◌∷◌, length, drop, Some, Result, Ok, Err, OnOk, OnErr, refl, sym, ◌∙◌, ap, subst}
+use Rattle.std.proofs.Common.{◌≡◌, inl, inr, ℕ, ◌+◌, ◌<◌, ◌≤◌, List, [], ◌∷◌, length, drop, Some, Result, Ok, Err, OnOk, OnErr, sym, ◌∙◌, ap, subst}
 use Rattle.dv_shelf.specs.declared.shelf.Name.TheVariants.{Log}
-use Rattle.dv_shelf.specs.Crashes.{Follows, Only}
+use Rattle.dv_shelf.specs.Crashes.{Follows}
 use Rattle.dv_shelf.specs.Folders.{Folder, contents, patched, with_file}
 use Rattle.dv_logfile.specs.declared.commit.Debt.{Debt}
 use Rattle.dv_logfile.specs.declared.commit.Debt.TheVariants as debt
@@ -13,7 +13,7 @@ use Rattle.dv_logfile.specs.Commits.{WritesSynced, WritesGroup, LeavesGroup, Rea
 use Rattle.dv_logfile.proofs.Gate.{shut_torn}
 use Rattle.dv_logfile.proofs.Groups.{group_gate, group_some}
 use Rattle.dv_logfile.proofs.Images.{Since, only_long, since_only, after_first, after_second, after_both, first_since, second_since, staged_files, opened_there, wrote_there}
-use Rattle.dv_logfile.proofs.Moments.{weaker}
+use Rattle.dv_shelf.proofs.Moments.{weaker}
 use Rattle.dv_logfile.proofs.Patches.{committed}
 use Rattle.dv_logfile.proofs.Reading.{either_reads, reads_open, reads_shut, rest_long, shut_behind, shut_stays, group_stays, staged_reads}
 

@@ -1,5 +1,5 @@
 -- What the write of a heal comes to.
-use Rattle.std.proofs.Common.{◌≡◌, ℕ, true, false, ◌+◌, ◌≤◌, List, [], ◌∷◌, length, Some, Result, Ok, Err, IsErr, sym, ◌∙◌, ap, subst, refl}
+use Rattle.std.proofs.Common.{◌≡◌, ℕ, true, false, ◌+◌, ◌≤◌, List, [], ◌∷◌, length, Result, Ok, Err, IsErr, sym, ◌∙◌, ap, subst}
 use Rattle.dv_shelf.specs.declared.shelf.Name.TheVariants.{Log}
 use Rattle.dv_shelf.specs.Crashes.{LeavesOnly}
 use Rattle.dv_shelf.specs.Folders.{Folder, contents}
@@ -11,7 +11,7 @@ use Rattle.dv_logfile.specs.Layout.{IsGroupText, longest_log}
 use Rattle.dv_logfile.specs.Gates.{FromOneOf, IsStaged}
 use Rattle.dv_logfile.specs.Reading.{IsAtRest, ReadsLeft}
 use Rattle.dv_logfile.specs.Commits.{WritesSynced, ReadsHealed}
-use Rattle.dv_logfile.proofs.Moments.{weaker}
+use Rattle.dv_shelf.proofs.Moments.{weaker}
 use Rattle.dv_logfile.proofs.Reading.{reads_none, heal_either, heal_reads, heal_shut, owed_long, group_stays, staged_reads}
 
 -- with the debt that is owed

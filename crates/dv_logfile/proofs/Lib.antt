@@ -1,5 +1,4 @@
 mod Counted
-mod Moments
 mod Gate
 pub mod Groups
 mod Images

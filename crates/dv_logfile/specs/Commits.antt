@@ -4,7 +4,7 @@ use Rattle.std.specs.Prelude.{◌≡◌, ℕ, ◌+◌, ◌-◌, ◌*◌, ◌^◌
 use Rattle.dv_model.specs.declared.types.Mark.{Mark}
 use Rattle.dv_model.specs.declared.types.Record.{Record}
 use Rattle.dv_shelf.specs.declared.shelf.Name.TheVariants.{Log}
-use Rattle.dv_shelf.specs.Crashes.{Follows, LeavesOnly, Only}
+use Rattle.dv_shelf.specs.Crashes.{Follows, IsSettled, LeavesOnly}
 use Rattle.dv_shelf.specs.Folders.{Folder, with_file, contents, patched, ChangesOnly, TornFile}
 use Rattle.dv_logfile.specs.declared.commit.Debt.TheVariants as debt
 use Rattle.dv_logfile.specs.declared.commit.LogFile.{LogFile}
@@ -66,7 +66,7 @@ pub record ShutsGate (old : LogFile) {T E : Type 0} (result : Result T E) (befor
 -- gate; one behind Ok the group, one behind an error what the debt says.
 pub record LeavesGroup {S : Type 0} (files : S → Folder) (may_leave : S → Folder → Type 0) (moment : S → ℕ) (left_since : S → ℕ → Folder → Type 0)
     (text : List ℕ) (log new_log : LogFile) {T E : Type 0} (result : Result T E) (old new : S) : Type 0 where
-  pub any_moment : Only (files old) (may_leave old) → log.end < length (contents (files old) Log)
+  pub any_moment : IsSettled files may_leave old → log.end < length (contents (files old) Log)
       → LeavesOnly moment left_since old new (IsBeforeOrAfter (files old) log.end text)
   pub since : AreLong log.end (may_leave old)
       → LeavesOnly moment left_since old new (FromOneOf (may_leave old) (λ d c. IsBeforeOrAfter d log.end text c))

@@ -12,7 +12,7 @@ use Rattle.dv_cli.specs.Runs.{EndCause, MayLeave}
 use Rattle.dv_cli.specs.Servings.{standing_of, HasLog, HoldsLog}
 use Rattle.dv_cli.specs.Standings.{Standing, IsServed}
 use Rattle.dv_cli.proofs.Counted.{rose_earlier}
-use Rattle.dv_cli.proofs.Crashes.{joined, weaker}
+use Rattle.dv_shelf.proofs.Moments.{joined, weaker}
 use Rattle.dv_cli.proofs.CrashRuns.{answered_ok, lines_after, lines_may_leave, made_may_leave, stands_served, unmade_after, unmade_not}
 use Rattle.dv_cli.proofs.FolderRuns.{unmade_cause, serves_where}
 use Rattle.dv_cli.proofs.Left.{finds_at}

@@ -1,10 +1,9 @@
-use Rattle.std.proofs.Common.{◌≡◌, List, ℕ, length, true, false, Result, Ok, Err, IsErr, OnOk, OnErr, sym, ◌∙◌, subst}
+use Rattle.std.proofs.Common.{◌≡◌, length, true, false, Result, Ok, Err, IsErr, OnOk, OnErr, ◌∙◌}
 use Rattle.dv_shelf.specs.declared.shelf.Name.TheVariants.{Log}
 use Rattle.dv_shelf.specs.Folders.{Folder, ChangesOnly, TornFile}
 use Rattle.dv_shelf.proofs.Moments.{goes_on}
-use Rattle.dv_shelf.proofs.Torn.{patched_changes}
 use Rattle.dv_logfile.specs.Gates.{FromOneOf}
-use Rattle.dv_logfile.proofs.Gate.{written_once}
+use Rattle.dv_logfile.proofs.Gate.{written_once, written_torn}
 use Rattle.dv_logfile.proofs.commit.write_synced.Goals as goal
 
 on_ok : {T E : Type 0} (r : Result T E) {P : Type 0} → P → OnOk r P
@@ -45,7 +44,7 @@ returns-clause-writes g c = λ tells.
     let crash : (f : Folder) → S.may_leave s2 f → FromOneOf (S.may_leave s0) step f = λ f left. c.write_at.ensures.crash tells f (c.sync.ensures.crash tells f left) in
     record {
       ok = on_ok c.sync.result wrote;
-      err = on_err c.sync.result (subst (step (S.files s0)) (sym {b = S.files s2} wrote) (patched_changes (S.files s0) Log c.args.at bytes));
+      err = on_err c.sync.result (written_torn (S.files s0) (S.files s2) c.args.at bytes wrote);
       durable = c.sync.ensures.durable tells;
       crash = crash;
       since = goes_on S.moment S.left_since s0 c.write_at.new.self s2 (FromOneOf (S.may_leave s0) step) (S.may_leave s2) first (c.sync.ensures.time tells) crash;

@@ -9,7 +9,8 @@ use Rattle.dv_cli.specs.Running.{answer_text}
 use Rattle.dv_cli.specs.Servings.{standing_of, HasLog}
 use Rattle.dv_cli.specs.Standings.{Standing, step, behind_line, behind_lines}
 use Rattle.dv_cli.proofs.Counted.{rose_earlier}
-use Rattle.dv_cli.proofs.Crashes.{joined, stays, weaker}
+use Rattle.dv_cli.proofs.Crashes.{stays}
+use Rattle.dv_shelf.proofs.Moments.{joined, weaker}
 use Rattle.dv_cli.proofs.CrashLines.{either_end, ended_more, holds_all, holds_more, line_answered, line_stopped, step_more}
 use Rattle.dv_cli.proofs.LineLaws.{held_by, behind_more, text_more, next_line, split_at, stops, step_grows, read_on}
 use Rattle.dv_cli.proofs.serving.Serving.serve_lines.Goals as goal

@@ -16,7 +16,8 @@ use Rattle.dv_shelf.specs.declared.shelf.Name.TheVariants as name
 use Rattle.dv_cli.specs.Servings.{HoldsLog, standing_of, mailbox_of, log_records}
 use Rattle.std.proofs.lemmas.Result.{err_from_is_err_and}
 use Rattle.dv_model.specs.declared.types.Command.TheVariants as command
-use Rattle.dv_cli.proofs.Crashes.{either_left, rest_gate, appends_either, appends_group, stays, weaker}
+use Rattle.dv_cli.proofs.Crashes.{either_left, rest_gate, appends_either, appends_group, stays}
+use Rattle.dv_shelf.proofs.Moments.{weaker}
 use Rattle.dv_cli.proofs.Serves.{Gains, append_entry, append_is_step, serving_gains, records_more, log_written, log_long, append_leaves, append_entries}
 use Rattle.dv_cli.proofs.serving.Serving.write_append.Given as given
 use Rattle.dv_cli.proofs.serving.Serving.write_append.Goals as goal

@@ -1,4 +1,4 @@
-use Rattle.std.proofs.Common.{arith, ap, sym, subst, ◌∙◌, ◌+◌, ◌≤◌, ◌*◌, ◌≡◌, ℕ, List, min, ◌-◌, ◌^◌, length, refl}
+use Rattle.std.proofs.Common.{arith, ap, sym, subst, ◌∙◌, ◌+◌, ◌≡◌, ℕ, List, min, ◌-◌, ◌^◌, length, refl}
 use Rattle.dv_model.specs.declared.types.Record.{Record}
 use Rattle.dv_logfile.specs.Layout.{Spelled, closing}
 use Rattle.dv_logfile.proofs.Commits.{first_bytes, first_crash, second_bytes, second_crash, both_bytes, both_crash, group_read}
