@@ -1,5 +1,5 @@
 -- No line of a reply begins another, and each is of one session and one reply.
-use Rattle.std.proofs.Common.{◌≡◌, ◌⊎◌, inl, inr, ℕ, ◌+◌, ◌^◌, ◌<◌, ◌≤◌, Bool, true, false, ◌&&◌, cond, eqb, leb, List, [], ◌∷◌, ◌++◌, length, get_or, take, drop, All, Option, Some, None, codes, map, flat_map, refl, sym, ◌∙◌, ap, subst, arith, append_assoc}
+use Rattle.std.proofs.Common.{◌≡◌, ◌⊎◌, inl, inr, ℕ, ◌^◌, ◌<◌, true, cond, eqb, List, [], ◌∷◌, ◌++◌, length, get_or, drop, All, Option, Some, None, codes, map, flat_map, refl, sym, ◌∙◌, ap, arith, append_assoc}
 use Rattle.std.specs.Fmt.{decimal}
 use Rattle.std.proofs.lemmas.Bool.{ne_eqb}
 use Rattle.std.proofs.lemmas.Fmt.{decimal_nonempty}
@@ -14,7 +14,7 @@ use Rattle.dv_model.specs.declared.types.Word.TheVariants as word
 use Rattle.dv_model.specs.Texts.{given_text, line_text, mark_text, modified_text, reply_text, spaced, value_text, with_commas, word_text}
 use Rattle.dv_formats.specs.Replies.{AreNumbers, IsGiven, IsPlace, IsReply, IsReplyLine, IsValue}
 use Rattle.dv_formats.specs.Scripts.{is_session_byte}
-use Rattle.dv_formats.proofs.Stops.{EndsBy, IsDigit, Stops, apart, are_digits, comma_words, ends_by, list_one, number_one, numbers_one, spaced_map, stops_by}
+use Rattle.dv_formats.proofs.Stops.{IsDigit, Stops, apart, are_digits, comma_words, ends_by, list_one, number_one, numbers_one, spaced_map, stops_by}
 use Rattle.dv_formats.proofs.Values.{value_one}
 
 -- ---- parts of a reply
