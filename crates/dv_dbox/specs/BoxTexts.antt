@@ -160,12 +160,14 @@ abbrev pub entries_of : List ℕ → Option (List (List ℕ))
 entries_of text = option_and_then (λ entries. if list_all is_item entries then Some entries else None) (before_empty (slice_split is_feed text))
 
 -- a value that may be absent
-abbrev pub read_at : {A : Type 0} → (List ℕ → Option A) → Option (List ℕ) → Result (Option A) BoxFault
+abbrev pub read_at : {A : Type 0} → (List ℕ → Option A) → Option (List ℕ)
+    → Result (Option A) BoxFault
 read_at read None = Ok None
 read_at read (Some value) = ok_or (option_map (λ x. Some x) (read value)) BadMetadata
 
 -- the value of a key, which may be absent
-abbrev pub value_at : {A : Type 0} → (List ℕ → Option A) → ℕ → List (List ℕ) → Result (Option A) BoxFault
+abbrev pub value_at : {A : Type 0} → (List ℕ → Option A) → ℕ → List (List ℕ)
+    → Result (Option A) BoxFault
 value_at read key entries = read_at read (value_of key entries)
 
 -- a line of another key than G, R, Z and V

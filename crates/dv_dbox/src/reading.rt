@@ -118,7 +118,8 @@ fn end_of(b: &[u8]) -> Result<&[u8], BoxFault>
 
 /// The lines before the first empty one.
 fn lines_of(alloc: Global, b: &[u8]) -> Result<Vec<&[u8]>, BoxEnd>
-    ensures { Gives (λ lines. texts lines.items) result (ok_or (before_empty (slice_split is_feed b.now)) MetadataBroken) }
+    ensures { Gives (λ lines. texts lines.items) result
+        (ok_or (before_empty (slice_split is_feed b.now)) MetadataBroken) }
 {
     let mut lines = Vec::new(alloc);
     let mut rest = b;
@@ -134,7 +135,8 @@ fn lines_of(alloc: Global, b: &[u8]) -> Result<Vec<&[u8]>, BoxEnd>
 
 /// The lines of the metadata.
 fn entries_of(alloc: Global, b: &[u8]) -> Result<Vec<&[u8]>, BoxEnd>
-    ensures { Gives (λ entries. texts entries.items) result (ok_or (entries_of b.now) MetadataBroken) }
+    ensures { Gives (λ entries. texts entries.items) result
+        (ok_or (entries_of b.now) MetadataBroken) }
 {
     let lines = lines_of(alloc, b)?;
     if !are_items(&lines) {

@@ -12,21 +12,24 @@ abbrev is_feed : ℕ → Bool
 is_feed b = eqb b 10
 
 -- what a first place says
-pub position-some : (p : ℕ → Bool) (xs : List ℕ) (i : ℕ) → position p xs ≡ Some i → (position_or_len p xs ≡ i) × (i < length xs)
+pub position-some : (p : ℕ → Bool) (xs : List ℕ) (i : ℕ) → position p xs ≡ Some i
+    → (position_or_len p xs ≡ i) × (i < length xs)
 position-some p xs i e =
     elim (cases_lt (position_or_len p xs) (length xs)) [
       | inl lt ↦ let f : Some (position_or_len p xs) ≡ Some i = rw (lt-ltb _ _ lt) at e in let g : position_or_len p xs ≡ i = cc in (g, omega arith)
       | inr le ↦ let f : None ≡ Some i = rw (le-ltb _ _ le) at e in absurd cc
     ]
 
-pub position-none : (p : ℕ → Bool) (xs : List ℕ) → position p xs ≡ None → length xs ≤ position_or_len p xs
+pub position-none : (p : ℕ → Bool) (xs : List ℕ) → position p xs ≡ None
+    → length xs ≤ position_or_len p xs
 position-none p xs e =
     elim (cases_lt (position_or_len p xs) (length xs)) [
       | inl lt ↦ let f : Some (position_or_len p xs) ≡ None = rw (lt-ltb _ _ lt) at e in absurd cc
       | inr le ↦ le
     ]
 
-pub first_line : (text : List ℕ) (i : ℕ) → position (λ b. eqb b 10) text ≡ Some i → lines text ≡ strip_carriage_return (take i text) ∷ lines (drop (i + 1) text)
+pub first_line : (text : List ℕ) (i : ℕ) → position (λ b. eqb b 10) text ≡ Some i
+    → lines text ≡ strip_carriage_return (take i text) ∷ lines (drop (i + 1) text)
 first_line text i e =
     let at = position-some is_feed text i e in
     let here : position_or_len is_feed text < length text = omega (arith, at.0, at.1) in
@@ -37,7 +40,8 @@ first_line text i e =
     ap lines_of_parts parts ∙ line_before (take (position_or_len is_feed text) text) rest some in
     whole ∙ ap (λ (k : ℕ). strip_carriage_return (take k text) ∷ lines (drop (k + 1) text)) at.0
 
-pub only_line : (text : List ℕ) → position (λ b. eqb b 10) text ≡ None → 0 < length text → lines text ≡ text ∷ []
+pub only_line : (text : List ℕ) → position (λ b. eqb b 10) text ≡ None → 0 < length text
+    → lines text ≡ text ∷ []
 only_line text e some =
     let far = position-none is_feed text e in
     ap lines_of_parts (slice_split_none is_feed text (λ k d h. fails_before_first is_feed text k d (omega arith))) ∙ last_line text some
@@ -48,28 +52,33 @@ one_byte : (b : ℕ) (t : Bool) → eqb b 13 ≡ t → is_continuation (cond t [
 one_byte b true e = let is13 : b ≡ 13 = eqb-true _ _ e in rw is13 refl
 one_byte b false e = refl
 
-many_bytes : (b c : ℕ) (line : List ℕ) (n : ℕ) (t : Bool) → n ≡ suc (length line) → is_continuation (cond t (take n (b ∷ c ∷ line)) (b ∷ c ∷ line)) ≡ is_blank b
+many_bytes : (b c : ℕ) (line : List ℕ) (n : ℕ) (t : Bool) → n ≡ suc (length line)
+    → is_continuation (cond t (take n (b ∷ c ∷ line)) (b ∷ c ∷ line)) ≡ is_blank b
 many_bytes b c line n true e = rw e refl
 many_bytes b c line n false e = refl
 
-stripped_opens : (line : List ℕ) → is_continuation (strip_carriage_return line) ≡ is_continuation line
+stripped_opens : (line : List ℕ)
+    → is_continuation (strip_carriage_return line) ≡ is_continuation line
 stripped_opens [] = refl
 stripped_opens (b ∷ []) = one_byte b (eqb b 13) refl
 stripped_opens (b ∷ c ∷ line) = many_bytes b c line (length (b ∷ c ∷ line) - 1) (eqb (get_or (b ∷ c ∷ line) (length (b ∷ c ∷ line) - 1) 0) 13) (omega arith)
 
-part_opens : (b : ℕ) (y : List ℕ) (more : List (List ℕ)) (line : List ℕ) (others : List (List ℕ)) → lines_of_parts ((b ∷ y) ∷ more) ≡ line ∷ others → is_continuation line ≡ is_blank b
+part_opens : (b : ℕ) (y : List ℕ) (more : List (List ℕ)) (line : List ℕ) (others : List (List ℕ))
+    → lines_of_parts ((b ∷ y) ∷ more) ≡ line ∷ others → is_continuation line ≡ is_blank b
 part_opens b y [] line others e =
     let g : (b ∷ y) ∷ [] ≡ line ∷ others = sym (last_line (b ∷ y) (omega arith)) ∙ e in
     let f : b ∷ y ≡ line = cc in
     rw (← f) refl
 part_opens b y (z ∷ more) line others e = let f : strip_carriage_return (b ∷ y) ≡ line = cc in rw (← f) (stripped_opens (b ∷ y))
 
-parts_open : (b : ℕ) (parts : List (List ℕ)) (line : List ℕ) (others : List (List ℕ)) → lines_of_parts (onto_first b parts) ≡ line ∷ others → is_continuation line ≡ is_blank b
+parts_open : (b : ℕ) (parts : List (List ℕ)) (line : List ℕ) (others : List (List ℕ))
+    → lines_of_parts (onto_first b parts) ≡ line ∷ others → is_continuation line ≡ is_blank b
 parts_open b [] line others e = part_opens b [] [] line others e
 parts_open b (y ∷ more) line others e = part_opens b y more line others e
 
 -- the first line begins as the text does
-pub line_opens : (text line : List ℕ) (others : List (List ℕ)) → lines text ≡ line ∷ others → is_continuation line ≡ is_continuation text
+pub line_opens : (text line : List ℕ) (others : List (List ℕ)) → lines text ≡ line ∷ others
+    → is_continuation line ≡ is_continuation text
 line_opens [] line others e = absurd cc
 line_opens (b ∷ text) line others e = by_feed (is_feed b) refl
   where

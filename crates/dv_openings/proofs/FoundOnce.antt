@@ -10,12 +10,14 @@ use Rattle.dv_openings.specs.Openings.{Snapshot, IsIndex, Found, IsFound, IfGood
 
 -- ---- the index
 
-snapshots_one : (s t : Snapshot) (b : List ℕ) → IsSnapshot s.version s.mailbox s.indexid s.mark b → IsSnapshot t.version t.mailbox t.indexid t.mark b → s ≡ t
+snapshots_one : (s t : Snapshot) (b : List ℕ) → IsSnapshot s.version s.mailbox s.indexid s.mark b
+    → IsSnapshot t.version t.mailbox t.indexid t.mark b → s ≡ t
 snapshots_one s t b one other =
     let same = snapshot_is_one s.version t.version s.mailbox t.mailbox s.indexid t.indexid s.mark t.mark b one other in
     λ i. record { version = same.0 i; mailbox = same.1 i; indexid = same.2 i; mark = same.3 i }
 
-indexes_one : (file : Option (List ℕ)) (s t : Option Snapshot) → IsIndex file s → IsIndex file t → s ≡ t
+indexes_one : (file : Option (List ℕ)) (s t : Option Snapshot) → IsIndex file s → IsIndex file t
+    → s ≡ t
 indexes_one None s t one other = one ∙ sym other
 indexes_one (Some b) None None one other = refl
 indexes_one (Some b) None (Some t) one other = absurd (one t other)
@@ -25,8 +27,10 @@ indexes_one (Some b) (Some s) (Some t) one other = ap Some (snapshots_one s t b 
 -- ---- the folder
 
 -- beside one log there is one answer
-beside_one : (log2 file : Option (List ℕ)) (log rotated other_rotated : Scanned) (index other_index : Option Snapshot)
-    → IfGood log (IsScanned log2 rotated) → IfGood log (IsScanned log2 other_rotated) → IfGood log (IsIndex file index) → IfGood log (IsIndex file other_index)
+beside_one : (log2 file : Option (List ℕ)) (log rotated other_rotated : Scanned)
+    (index other_index : Option Snapshot)
+    → IfGood log (IsScanned log2 rotated) → IfGood log (IsScanned log2 other_rotated)
+    → IfGood log (IsIndex file index) → IfGood log (IsIndex file other_index)
     → found_in log rotated index ≡ found_in log other_rotated other_index
 beside_one log2 file Missing rotated other_rotated index other_index p q r s = refl
 beside_one log2 file BadHeader rotated other_rotated index other_index p q r s = refl
