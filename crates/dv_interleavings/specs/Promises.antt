@@ -1,6 +1,6 @@
 -- What holds in each world that events lead to.
-use Rattle.std.specs.Prelude.{◌≡◌, ◌≢◌, ℕ, ◌≤◌, Bool, true, false, not, List, [], ◌∷◌, ◌++◌, map, flat_map, filter, reverse, Option, Some, None, slice_get, All, IfSome}
-use Rattle.std.specs.List.{list_any}
+use Rattle.std.specs.Prelude.{◌≡◌, ◌≢◌, ◌⊎◌, ℕ, ◌<◌, ◌≤◌, Bool, true, false, not, List, [], ◌∷◌, ◌++◌, length, map, flat_map, filter, fold, reverse, Option, Some, None, slice_get, All, Contains, IfSome}
+use Rattle.std.specs.List.{list_all, list_any}
 use Rattle.dv_model.specs.declared.types.Command.{Command}
 use Rattle.dv_model.specs.declared.types.Command.TheVariants as command
 use Rattle.dv_model.specs.declared.types.Entry.{Entry}
@@ -10,11 +10,10 @@ use Rattle.dv_model.specs.declared.types.Reply.TheVariants as reply
 use Rattle.dv_model.specs.declared.types.Step.{Step}
 use Rattle.dv_model.specs.declared.types.Step.TheVariants.{Full}
 use Rattle.dv_model.specs.Journals.{Log, IsSound, at}
-use Rattle.dv_model.specs.Mailboxes.{IsValid}
 use Rattle.dv_model.specs.Sessions.{step_of}
 use Rattle.dv_model.specs.Transcripts.{Spoken, SpokenUntilCrash}
-use Rattle.dv_model.specs.Views.{Known, all_heard, known_of, shows_uid}
-use Rattle.dv_interleavings.specs.Worlds.{World, Session, Wrote, Crash, happens, length_of}
+use Rattle.dv_model.specs.Views.{Known, all_heard, heard, known_of, shown}
+use Rattle.dv_interleavings.specs.Worlds.{World, Session, Pending, Wrote, Crash, happens, length_of}
 
 -- ---- each session
 
@@ -54,31 +53,49 @@ last_step session = by_last (reverse session.answers)
 abbrev pub AreEqualWhereTold : Session → Session → Type 0
 AreEqualWhereTold one other = last_step one ≡ Some Full → last_step other ≡ Some Full → one.state.told ≡ other.state.told → one.state.view ≡ other.state.view
 
--- the view has each row of the mailbox up to which the session was told, and a client that listened has the view
+-- the view has each row of the mailbox up to which the session was told as it is shown, and a client that listened has
+-- the view
 pub record IsShown (w : World) (session : Session) : Type 0 where
   pub mailbox : Mailbox
   pub is : at w.log session.state.told ≡ Some mailbox
-  pub rows : All (λ row. shows_uid session.state.view row.uid ≡ true) mailbox.rows
+  pub rows : All (λ row. Contains session.state.view.rows (shown row)) mailbox.rows
   pub client : all_heard [] (flat_map (λ a. a.1) session.answers) ≡ known_of mailbox session.state.view
 
 -- ---- message numbers
 
--- an EXPUNGE reply
-abbrev pub is_expunge : Reply → Bool
-is_expunge (reply.Expunge k) = true
-is_expunge r = false
+-- what comes to a client in turn: it sends SELECT, or hears a reply
+pub data Heard : Type 0 where
+  Selects : Heard
+  Hears : Reply → Heard
 
--- until an EXPUNGE is heard, each number keeps its UID
-abbrev pub KeepsNumbers : List Known → List Reply → Type 0
-KeepsNumbers rows replies = (heard_so_far rest : List Reply) → replies ≡ heard_so_far ++ rest → list_any is_expunge heard_so_far ≡ false
-    → (k : ℕ) (row : Known) → slice_get rows k ≡ Some row → row.uid ≢ 0 → (after : Known) × (slice_get (all_heard rows heard_so_far) k ≡ Some after) × (after.uid ≡ row.uid)
+-- what comes of one command
+abbrev pub heard_of : Command × List Reply → List Heard
+heard_of (command.Select, replies) = Selects ∷ map Hears replies
+heard_of (c, replies) = map Hears replies
 
--- the client of a session, from one command to the next that isn't SELECT
+-- SELECT begins with no messages (RFC 3501, section 6.3.1)
+abbrev pub knows : List Known → Heard → List Known
+knows rows Selects = []
+knows rows (Hears reply) = heard rows reply
+
+-- what a client knows behind these
+abbrev pub all_known : List Heard → List Known
+all_known heard = fold knows [] heard
+
+-- neither a SELECT nor an EXPUNGE reply
+abbrev pub keeps_numbers : Heard → Bool
+keeps_numbers Selects = false
+keeps_numbers (Hears (reply.Expunge k)) = false
+keeps_numbers (Hears r) = true
+
+-- from any moment on each message number keeps its UID until an EXPUNGE is heard or a SELECT begins (RFC 3501,
+-- section 7.4.1)
 abbrev pub NumbersStay : Session → Type 0
-NumbersStay session = (before behind : List (Command × List Reply)) (c : Command) (replies : List Reply)
-    → session.answers ≡ before ++ (c, replies) ∷ behind
-    → c ≢ command.Select
-    → KeepsNumbers (all_heard [] (flat_map (λ a. a.1) before)) replies
+NumbersStay session = (before between behind : List Heard)
+    → flat_map heard_of session.answers ≡ before ++ between ++ behind
+    → list_all keeps_numbers between ≡ true
+    → (k : ℕ) (row : Known) → slice_get (all_known before) k ≡ Some row → row.uid ≢ 0
+    → (after : Known) × (slice_get (all_known (before ++ between)) k ≡ Some after) × (after.uid ≡ row.uid)
 
 -- ---- the world
 
@@ -91,10 +108,22 @@ pub record HoldsOf (w : World) (s : ℕ) (session : Session) : Type 0 where
 
 -- what each event keeps
 pub record Holds (w : World) : Type 0 where
-  pub start : IsValid w.log.start
   pub sound : IsSound w.log
   pub each : (s : ℕ) → IfSome (w.sessions s) (HoldsOf w s)
   pub equal : (s t : ℕ) → IfSome (w.sessions s) (λ one. IfSome (w.sessions t) (λ other. AreEqualWhereTold one other))
+
+-- ---- from one world to the next
+
+-- More entries may follow. The beginning stays, and so do the mailboxes before and the messages and GUIDs of UIDs that
+-- were given out.
+pub record GoesOn (log later : Log) : Type 0 where
+  pub start : (later.start ≡ log.start) × (later.start_mark ≡ log.start_mark)
+  pub files : (later.rotates ≡ log.rotates) × (later.indexid ≡ log.indexid)
+  pub more : List Entry
+  pub entries : later.entries ≡ log.entries ++ more
+  pub mailboxes : (k : ℕ) → k ≤ length log.entries → at later k ≡ at log k
+  pub messages : (k uid : ℕ) (m : Mailbox) → k ≤ length log.entries → at log k ≡ Some m → uid < m.next_uid
+      → (later.mail uid ≡ log.mail uid) × (later.guid uid ≡ log.guid uid)
 
 -- ---- a crash
 
@@ -118,8 +147,15 @@ pub record IsSpokenAfterCrash (log : Log) (s : ℕ) (session : Session) : Type 0
   pub kept : filter (λ a. not (was_refused a)) answers ≡ session.answers
   pub spoken : SpokenUntilCrash log 0 s (map (λ a. a.0) answers ++ unanswered) (map (λ a. a.1) answers)
 
--- it keeps each durable entry, and the replies of each session that lived until it stay the rules' answers
+-- the entry whose gate was written
+abbrev pub pending_entries : Option Pending → List Entry
+pending_entries None = []
+pending_entries (Some p) = record { author = p.author; group = p.group } ∷ []
+
+-- it keeps each durable entry and at most the pending one, and the replies of each session that lived until it stay the
+-- rules' answers
 pub record CrashKeeps (w : World) (n : ℕ) : Type 0 where
-  pub more : List Entry
-  pub entries : (happens w (Crash n)).log.entries ≡ w.log.entries ++ more
+  pub entries : ((happens w (Crash n)).log.entries ≡ w.log.entries)
+      ⊎ ((happens w (Crash n)).log.entries ≡ w.log.entries ++ pending_entries w.pending)
+  pub goes_on : GoesOn w.log (happens w (Crash n)).log
   pub replies : (s : ℕ) → IfSome (w.sessions s) (IsSpokenAfterCrash (happens w (Crash n)).log s)

@@ -11,8 +11,10 @@ use Rattle.dv_model.specs.declared.types.Mailbox.{Mailbox}
 use Rattle.dv_model.specs.declared.types.Mark.{Mark}
 use Rattle.dv_model.specs.declared.types.Reply.{Reply}
 use Rattle.dv_model.specs.declared.types.Span.{Span}
-use Rattle.dv_model.specs.Journals.{Log, Mail, Held, Damaged, at, mark_of, new_guid}
-use Rattle.dv_model.specs.Sessions.{State, Answer, new_session, answer, group_of, refusal_of, missing_number, is_select, is_write}
+use Rattle.dv_model.specs.Journals.{Log, Mail, Held, Damaged, at, mark_of}
+use Rattle.dv_model.specs.Sessions.{State, Answer, new_session, answer, group_of, missing_number, is_select, is_write}
+use Rattle.dv_model.specs.Transcripts.{refused_at}
+pub use Rattle.dv_model.specs.Transcripts.{with_message}
 
 -- ---- the state
 
@@ -123,14 +125,6 @@ stopped p = record p { running = false }
 abbrev pub without_running : World → World
 without_running w = record w { pending = option_map stopped w.pending }
 
--- an appended message is the log's message of its UID, with its GUID
-abbrev pub with_message : Log → Command → ℕ → Mailbox → Log
-with_message log (command.Append flags keywords message) received m = record log {
-  mail = λ uid. if nat_eq uid m.next_uid then Held message else log.mail uid;
-  guid = λ uid. if nat_eq uid m.next_uid then new_guid log.indexid m.uid_validity m.next_uid received else log.guid uid;
-}
-with_message log c received m = log
-
 -- a pending entry is durable
 abbrev pub with_entry : Log → Pending → Log
 with_entry log p = and_message (at log (length log.entries))
@@ -171,7 +165,7 @@ written w s c received = by_session (w.sessions s)
 
     by_mailbox : Session → Option Mailbox → World
     by_mailbox session None = w
-    by_mailbox session (Some m) = unless_refused session m (refusal_of session.state c m (mark_of w.log (length_of w)) w.log.guid)
+    by_mailbox session (Some m) = unless_refused session m (refused_at w.log (length_of w) session.state c m)
 
     by_session : Option Session → World
     by_session None = w
@@ -294,6 +288,7 @@ mail_of stored uid = of_message (option_and_then (λ s. s.message) (find (λ s. 
 abbrev pub guid_of : List Stored → ℕ → List ℕ
 guid_of stored uid = unwrap_or (option_map (λ s. s.guid) (find (λ s. nat_eq s.uid uid) stored)) (replicate 16 0)
 
--- nothing was written, published or opened
+-- nothing was written, published or opened; long files are rotated
 abbrev pub new_world : Mailbox → ℕ → Mark → List Stored → World
-new_world start indexid mark stored = only_log (record { start = start; start_mark = mark; entries = []; indexid = indexid; mail = mail_of stored; guid = guid_of stored })
+new_world start indexid mark stored =
+    only_log (record { start = start; start_mark = mark; rotates = true; entries = []; indexid = indexid; mail = mail_of stored; guid = guid_of stored })

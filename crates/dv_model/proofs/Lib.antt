@@ -3,3 +3,5 @@ pub mod Appends
 pub mod Speaking
 pub mod Searching
 pub mod Clients
+pub mod Marks
+pub mod SerialSessions

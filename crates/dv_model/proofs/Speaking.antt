@@ -1,5 +1,5 @@
 -- A session's transcript goes on by one command, and stays one where others write.
-use Rattle.std.proofs.Common.{◌≡◌, ◌⊎◌, inl, inr, ℕ, zero, suc, ◌+◌, ◌≤◌, List, [], ◌∷◌, ◌++◌, length, Some, refl, sym, ◌∙◌, ap, subst, arith, length-append}
+use Rattle.std.proofs.Common.{◌≡◌, ◌⊎◌, inl, inr, ℕ, zero, suc, ◌+◌, ◌≤◌, List, [], ◌∷◌, ◌++◌, length, Some, None, refl, sym, ◌∙◌, ap, subst, arith, length-append}
 use Rattle.std.specs.Prelude.{All, Any, slice_get, take, drop}
 use Rattle.std.proofs.lemmas.List.{length_push, map_push, get_or_append_left}
 use Rattle.std.proofs.lemmas.List.Elements.{All-head, All-tail, All-push, All-weaker}
@@ -7,14 +7,15 @@ use Rattle.std.proofs.lemmas.List.Quantifiers.{Any-push}
 use Rattle.std.proofs.lemmas.Option.{slice_get_within}
 use Rattle.dv_model.specs.declared.types.Command.{Command}
 use Rattle.dv_model.specs.declared.types.Entry.{Entry}
+use Rattle.dv_model.specs.declared.types.Group.{Group}
 use Rattle.dv_model.specs.declared.types.Mailbox.{Mailbox}
 use Rattle.dv_model.specs.declared.types.Reply.{Reply}
-use Rattle.dv_model.specs.Journals.{Log, at}
-use Rattle.dv_model.specs.Laws.{IsNext}
-use Rattle.dv_model.specs.Sessions.{State, new_session, group_of}
-use Rattle.dv_model.specs.Transcripts.{Turn, IsTurn, LeadsTo, WroteEntry, IsOwn, IsLeft, IsNextLeft, AreWritten, AreWrittenBut, Speaks, Spoken}
+use Rattle.dv_model.specs.Journals.{Log, IsSound, at}
+use Rattle.dv_model.specs.Laws.{IsNext, with_group}
+use Rattle.dv_model.specs.Sessions.{State, new_session}
+use Rattle.dv_model.specs.Transcripts.{Turn, HasLeft, IsTurn, LeadsTo, WroteEntry, IsOwn, IsLeft, IsNextLeft, AreWritten, AreWrittenBut, Speaks, Spoken}
 use Rattle.dv_model.specs.Views.{View}
-use Rattle.dv_model.proofs.Transcripts.{grown, at_grown, answered_grown}
+use Rattle.dv_model.proofs.Transcripts.{grown, at_grown, answered_grown, same_refusal, written_grown}
 
 -- ---- entries of a longer log
 
@@ -75,21 +76,29 @@ module _ (log : Log) (more : List Entry) where
           | inr other ↦ absurd (other own.by)
         ]
 
-    pub left_grown : (k : ℕ) (view : View) (c : Command) → IsLeft log author k view c → IsLeft (grown log more) author k view c
-    left_grown k view c left = record {
-      mailbox = left.mailbox;
-      met = at_grown log more k (omega (arith, slice_get_within log.entries k _ left.entry)) ∙ left.met;
-      entry = stays_there log.entries more k _ left.entry;
-      last = λ j own. left.last j (own_before k j own);
-    }
+    pub has_left_grown : (k : ℕ) (x : State) (c : Command) → HasLeft log author k x c → HasLeft (grown log more) author k x c
+    has_left_grown k x c left =
+        let below : k ≤ length log.entries = omega (arith, slice_get_within log.entries k _ left.written.entry) in
+        record {
+          mailbox = left.mailbox;
+          met = at_grown log more k below ∙ left.met;
+          told = left.told;
+          write = left.write;
+          allowed = same_refusal log more k x c below left.mailbox None left.allowed;
+          written = written_grown log more author k (k + 1) x.view c left.mailbox left.written;
+        }
 
     pub next_grown : (k : ℕ) (x : State) (commands : List Command) → IsNextLeft log author k x commands → IsNextLeft (grown log more) author k x commands
     next_grown k x [] left = left
-    next_grown k x (c ∷ commands) left = (left.0, left_grown k x.view c left.1)
+    next_grown k x (c ∷ commands) left = record {
+      left = has_left_grown k x c left.left;
+      last = λ j own. left.last j (own_before k j own);
+    }
 
     -- a transcript is one of a longer log, where the session wrote nothing more
-    abbrev pub spoken_grown : (base : ℕ) (commands : List Command) (replies : List (List Reply)) → Spoken log base author commands replies → Spoken (grown log more) base author commands replies
-    spoken_grown base commands replies s = record {
+    abbrev pub spoken_grown : (base : ℕ) (commands : List Command) (replies : List (List Reply)) → IsSound (grown log more) → Spoken log base author commands replies → Spoken (grown log more) base author commands replies
+    spoken_grown base commands replies sound s = record {
+      sound = sound;
       speaks = speaks_grown base author commands replies s.speaks;
       entries = elim s.entries [
         | inl written ↦ inl (λ k own. written k (own_before s.speaks.start k own))
@@ -141,16 +150,18 @@ module _ (log : Log) (base author : ℕ) (commands : List Command) (replies : Li
   written_before turns t k written = any_before (λ u. (u.met ≡ k) × (u.behind ≡ k + 1)) turns t written
 
   -- it wrote nothing
-  abbrev pub spoken_on : (s : Speaks log base author commands replies) (t : Turn) → IsNext s t → AreWritten log author s.start s.turns → Spoken log base author commands (replies ++ t.replies ∷ [])
-  spoken_on s t n written = record {
+  abbrev pub spoken_on : (s : Speaks log base author commands replies) (t : Turn) → IsSound log → IsNext s t → AreWritten log author s.start s.turns → Spoken log base author commands (replies ++ t.replies ∷ [])
+  spoken_on s t sound n written = record {
+    sound = sound;
     speaks = speaks_on s t n;
     entries = inl (λ k own. written_before s.turns t k (written k own));
   }
 
   -- it wrote the entry that was left
-  abbrev pub spoken_on_writing : (s : Speaks log base author commands replies) (t : Turn) → IsNext s t → t.behind ≡ t.met + 1 → AreWrittenBut log author s.start s.turns t.met
+  abbrev pub spoken_on_writing : (s : Speaks log base author commands replies) (t : Turn) → IsSound log → IsNext s t → t.behind ≡ t.met + 1 → AreWrittenBut log author s.start s.turns t.met
       → Spoken log base author commands (replies ++ t.replies ∷ [])
-  spoken_on_writing s t n wrote but = record {
+  spoken_on_writing s t sound n wrote but = record {
+    sound = sound;
     speaks = speaks_on s t n;
     entries = inl (λ k own. elim (but k own) [
       | inl there ↦ written_before s.turns t k there
@@ -159,28 +170,23 @@ module _ (log : Log) (base author : ℕ) (commands : List Command) (replies : Li
   }
 
   -- its entry stands in the log, and it isn't answered yet
-  abbrev pub spoken_left : (s : Speaks log base author commands replies) (c : Command) (rest : List Command) (m : Mailbox)
+  abbrev pub spoken_left : (s : Speaks log base author commands replies) (c : Command) (rest : List Command) (g : Group)
       → AreWritten log author s.start s.turns
       → drop (length replies) commands ≡ c ∷ rest
-      → at log (length log.entries) ≡ Some m
-      → s.state.told ≤ length log.entries
-      → Spoken (grown log (record { author = author; group = group_of c s.state.view m log.guid } ∷ [])) base author commands replies
-  spoken_left s c rest m written next is told =
-      let e : Entry = record { author = author; group = group_of c s.state.view m log.guid } in
-      let here : slice_get (log.entries ++ e ∷ []) (length log.entries) ≡ Some e = at_seam log.entries e in
+      → IsSound (with_group log author g)
+      → HasLeft (with_group log author g) author (length log.entries) s.state c
+      → Spoken (with_group log author g) base author commands replies
+  spoken_left s c rest g written next sound left =
+      let e : Entry = record { author = author; group = g } in
       record {
+        sound = sound;
         speaks = speaks_grown log (e ∷ []) base author commands replies s;
         entries = inr (
           length log.entries,
-          subst (λ cs. IsNextLeft (grown log (e ∷ [])) author (length log.entries) s.state cs) (sym next) (
-            told,
-            record {
-              mailbox = m;
-              met = at_grown log (e ∷ []) (length log.entries) (omega arith) ∙ is;
-              entry = here;
-              last = λ j own. last_one log.entries e j own.entry own.is own.later;
-            },
-          ),
+          subst (λ cs. IsNextLeft (grown log (e ∷ [])) author (length log.entries) s.state cs) (sym next) (record {
+            left = left;
+            last = λ j own. last_one log.entries e j own.entry own.is own.later;
+          }),
           λ k own. elim (one_or_last log.entries e k own.entry own.is) [
             | inl there ↦ inl (written k (record { later = own.later; entry = own.entry; is = there; by = own.by }))
             | inr end ↦ inr end
@@ -188,9 +194,5 @@ module _ (log : Log) (base author : ℕ) (commands : List Command) (replies : Li
         );
       }
     where
-      at_seam : (es : List Entry) (e : Entry) → slice_get (es ++ e ∷ []) (length es) ≡ Some e
-      at_seam [] e = refl
-      at_seam (x ∷ es) e = at_seam es e
-
       last_one : (es : List Entry) (e : Entry) (j : ℕ) (x : Entry) → slice_get (es ++ e ∷ []) j ≡ Some x → length es ≤ j → j ≡ length es
       last_one es e j x is le = let below = slice_get_within (es ++ e ∷ []) j x is in omega (arith, below, length_push es e)

@@ -1,6 +1,6 @@
 -- A run goes on by one line, and stays one where the log grows.
 use Rattle.std.proofs.Common.{◌≡◌, inl, inr, ℕ, zero, suc, ◌+◌, ◌≤◌, List, [], ◌∷◌, ◌++◌, length, Option, Some, None, refl, sym, ◌∙◌, ap, subst, arith, length-append}
-use Rattle.std.specs.Prelude.{slice_get, flat_map, fold, option_and_then}
+use Rattle.std.specs.Prelude.{Bool, slice_get, flat_map, fold, option_and_then}
 use Rattle.std.proofs.lemmas.List.{take_all, take-append-le, append-nil}
 use Rattle.std.proofs.lemmas.List.Concat.{flat_map-append}
 use Rattle.dv_model.specs.declared.types.Command.{Command}
@@ -12,7 +12,7 @@ use Rattle.dv_model.specs.declared.types.Reply.{Reply}
 use Rattle.dv_model.specs.Effects.{applied, after_record}
 use Rattle.dv_model.specs.Journals.{Log, at, mark_of, mark_behind}
 use Rattle.dv_model.specs.Sessions.{State, answer, refusal_of}
-use Rattle.dv_model.specs.Transcripts.{Line, Wrote, IsTold, Answered, with_state, Runs}
+use Rattle.dv_model.specs.Transcripts.{Line, Wrote, HasWritten, IsTold, Answered, refused_at, with_state, Runs}
 use Rattle.dv_model.specs.Views.{View}
 
 -- the log with more entries at its end
@@ -26,27 +26,31 @@ module _ (log : Log) (more : List Entry) where
   at_grown k le = ap (λ (es : List Entry). applied log.start (flat_map (λ e. e.group.records) es)) (take-append-le k log.entries more le)
 
   pub mark_grown : (k : ℕ) → k ≤ length log.entries → mark_of (grown log more) k ≡ mark_of log k
-  mark_grown k le = ap (λ (es : List Entry). fold (λ mark e. mark_behind mark e.group) log.start_mark es) (take-append-le k log.entries more le)
+  mark_grown k le = ap (λ (es : List Entry). fold (λ mark e. mark_behind log.rotates mark e.group) log.start_mark es) (take-append-le k log.entries more le)
 
-  get_grown : (es : List Entry) (k : ℕ) (e : Entry) → slice_get es k ≡ Some e → slice_get (es ++ more) k ≡ Some e
+  pub get_grown : (es : List Entry) (k : ℕ) (e : Entry) → slice_get es k ≡ Some e → slice_get (es ++ more) k ≡ Some e
   get_grown [] zero e is = absurd cc
   get_grown [] (suc k) e is = absurd cc
   get_grown (x ∷ es) zero e is = is
   get_grown (x ∷ es) (suc k) e is = get_grown es k e is
 
+  abbrev pub written_grown : (author met q : ℕ) (v : View) (c : Command) (m : Mailbox) → HasWritten log author met q v c m → HasWritten (grown log more) author met q v c m
+  written_grown author met q v c m w = record { behind = w.behind; some = w.some; entry = get_grown log.entries met _ w.entry; message = w.message }
+
   wrote_grown : (author met q : ℕ) (v : View) (c : Command) (m : Mailbox) → Wrote log author met q v c m → Wrote (grown log more) author met q v c m
-  wrote_grown author met q v c m (inl w) = inl (record { behind = w.behind; some = w.some; entry = get_grown log.entries met _ w.entry; message = w.message })
+  wrote_grown author met q v c m (inl w) = inl (written_grown author met q v c m w)
   wrote_grown author met q v c m (inr w) = inr w
 
-  module _ (base author met q : ℕ) (x : State) (c : Command) (replies : List Reply) (y : State) (le : met ≤ length log.entries) where
-    same_refusal : (m : Mailbox) (r : Option Reply) → refusal_of x c m (mark_of log met) log.guid ≡ r → refusal_of x c m (mark_of (grown log more) met) log.guid ≡ r
-    same_refusal m r is = ap (λ (mark : Mark). refusal_of x c m mark log.guid) (mark_grown met le) ∙ is
+  module _ (met : ℕ) (x : State) (c : Command) (le : met ≤ length log.entries) where
+    pub same_refusal : (m : Mailbox) (r : Option Reply) → refused_at log met x c m ≡ r → refused_at (grown log more) met x c m ≡ r
+    same_refusal m r is = ap (λ (mark : Mark). refusal_of x c m log.rotates mark log.guid) (mark_grown met le) ∙ is
 
+  module _ (base author met q : ℕ) (x : State) (c : Command) (replies : List Reply) (y : State) (le : met ≤ length log.entries) where
     told_grown : IsTold log author met q x c replies y → IsTold (grown log more) author met q x c replies y
     told_grown t = record {
       before = t.before;
       was_there = at_grown met le ∙ t.was_there;
-      allowed = same_refusal t.before None t.allowed;
+      allowed = same_refusal met x c le t.before None t.allowed;
       wrote = wrote_grown author met q x.view c t.before t.wrote;
       mailbox = t.mailbox;
       is_there = at_grown q t.seen.1 ∙ t.is_there;
@@ -59,7 +63,7 @@ module _ (log : Log) (more : List Entry) where
       before = r.before;
       was_there = at_grown met le ∙ r.was_there;
       line = r.line;
-      refusal = same_refusal r.before (Some r.line) r.refusal;
+      refusal = same_refusal met x c le r.before (Some r.line) r.refusal;
       one_line = r.one_line;
       nothing_written = r.nothing_written;
       stays = r.stays;
@@ -67,7 +71,7 @@ module _ (log : Log) (more : List Entry) where
     answered_grown (inr (inl u)) = inr (inl (record {
       before = u.before;
       was_there = at_grown met le ∙ u.was_there;
-      allowed = same_refusal u.before None u.allowed;
+      allowed = same_refusal met x c le u.before None u.allowed;
       touches = u.touches;
       faults = u.faults;
       above = u.above;
@@ -153,8 +157,8 @@ applied_one m r = then_all (after_record m r)
 pub at_all : (log : Log) → at log (length log.entries) ≡ applied log.start (flat_map (λ e. e.group.records) log.entries)
 at_all log = ap (λ (es : List Entry). applied log.start (flat_map (λ e. e.group.records) es)) (take_all (length log.entries) log.entries (omega arith))
 
-pub mark_all : (log : Log) → mark_of log (length log.entries) ≡ fold (λ mark e. mark_behind mark e.group) log.start_mark log.entries
-mark_all log = ap (λ (es : List Entry). fold (λ mark e. mark_behind mark e.group) log.start_mark es) (take_all (length log.entries) log.entries (omega arith))
+pub mark_all : (log : Log) → mark_of log (length log.entries) ≡ fold (λ mark e. mark_behind log.rotates mark e.group) log.start_mark log.entries
+mark_all log = ap (λ (es : List Entry). fold (λ mark e. mark_behind log.rotates mark e.group) log.start_mark es) (take_all (length log.entries) log.entries (omega arith))
 
 -- the mailbox behind one entry more
 pub at_end : (log : Log) (e : Entry) → at (grown log (e ∷ [])) (length log.entries + 1) ≡ option_and_then (λ m. applied m e.group.records) (at log (length log.entries))
@@ -164,14 +168,14 @@ at_end log e =
     ∙ applied_append (flat_map (λ e. e.group.records) log.entries) e.group.records log.start
     ∙ ap (option_and_then (λ (m : Mailbox). applied m e.group.records)) (sym (at_all log))
 
-fold_push : (mark : Mark) (es : List Entry) (e : Entry)
-    → fold (λ mark e. mark_behind mark e.group) mark (es ++ e ∷ []) ≡ mark_behind (fold (λ mark e. mark_behind mark e.group) mark es) e.group
-fold_push mark [] e = refl
-fold_push mark (x ∷ es) e = fold_push (mark_behind mark x.group) es e
+fold_push : (rotates : Bool) (mark : Mark) (es : List Entry) (e : Entry)
+    → fold (λ mark e. mark_behind rotates mark e.group) mark (es ++ e ∷ []) ≡ mark_behind rotates (fold (λ mark e. mark_behind rotates mark e.group) mark es) e.group
+fold_push rotates mark [] e = refl
+fold_push rotates mark (x ∷ es) e = fold_push rotates (mark_behind rotates mark x.group) es e
 
 -- the place behind one entry more
-pub mark_end : (log : Log) (e : Entry) → mark_of (grown log (e ∷ [])) (length log.entries + 1) ≡ mark_behind (mark_of log (length log.entries)) e.group
+pub mark_end : (log : Log) (e : Entry) → mark_of (grown log (e ∷ [])) (length log.entries + 1) ≡ mark_behind log.rotates (mark_of log (length log.entries)) e.group
 mark_end log e =
-    ap (λ (es : List Entry). fold (λ mark e. mark_behind mark e.group) log.start_mark es) (take_all (length log.entries + 1) (log.entries ++ e ∷ []) (omega (arith, length-append log.entries (e ∷ []))))
-    ∙ fold_push log.start_mark log.entries e
-    ∙ ap (λ (mark : Mark). mark_behind mark e.group) (sym (mark_all log))
+    ap (λ (es : List Entry). fold (λ mark e. mark_behind log.rotates mark e.group) log.start_mark es) (take_all (length log.entries + 1) (log.entries ++ e ∷ []) (omega (arith, length-append log.entries (e ∷ []))))
+    ∙ fold_push log.rotates log.start_mark log.entries e
+    ∙ ap (λ (mark : Mark). mark_behind log.rotates mark e.group) (sym (mark_all log))

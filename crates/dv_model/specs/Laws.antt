@@ -3,13 +3,14 @@ use Rattle.std.specs.Prelude.{◌≡◌, ◌⊎◌, ℕ, ◌+◌, ◌<◌, ◌�
 use Rattle.std.specs.List.Sorted.{IsStrictlyIncreasing}
 use Rattle.dv_model.specs.declared.types.Command.{Command}
 use Rattle.dv_model.specs.declared.types.Entry.{Entry}
+use Rattle.dv_model.specs.declared.types.Group.{Group}
 use Rattle.dv_model.specs.declared.types.Mailbox.{Mailbox}
 use Rattle.dv_model.specs.declared.types.Reply.{Reply}
 use Rattle.dv_model.specs.declared.types.Step.{Step}
-use Rattle.dv_model.specs.Journals.{Log, at}
+use Rattle.dv_model.specs.Journals.{Log, IsBefore, IsEntry, IsSound, at, mark_of}
 use Rattle.dv_model.specs.Mailboxes.{IsValid}
-use Rattle.dv_model.specs.Sessions.{State, group_of}
-use Rattle.dv_model.specs.Transcripts.{Answered, AreWritten, AreWrittenBut, IsTurn, Line, Runs, Speaks, Spoken, Turn, with_state}
+use Rattle.dv_model.specs.Sessions.{State}
+use Rattle.dv_model.specs.Transcripts.{Answered, AreWritten, AreWrittenBut, HasLeft, IsTurn, Line, Runs, Serial, Speaks, Spoken, Turn, commands_of, replies_of, with_state}
 use Rattle.dv_model.specs.Views.{View, all_heard, known_of, moved, said, shows_uid}
 
 -- ---- a client has the view
@@ -54,7 +55,10 @@ RunsGoOn = (log : Log) (base : ℕ) (states : ℕ → State) (met : ℕ) (lines 
 -- a transcript of a session stays one where others write
 abbrev pub SpokenStays : Type 0
 SpokenStays = (log : Log) (more : List Entry) (base author : ℕ) (commands : List Command) (replies : List (List Reply))
-    → All (λ e. e.author ≡ author → ⊥) more → Spoken log base author commands replies → Spoken (with_entries log more) base author commands replies
+    → All (λ e. e.author ≡ author → ⊥) more
+    → IsSound (with_entries log more)
+    → Spoken log base author commands replies
+    → Spoken (with_entries log more) base author commands replies
 
 -- the next command of a transcript was answered by this turn
 pub record IsNext {log : Log} {base author : ℕ} {commands : List Command} {replies : List (List Reply)} (s : Speaks log base author commands replies) (t : Turn) : Type 0 where
@@ -66,18 +70,38 @@ pub record IsNext {log : Log} {base author : ℕ} {commands : List Command} {rep
 -- one command more is answered that wrote nothing
 abbrev pub SpokenGoesOn : Type 0
 SpokenGoesOn = (log : Log) (base author : ℕ) (commands : List Command) (replies : List (List Reply)) (s : Speaks log base author commands replies) (t : Turn)
-    → IsNext s t → AreWritten log author s.start s.turns → Spoken log base author commands (replies ++ t.replies ∷ [])
+    → IsSound log → IsNext s t → AreWritten log author s.start s.turns → Spoken log base author commands (replies ++ t.replies ∷ [])
 
 -- one command more is answered that wrote the last entry of its session
 abbrev pub SpokenGoesOnWriting : Type 0
 SpokenGoesOnWriting = (log : Log) (base author : ℕ) (commands : List Command) (replies : List (List Reply)) (s : Speaks log base author commands replies) (t : Turn)
-    → IsNext s t → t.behind ≡ t.met + 1 → AreWrittenBut log author s.start s.turns t.met → Spoken log base author commands (replies ++ t.replies ∷ [])
+    → IsSound log → IsNext s t → t.behind ≡ t.met + 1 → AreWrittenBut log author s.start s.turns t.met → Spoken log base author commands (replies ++ t.replies ∷ [])
 
--- the entry of the next command may stand in the log before it is answered
+-- one entry more, of this author
+abbrev pub with_group : Log → ℕ → Group → Log
+with_group log author g = with_entries log (record { author = author; group = g } ∷ [])
+
+-- the entry that the next command left may stand in the log before it is answered
 abbrev pub SpokenWaits : Type 0
-SpokenWaits = (log : Log) (base author : ℕ) (commands : List Command) (replies : List (List Reply)) (s : Speaks log base author commands replies) (c : Command) (rest : List Command) (m : Mailbox)
+SpokenWaits = (log : Log) (base author : ℕ) (commands : List Command) (replies : List (List Reply)) (s : Speaks log base author commands replies) (c : Command) (rest : List Command) (g : Group)
     → AreWritten log author s.start s.turns
     → drop (length replies) commands ≡ c ∷ rest
-    → at log (length log.entries) ≡ Some m
-    → s.state.told ≤ length log.entries
-    → Spoken (with_entries log (record { author = author; group = group_of c s.state.view m log.guid } ∷ [])) base author commands replies
+    → IsSound (with_group log author g)
+    → HasLeft (with_group log author g) author (length log.entries) s.state c
+    → Spoken (with_group log author g) base author commands replies
+
+-- a serial run is a transcript of each of its sessions
+abbrev pub SerialIsSpoken : Type 0
+SerialIsSpoken = (log : Log) (base faults : ℕ) (lines : List Line) (replies : List (List Reply)) (author : ℕ)
+    → Serial log base faults lines replies
+    → Spoken log base author (commands_of author lines) (replies_of author lines replies)
+
+-- ---- places of the log
+
+-- the place behind more entries lies behind
+abbrev pub MarksRise : Type 0
+MarksRise = (log : Log) (j k : ℕ) → All IsEntry log.entries → j < k → k ≤ length log.entries → IsBefore (mark_of log j) (mark_of log k)
+
+-- a place is behind one number of entries
+abbrev pub MarksAreDistinct : Type 0
+MarksAreDistinct = (log : Log) (j k : ℕ) → All IsEntry log.entries → j ≤ length log.entries → k ≤ length log.entries → mark_of log j ≡ mark_of log k → j ≡ k

@@ -3,9 +3,10 @@ pub mod Mailboxes
 pub mod Effects
 pub mod Spelling
 pub mod Fields
-pub mod BoxTexts
+pub mod Counts
 pub mod Journals
 pub mod Views
+pub mod Fresh
 pub mod Sets
 pub mod Searches
 pub mod Sessions

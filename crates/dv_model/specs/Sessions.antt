@@ -1,5 +1,5 @@
 -- The rules of a session: what a command writes and what it is answered (RFC 3501, sections 6 and 7).
-use Rattle.std.specs.Prelude.{ℕ, zero, suc, ◌+◌, ◌-◌, ◌*◌, ◌/◌, ◌%◌, min, Bool, true, false, not, ◌&&◌, cond, List, [], ◌∷◌, ◌++◌, length, map, filter, find, flat_map, take, drop, Option, Some, None, unwrap_or, option_map, nat_eq, nat_lt, nat_le, bytes_eq, bit_and, codes, if◌then◌else◌}
+use Rattle.std.specs.Prelude.{ℕ, zero, suc, ◌+◌, ◌-◌, ◌*◌, ◌/◌, ◌%◌, ◌^◌, ◌<◌, min, All, Bool, true, false, not, ◌&&◌, cond, List, [], ◌∷◌, ◌++◌, length, map, filter, find, flat_map, take, drop, Option, Some, None, unwrap_or, option_map, nat_eq, nat_lt, nat_le, bytes_eq, bit_and, codes, if◌then◌else◌}
 use Rattle.std.specs.Int.{w32, to_le_bytes}
 use Rattle.std.specs.List.{list_any, enumerate_from, reduce}
 use Rattle.dv_model.specs.declared.types.Body.{Body}
@@ -29,7 +29,8 @@ use Rattle.dv_model.specs.declared.types.Value.{Value}
 use Rattle.dv_model.specs.declared.types.Value.TheVariants as value
 use Rattle.dv_model.specs.Effects.{no_id}
 use Rattle.dv_model.specs.Fields.{field_of, virtual_size}
-use Rattle.dv_model.specs.Journals.{Mail, Held as HeldMail, Damaged}
+use Rattle.dv_model.specs.Journals.{Mail, Held as HeldMail, Damaged, last_file_seq}
+use Rattle.dv_model.specs.Names.{IsName}
 use Rattle.dv_model.specs.Searches.{Candidate, meets, needs_mail}
 use Rattle.dv_model.specs.Sets.{named, named_by_uid, numbered, largest_uid, missing_end}
 use Rattle.dv_model.specs.Spelling.{group_text}
@@ -55,6 +56,12 @@ is_write command.Check = true
 is_write (command.Store by_uid set how flags keywords unchanged_since) = true
 is_write (command.UidRemove set) = true
 is_write c = false
+
+-- a command whose flags are a byte and whose keywords are names (RFC 3501, section 9, atom)
+abbrev pub IsCommand : Command → Type 0
+IsCommand (command.Append flags keywords message) = (flags < 2 ^ 8) × All IsName keywords
+IsCommand (command.Store by_uid set how flags keywords unchanged_since) = (flags < 2 ^ 8) × All IsName keywords
+IsCommand c = Unit {0}
 
 -- the name of the command in its last line
 abbrev pub word_of : Command → Word
@@ -232,13 +239,17 @@ group_limit = 67108864
 abbrev pub log_limit : ℕ
 log_limit = 1073741820
 
+-- a group of this size doesn't fit behind the log's end, and no new file can be begun for it
+abbrev pub is_log_full : Bool → Mark → ℕ → Bool
+is_log_full rotates mark size = not (rotates && nat_lt mark.file_seq last_file_seq) && nat_lt log_limit (mark.offset + size)
+
 -- the limit that the command meets first: the operation ran up against an implementation limit (RFC 5530, LIMIT)
-abbrev pub limit_of : Command → Mailbox → Mark → Group → Option Reply
-limit_of c m mark g =
+abbrev pub limit_of : Command → Mailbox → Bool → Mark → Group → Option Reply
+limit_of c m rotates mark g =
     if is_append c && nat_eq m.next_uid end_of_uids then Some reply.UidsUsedUp
     else (if nat_lt message_limit (length (message_of c)) then Some (reply.TooLong (length (message_of c)))
     else (if nat_lt group_limit (length (group_text g)) then Some (reply.TooLong (length (group_text g)))
-    else (if nat_lt log_limit (mark.offset + length (group_text g)) then Some (reply.TooLong (length (group_text g))) else None)))
+    else (if is_log_full rotates mark (length (group_text g)) then Some (reply.TooLong (length (group_text g))) else None)))
 
 -- ---- what it is answered
 
@@ -265,14 +276,14 @@ missing_number (command.Store false set h flags keywords since) view = missing_e
 missing_number c view = None
 
 -- the one line of a command that is refused before it does anything
-abbrev pub refusal_of : State → Command → Mailbox → Mark → (ℕ → List ℕ) → Option Reply
-refusal_of x c m mark guid =
+abbrev pub refusal_of : State → Command → Mailbox → Bool → Mark → (ℕ → List ℕ) → Option Reply
+refusal_of x c m rotates mark guid =
     if not x.selected && not (is_select c) then Some reply.NotSelected
     else missing (missing_number c x.view)
   where
     missing : Option ℕ → Option Reply
     missing (Some n) = Some (reply.NoMessage n)
-    missing None = if is_write c then limit_of c m mark (group_of c x.view m guid) else None
+    missing None = if is_write c then limit_of c m rotates mark (group_of c x.view m guid) else None
 
 -- FETCH, STORE and SEARCH by message numbers leave the numbers as they are (RFC 3501, section 7.4.1)
 abbrev pub step_of : Command → Step

@@ -1,12 +1,15 @@
 -- What a run of commands is: each is answered by the rules over a prefix of one log.
-use Rattle.std.specs.Prelude.{◌≡◌, ◌⊎◌, ℕ, ◌+◌, ◌<◌, ◌≤◌, Bool, true, ◌||◌, cond, List, [], ◌∷◌, length, map, take, drop, All, Any, Some, None, slice_get, nat_eq}
+use Rattle.std.specs.Prelude.{◌≡◌, ◌⊎◌, ℕ, ◌+◌, ◌≤◌, Bool, true, false, ◌||◌, cond, List, [], ◌∷◌, ◌++◌, length, map, filter, take, drop, count_by, All, Any, Option, Some, None, slice_get, nat_eq, if◌then◌else◌}
+use Rattle.std.specs.List.{list_any}
 use Rattle.dv_model.specs.declared.types.Command.{Command}
 use Rattle.dv_model.specs.declared.types.Command.TheVariants as command
 use Rattle.dv_model.specs.declared.types.Entry.{Entry}
+use Rattle.dv_model.specs.declared.types.Group.{Group}
 use Rattle.dv_model.specs.declared.types.Mailbox.{Mailbox}
 use Rattle.dv_model.specs.declared.types.Reply.{Reply}
 use Rattle.dv_model.specs.declared.types.Reply.TheVariants as reply
-use Rattle.dv_model.specs.Journals.{Log, Held, at, mark_of, new_guid}
+use Rattle.dv_model.specs.Counts.{Rose, RoseBy}
+use Rattle.dv_model.specs.Journals.{Log, IsSound, Held, at, mark_of, new_guid}
 use Rattle.dv_model.specs.Sessions.{State, new_session, answer, group_of, refusal_of, is_write, reads_mail}
 use Rattle.dv_model.specs.Views.{View}
 
@@ -17,6 +20,22 @@ abbrev pub KeepsMessage : Log → Command → Mailbox → Type 0
 KeepsMessage log (command.Append flags keywords message) m =
     (log.mail m.next_uid ≡ Held message) × ((received : ℕ) × (log.guid m.next_uid ≡ new_guid log.indexid m.uid_validity m.next_uid received))
 KeepsMessage log c m = Unit {0}
+
+-- the log that keeps the message of an APPEND over this mailbox, with a GUID by the time when it came
+abbrev pub with_message : Log → Command → ℕ → Mailbox → Log
+with_message log (command.Append flags keywords message) received m = record log {
+  mail = λ uid. if nat_eq uid m.next_uid then Held message else log.mail uid;
+  guid = λ uid. if nat_eq uid m.next_uid then new_guid log.indexid m.uid_validity m.next_uid received else log.guid uid;
+}
+with_message log c received m = log
+
+-- the log with the group that a command wrote as one entry more, and its message where it appends one
+abbrev pub with_written : Log → ℕ → Command → ℕ → Group → Mailbox → Log
+with_written log author c received g m = record log {
+  entries = log.entries ++ record { author = author; group = g } ∷ [];
+  mail = (with_message log c received m).mail;
+  guid = (with_message log c received m).guid;
+}
 
 -- its group is the entry behind those that it met
 pub record HasWritten (log : Log) (author met q : ℕ) (view : View) (c : Command) (m : Mailbox) : Type 0 where
@@ -29,11 +48,15 @@ pub record HasWritten (log : Log) (author met q : ℕ) (view : View) (c : Comman
 abbrev pub Wrote : Log → ℕ → ℕ → ℕ → View → Command → Mailbox → Type 0
 Wrote log author met q view c m = HasWritten log author met q view c m ⊎ ((q ≡ met) × ((group_of c view m log.guid).records ≡ []))
 
+-- the one line of a command that is refused where it meets the mailbox after the first k entries
+abbrev pub refused_at : Log → ℕ → State → Command → Mailbox → Option Reply
+refused_at log k x c m = refusal_of x c m log.rotates (mark_of log k) log.guid
+
 -- it was answered after q entries of the log
 pub record IsTold (log : Log) (author met q : ℕ) (x : State) (c : Command) (replies : List Reply) (y : State) : Type 0 where
   pub before : Mailbox
   pub was_there : at log met ≡ Some before
-  pub allowed : refusal_of x c before (mark_of log met) log.guid ≡ None
+  pub allowed : refused_at log met x c before ≡ None
   pub wrote : Wrote log author met q x.view c before
   pub mailbox : Mailbox
   pub is_there : at log q ≡ Some mailbox
@@ -45,7 +68,7 @@ pub record IsRefused (log : Log) (met q : ℕ) (x : State) (c : Command) (replie
   pub before : Mailbox
   pub was_there : at log met ≡ Some before
   pub line : Reply
-  pub refusal : refusal_of x c before (mark_of log met) log.guid ≡ Some line
+  pub refusal : refused_at log met x c before ≡ Some line
   pub one_line : replies ≡ line ∷ []
   pub nothing_written : q ≡ met
   pub stays : y ≡ x
@@ -54,15 +77,15 @@ pub record IsRefused (log : Log) (met q : ℕ) (x : State) (c : Command) (replie
 abbrev pub touches_disk : Command → Bool
 touches_disk c = is_write c || reads_mail c
 
--- a temporary failure because a subsystem is down (RFC 5530, UNAVAILABLE): the disk failed, more often than before the
--- run, and the session is as before
+-- a temporary failure because a subsystem is down (RFC 5530, UNAVAILABLE): the disk has failed more often than before
+-- the run, and the session is as before
 pub record IsUnavailable (log : Log) (base met q : ℕ) (x : State) (c : Command) (replies : List Reply) (y : State) : Type 0 where
   pub before : Mailbox
   pub was_there : at log met ≡ Some before
-  pub allowed : refusal_of x c before (mark_of log met) log.guid ≡ None
+  pub allowed : refused_at log met x c before ≡ None
   pub touches : touches_disk c ≡ true
   pub faults : ℕ
-  pub above : base < faults
+  pub above : Rose base faults
   pub one_line : replies ≡ reply.Unavailable faults ∷ []
   pub nothing_written : q ≡ met
   pub stays : y ≡ x
@@ -89,19 +112,41 @@ Runs log base states met (line ∷ lines) [] after q = ⊥
 Runs log base states met (line ∷ lines) (replies ∷ rest) after q =
     (k : ℕ) × (y : State) × Answered log base line.0 met k (states line.0) line.1 replies y × Runs log base (with_state states line.0 y) k lines rest after q
 
--- the log ends where the answered lines ended, or one entry later by a line that wasn't answered
+-- a write that the rules allow, and that wasn't answered with a mark, left its group as the entry behind the first k
+pub record HasLeft (log : Log) (author k : ℕ) (x : State) (c : Command) : Type 0 where
+  pub mailbox : Mailbox
+  pub met : at log k ≡ Some mailbox
+  -- it met no fewer entries than its session was told of
+  pub told : x.told ≤ k
+  pub write : is_write c ≡ true
+  pub allowed : refused_at log k x c mailbox ≡ None
+  -- a group that isn't empty, with the log's message and GUID
+  pub written : HasWritten log author k (k + 1) x.view c mailbox
+
+-- the log ends where the answered lines ended, or one entry later by the first line that wasn't answered
 abbrev pub EndsAt : Log → (ℕ → State) → ℕ → List Line → Type 0
 EndsAt log states met [] = length log.entries ≡ met
 EndsAt log states met (line ∷ lines) =
-    (length log.entries ≡ met)
-    ⊎ ((m : Mailbox) × (at log met ≡ Some m) × (length log.entries ≡ met + 1) × (slice_get log.entries met ≡ Some (record { author = line.0; group = group_of line.1 (states line.0).view m log.guid })))
+    (length log.entries ≡ met) ⊎ ((length log.entries ≡ met + 1) × HasLeft log line.0 met (states line.0) line.1)
 
--- the first lines are answered, one after another, and the log ends behind them
-pub record Serial (log : Log) (base : ℕ) (lines : List Line) (replies : List (List Reply)) : Type 0 where
+-- a reply of the disk's failure
+abbrev pub is_unavailable : Reply → Bool
+is_unavailable (reply.Unavailable faults) = true
+is_unavailable r = false
+
+-- the number of commands that the disk's failure answered
+abbrev pub unavailable_count : List (List Reply) → ℕ
+unavailable_count replies = count_by (list_any is_unavailable) replies
+
+-- The first lines are answered, one after another, over a sound log, which ends behind them. The disk's failures
+-- answered no more of them than its count rose by, from `base` to `faults`.
+pub record Serial (log : Log) (base faults : ℕ) (lines : List Line) (replies : List (List Reply)) : Type 0 where
+  pub sound : IsSound log
   pub states : ℕ → State
   pub written : ℕ
   pub answered : Runs log base (λ s. new_session) 0 (take (length replies) lines) replies states written
   pub ends : EndsAt log states written (drop (length replies) lines)
+  pub few : RoseBy (unavailable_count replies) base faults
 
 -- ---- one session beside others
 
@@ -136,21 +181,23 @@ pub record IsOwn (log : Log) (author start k : ℕ) : Type 0 where
   pub is : slice_get log.entries k ≡ Some entry
   pub by : entry.author ≡ author
 
--- the last entry of the author is the group of a command that wasn't answered
-pub record IsLeft (log : Log) (author k : ℕ) (view : View) (c : Command) : Type 0 where
-  pub mailbox : Mailbox
-  pub met : at log k ≡ Some mailbox
-  pub entry : slice_get log.entries k ≡ Some (record { author = author; group = group_of c view mailbox log.guid })
+-- the last entry of the author was left by a write that wasn't answered with a mark
+pub record IsLeft (log : Log) (author k : ℕ) (x : State) (c : Command) : Type 0 where
+  pub left : HasLeft log author k x c
   pub last : (j : ℕ) → IsOwn log author k j → j ≡ k
 
 -- that command is the first that wasn't answered
 abbrev pub IsNextLeft : Log → ℕ → ℕ → State → List Command → Type 0
 IsNextLeft log author k x [] = ⊥
-IsNextLeft log author k x (c ∷ commands) = (x.told ≤ k) × IsLeft log author k x.view c
+IsNextLeft log author k x (c ∷ commands) = IsLeft log author k x c
 
--- that command was answered by the disk's failure
+-- a turn that the disk's failure answered
+abbrev pub IsFailed : Turn → Type 0
+IsFailed t = (faults : ℕ) × (t.replies ≡ reply.Unavailable faults ∷ [])
+
+-- that command was answered by the disk's failure, and its entry stands behind those that it met
 abbrev pub IsFailedLeft : Log → ℕ → ℕ → List Turn → Type 0
-IsFailedLeft log author k turns = Any (λ t. ((n : ℕ) × (t.replies ≡ reply.Unavailable n ∷ [])) × IsLeft log author k t.before.view t.command) turns
+IsFailedLeft log author k turns = Any (λ t. IsFailed t × (t.met ≡ k) × IsLeft log author k t.before t.command) turns
 
 -- each of the author's entries was written by a turn
 abbrev pub AreWritten : Log → ℕ → ℕ → List Turn → Type 0
@@ -172,15 +219,28 @@ pub record Speaks (log : Log) (base author : ℕ) (commands : List Command) (rep
   pub replied : map (λ t. t.replies) turns ≡ replies
   pub sent : map (λ t. t.command) turns ≡ take (length replies) commands
 
--- A transcript of one session: its entries are those that its turns wrote, but that the last one may be that of the
--- first command that wasn't answered.
+-- A transcript of one session over a sound log: its entries are those that its turns wrote, but that the last one may be
+-- that of the first command that wasn't answered.
 pub record Spoken (log : Log) (base author : ℕ) (commands : List Command) (replies : List (List Reply)) : Type 0 where
+  pub sound : IsSound log
   pub speaks : Speaks log base author commands replies
   pub entries : AreWritten log author speaks.start speaks.turns
       ⊎ ((last : ℕ) × IsNextLeft log author last speaks.state (drop (length replies) commands) × AreWrittenBut log author speaks.start speaks.turns last)
 
 -- the same where a crash ended the session: the last entry may also be that of a write that the disk's failure answered
 pub record SpokenUntilCrash (log : Log) (base author : ℕ) (commands : List Command) (replies : List (List Reply)) : Type 0 where
+  pub sound : IsSound log
   pub speaks : Speaks log base author commands replies
   pub entries : AreWritten log author speaks.start speaks.turns
       ⊎ ((last : ℕ) × (IsNextLeft log author last speaks.state (drop (length replies) commands) ⊎ IsFailedLeft log author last speaks.turns) × AreWrittenBut log author speaks.start speaks.turns last)
+
+-- ---- the sessions of a run
+
+-- the commands of one session among the lines
+abbrev pub commands_of : ℕ → List Line → List Command
+commands_of s lines = map (λ line. line.1) (filter (λ line. nat_eq line.0 s) lines)
+
+-- the replies to one session's lines, of the first lines, which were answered
+abbrev pub replies_of : ℕ → List Line → List (List Reply) → List (List Reply)
+replies_of s (line ∷ lines) (replies ∷ rest) = cond (nat_eq line.0 s) (replies ∷ replies_of s lines rest) (replies_of s lines rest)
+replies_of s lines replies = []

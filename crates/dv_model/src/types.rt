@@ -72,6 +72,13 @@ pub struct Shown {
     pub modseq: u64,
 }
 
+/// A UID whose row a session is to be told of: as it is shown now, or that it has left.
+#[derive(Drop)]
+pub struct Fresh {
+    pub uid: u32,
+    pub row: Option<Shown>,
+}
+
 /// A range of UIDs, both ends included (Dovecot's `mail_transaction_expunge` and
 /// `mail_transaction_keyword_reset`).
 #[derive(Clone, Copy)]
@@ -345,4 +352,23 @@ pub enum Reply {
     NotSelected,
     /// There is no message of this number.
     NoMessage(u32),
+}
+
+/// Why a folder's mailbox isn't opened.
+#[derive(Clone, Copy, PartialEq, Eq, Debug)]
+pub enum OpenFault {
+    /// The disk failed, so often until now.
+    Disk(u64),
+    /// Memory ran out.
+    NoMemory,
+    /// There is no transaction log.
+    NoLog,
+    /// The log's header isn't that of a log that is read.
+    BadLogHeader,
+    /// The record at this offset of its file is damaged, or its append is refused.
+    BadRecord { offset: u32 },
+    /// The log goes on behind files of which there is no good snapshot.
+    BadIndex,
+    /// The log doesn't go on where the snapshot stands.
+    Gap { index: Mark, log: Mark },
 }

@@ -8,15 +8,15 @@ use Rattle.dv_model.specs.declared.types.Reply.{Reply}
 use Rattle.dv_model.specs.Journals.{Log, at}
 use Rattle.dv_model.specs.Mailboxes.{IsValid}
 use Rattle.dv_model.specs.Transcripts.{Speaks}
-use Rattle.dv_interleavings.specs.Promises.{CrashKeeps, Holds}
+use Rattle.dv_interleavings.specs.Promises.{CrashKeeps, GoesOn, Holds}
 use Rattle.dv_interleavings.specs.Worlds.{World, Session, Event, Tell, Stored, all_happen, happens, new_world}
-use Rattle.dv_promises.specs.Standing.{IsGoodEvent, Stands}
+use Rattle.dv_promises.specs.Standing.{IsGoodEvent, IsStart, Stands}
 
 -- ---- the invariant
 
 -- a world that begins with a valid mailbox stands, whatever its messages
 abbrev pub BeginsStanding : Type 0
-BeginsStanding = (start : Mailbox) (indexid : ℕ) (mark : Mark) (stored : List Stored) → IsValid start → Stands (new_world start indexid mark stored)
+BeginsStanding = (start : Mailbox) (indexid : ℕ) (mark : Mark) (stored : List Stored) → IsStart start indexid mark stored → Stands (new_world start indexid mark stored)
 
 -- each good event keeps what stands
 abbrev pub EventsKeep : Type 0
@@ -39,7 +39,7 @@ StandingHolds = (w : World) → Stands w → Holds w
 -- each world that good events lead to from a new one keeps them
 abbrev pub AllHold : Type 0
 AllHold = (start : Mailbox) (indexid : ℕ) (mark : Mark) (stored : List Stored) (events : List Event)
-    → IsValid start → All IsGoodEvent events → Holds (all_happen (new_world start indexid mark stored) events)
+    → IsStart start indexid mark stored → All IsGoodEvent events → Holds (all_happen (new_world start indexid mark stored) events)
 
 -- each turn of a transcript writes behind the entries of the turns before it, so no entry is written twice
 abbrev pub WritesAreDistinct : Type 0
@@ -48,13 +48,7 @@ WritesAreDistinct = (log : Log) (base author : ℕ) (commands : List Command) (r
 
 -- ---- from one world to the next
 
--- more entries at the end, and the same mailboxes before
-pub record GoesOn (log later : Log) : Type 0 where
-  pub more : List Entry
-  pub entries : later.entries ≡ log.entries ++ more
-  pub mailboxes : (k : ℕ) → k ≤ length log.entries → at later k ≡ at log k
-
--- no event takes an entry away or changes a mailbox
+-- no event takes an entry away, or changes a mailbox or a message that was given out
 abbrev pub LogsGoOn : Type 0
 LogsGoOn = (w : World) (event : Event) → Stands w → GoesOn w.log (happens w event).log
 
@@ -81,4 +75,4 @@ StandingCrashKeeps = (w : World) (n : ℕ) → Stands w → CrashKeeps w n
 -- so does a crash of each world that good events lead to
 abbrev pub AllCrashesKeep : Type 0
 AllCrashesKeep = (start : Mailbox) (indexid : ℕ) (mark : Mark) (stored : List Stored) (events : List Event) (n : ℕ)
-    → IsValid start → All IsGoodEvent events → CrashKeeps (all_happen (new_world start indexid mark stored) events) n
+    → IsStart start indexid mark stored → All IsGoodEvent events → CrashKeeps (all_happen (new_world start indexid mark stored) events) n

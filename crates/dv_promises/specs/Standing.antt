@@ -1,35 +1,30 @@
 -- What stands in each world that good events lead to.
 use Rattle.std.specs.Prelude.{◌≡◌, ◌⊎◌, ℕ, ◌+◌, ◌≤◌, true, List, ◌++◌, length, map, All, Option, Some, None, IfSome}
 use Rattle.dv_model.specs.declared.types.Command.{Command}
-use Rattle.dv_model.specs.declared.types.Command.TheVariants as command
-use Rattle.dv_model.specs.declared.types.Group.{Group}
 use Rattle.dv_model.specs.declared.types.Mailbox.{Mailbox}
-use Rattle.dv_model.specs.Journals.{Log, IsSound, at, mark_of}
+use Rattle.dv_model.specs.declared.types.Mark.{Mark}
+use Rattle.dv_model.specs.Journals.{Log, HasResets, IsGuid, IsSound, IsU32, at}
 use Rattle.dv_model.specs.Mailboxes.{IsValid}
-use Rattle.dv_model.specs.Names.{IsName}
-use Rattle.dv_model.specs.Sessions.{State, new_session, group_of, refusal_of, is_write}
-use Rattle.dv_model.specs.Transcripts.{IsOwn, IsTold, LeadsTo, Turn, Wrote as HasWrote, WroteEntry}
-use Rattle.dv_interleavings.specs.Worlds.{World, Session, Pending, Wrote, Event, Write}
-use Rattle.dv_validity.specs.Laws.{IsInRange}
+use Rattle.dv_model.specs.Sessions.{State, IsCommand, new_session, group_of, is_write}
+use Rattle.dv_model.specs.Transcripts.{IsOwn, IsTold, LeadsTo, Turn, Wrote as HasWrote, WroteEntry, refused_at}
+use Rattle.dv_interleavings.specs.Worlds.{World, Session, Pending, Wrote, Event, Write, Stored}
 
 -- ---- events
 
--- the keywords that the command names are names (RFC 3501, section 9, atom)
-abbrev pub HasNames : Command → Type 0
-HasNames (command.Append flags keywords message) = All IsName keywords
-HasNames (command.Store by_uid set how flags keywords since) = All IsName keywords
-HasNames c = Unit {0}
-
--- a command that is written names keywords by names alone, since records of other names have no spelling
+-- a session's number has 32 bits, and a command that is written is one of its type, since other records have no spelling
 abbrev pub IsGoodEvent : Event → Type 0
-IsGoodEvent (Write s c received) = HasNames c
+IsGoodEvent (Write s c received) = IsU32 s × IsCommand c
 IsGoodEvent event = Unit {0}
 
--- ---- a session's story
+-- ---- the beginning
 
--- each record of the group leaves a valid mailbox of a valid one
-abbrev pub AreInRange : Group → Type 0
-AreInRange g = All (λ r. IsInRange r.body) g.records
+-- a valid mailbox, a place of a log, and messages with GUIDs of 16 bytes
+pub record IsStart (start : Mailbox) (indexid : ℕ) (mark : Mark) (stored : List Stored) : Type 0 where
+  pub mailbox : IsValid start × HasResets start
+  pub numbers : IsU32 indexid × IsU32 mark.file_seq × IsU32 mark.offset
+  pub guids : All (λ s. IsGuid s.guid) stored
+
+-- ---- a session's story
 
 -- a turn that was answered with a mark, and met no fewer entries than its session was told of
 pub record IsToldTurn (log : Log) (s : ℕ) (t : Turn) : Type 0 where
@@ -46,7 +41,7 @@ pub record IsWriting (log : Log) (s : ℕ) (x : State) (write : Wrote) : Type 0 
   -- the mailbox that it met
   pub before : Mailbox
   pub was_there : at log write.met ≡ Some before
-  pub allowed : refusal_of x write.command before (mark_of log write.met) log.guid ≡ None
+  pub allowed : refused_at log write.met x write.command before ≡ None
   pub wrote : HasWrote log s write.met write.place x.view write.command before
   -- it met no fewer entries than its session was told of, and its place is in the log
   pub told : x.told ≤ write.met
@@ -67,12 +62,13 @@ pub record IsTried (log : Log) (start : ℕ) (turns : List Turn) (last : State) 
   -- the mailbox that it met, where it was allowed
   pub mailbox : Mailbox
   pub is_there : at log (length log.entries) ≡ Some mailbox
-  pub allowed : refusal_of state p.command mailbox (mark_of log (length log.entries)) log.guid ≡ None
+  pub allowed : refused_at log (length log.entries) state p.command mailbox ≡ None
   -- its group is that of the rules, and isn't empty
   pub group : p.group ≡ group_of p.command state.view mailbox log.guid
   pub some : 1 ≤ length p.group.records
   -- it is a write of a good event, and met no fewer entries than its session was told of
-  pub names : HasNames p.command
+  pub author : IsU32 p.author
+  pub good : IsCommand p.command
   pub write : is_write p.command ≡ true
   pub told : state.told ≤ length log.entries
   -- the session wrote no entry since
@@ -114,12 +110,9 @@ pub record IsLive (log : Log) (published : ℕ) (waiting : Option Pending) (s : 
 abbrev pub HasAuthor : World → Pending → Type 0
 HasAuthor w p = (session : Session) × (w.sessions p.author ≡ Some session)
 
--- Each prefix of the log is a valid mailbox, each live session has its story, and a session that isn't there wrote
+-- The log is sound, each live session has its story, and a session that isn't there wrote
 -- nothing that isn't published.
 pub record Stands (w : World) : Type 0 where
-  -- the log begins with a valid mailbox, and its records apply and leave valid ones
-  pub start : IsValid w.log.start
-  pub range : All (λ e. AreInRange e.group) w.log.entries
   pub sound : IsSound w.log
   -- no more is published than is durable
   pub published : w.published ≤ length w.log.entries

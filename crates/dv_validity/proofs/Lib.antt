@@ -15,3 +15,12 @@ pub mod Ranges
 pub mod Records
 pub mod Stamps
 pub mod Updates
+pub mod Texts
+pub mod Pieces
+pub mod Resets
+pub mod Written
+pub mod Groups
+pub mod Agreeing
+pub mod Entries
+pub mod Logs
+pub mod Going

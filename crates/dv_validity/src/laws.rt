@@ -1,4 +1,5 @@
 ghost use Rattle.dv_validity.specs.Laws.{RecordKeepsValid, RecordsKeepValid, RecordIsInRange, RangeKeepsValid, RangesKeepValid, StampedByItself, StampedByRows, StampedAlike, StampedWithout, StampedWithMore, FlagsByRows, RecordRises, RecordsNeverFall, NoneReturns, NoneReturnsInTurn, KeywordsStay, KeywordsStayInTurn, FollowingStays};
+ghost use Rattle.dv_validity.specs.Entries.{GroupIsEntry, GroupApplies, EntryIsInRange, EntryKeepsValid, EntryKeepsResets};
 
 /// A valid mailbox stays valid under each record that has a spelling in bytes: as each message is
 /// added it is assigned a higher UID than those which were added previously (RFC 3501, section
@@ -42,4 +43,18 @@ pub fn keywords_stay()
     ensures one { KeywordsStay }
     ensures all { KeywordsStayInTurn }
     ensures following { FollowingStays }
+{}
+
+/// What a command of its type writes over a valid mailbox is no record or an entry of a sound log:
+/// each record has a spelling in bytes, however many messages are named, and applies to the mailbox.
+pub fn groups_are_entries()
+    ensures entry { GroupIsEntry }
+    ensures applies { GroupApplies }
+{}
+
+/// An entry leaves a valid mailbox of a valid one, and each extension's reset number one of 32 bits.
+pub fn entries_keep_valid()
+    ensures range { EntryIsInRange }
+    ensures valid { EntryKeepsValid }
+    ensures resets { EntryKeepsResets }
 {}

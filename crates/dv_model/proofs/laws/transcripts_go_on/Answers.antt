@@ -2,7 +2,7 @@ use Rattle.dv_model.proofs.Speaking.{spoken_grown, spoken_on, spoken_on_writing,
 use Rattle.dv_model.proofs.laws.transcripts_go_on.Goals as goal
 
 pub returns-clause-stay : goal.returns-clause-stay
-returns-clause-stay c = λ log more base author commands replies others s. spoken_grown log more author others base commands replies s
+returns-clause-stay c = λ log more base author commands replies others sound s. spoken_grown log more author others base commands replies sound s
 
 pub returns-clause-on : goal.returns-clause-on
 returns-clause-on c = spoken_on
