@@ -1,5 +1,5 @@
 -- What a crash may leave while lines are answered.
-use Rattle.std.proofs.Common.{◌≡◌, ◌⊎◌, inl, inr, ⊎_elim, ℕ, Option, Some, None, List, [], ◌∷◌, ◌++◌, length, take, refl, sym, ap, ◌∙◌, subst, arith, length-append}
+use Rattle.std.proofs.Common.{false, ◌≡◌, ◌⊎◌, inl, inr, ⊎_elim, ℕ, Option, Some, None, List, [], ◌∷◌, ◌++◌, length, take, refl, sym, ap, ◌∙◌, subst, arith, length-append}
 use Rattle.std.proofs.lemmas.List.{append-nil, take_all, take-append-le}
 use Rattle.dv_model.specs.declared.types.Command.{Command}
 use Rattle.dv_model.specs.declared.types.Entry.{Entry}
@@ -26,7 +26,7 @@ with_records_more s [] = ([], sym (append-nil s.entries))
 with_records_more s (r ∷ rs) = (record { author = first_session; group = record { records = r ∷ rs } } ∷ [], refl)
 
 pub step_more : (guid : ℕ → List ℕ) (s : Standing) (c : Command) → (extra : List Entry) × ((step guid s c).standing.entries ≡ s.entries ++ extra)
-step_more guid s c = by (refusal_of s.state c s.mailbox s.mark guid)
+step_more guid s c = by (refusal_of s.state c s.mailbox false s.mark guid)
   where
     by : (r : Option Reply) → (extra : List Entry) × ((stepped_by guid s c r).standing.entries ≡ s.entries ++ extra)
     by (Some line) = ([], sym (append-nil s.entries))

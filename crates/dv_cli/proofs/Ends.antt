@@ -1,5 +1,5 @@
 -- What the clauses of a run say, by how it ended.
-use Rattle.std.proofs.Common.{◌≡◌, ◌⊎◌, inl, inr, ⊎_elim, ℕ, List, [], length, refl, sym, ap, ◌∙◌, subst, arith, Ok, Err}
+use Rattle.std.proofs.Common.{◌≡◌, ◌⊎◌, inl, inr, ⊎_elim, ℕ, ◌≤◌, List, [], length, refl, sym, ap, ◌∙◌, subst, arith, Ok, Err}
 use Rattle.std.specs.Prelude.{Result}
 use Rattle.std.proofs.lemmas.List.{append-nil}
 use Rattle.dv_model.specs.declared.types.Entry.{Entry}
@@ -18,7 +18,6 @@ use Rattle.dv_cli.specs.Running.{stamp, guid_by, log_of, new_standing, memory_te
 use Rattle.dv_cli.specs.Runs.{Counts, Cause, EndCause, EndsFolder, FolderRun, IsScriptEnd, IsSerialRun, LastLine, RefusedLine, Refuses, Served, Unmade, end_of}
 use Rattle.dv_cli.specs.Standings.{Standing, AreServed, replies_of}
 use Rattle.dv_cli.proofs.Runs.{writes, finished, no_memory_left, disk_failed, output_failed}
-use Rattle.dv_cli.proofs.Serials.{serial_at}
 
 -- ---- a refused script
 
@@ -58,7 +57,7 @@ module _ (clock : ℕ → ℕ) (base : ℕ) (counts : Counts) (has_mailbox : Typ
   none_answered e differs none last done =
       subst (λ (es : List Entry). IsSerialRun status base counts has_mailbox clock lines es old new) (sym none) (record {
         replies = [];
-        serial = serial_at clock base [] lines served;
+        serial = inl (refl, refl);
         unanswered = replies_of (guid_by clock) (new_standing clock) lines;
         by_rules = refl;
         whole = λ zero. absurd (not_zero done zero);
@@ -96,7 +95,7 @@ module _ (clock : ℕ → ℕ) (base : ℕ) (counts : Counts) (has_mailbox : Typ
 
 -- ---- a run over a folder
 
-module _ (clock : ℕ → ℕ) (base : ℕ) (counts : Counts) (has_mailbox : Type 0) (lines : List Line) (served : AreServed lines) (status : ℕ) (journal : List Entry) (told holds new_there : Type 0) (out_before out_now : ℕ) (old mid new : List ℕ) (before now : Folder) where
+module _ (clock : ℕ → ℕ) (base : ℕ) (counts : Counts) (has_mailbox : Type 0) (lines : List Line) (served : AreServed lines) (later : base ≤ counts.shelf_now) (status : ℕ) (journal : List Entry) (told holds new_there : Type 0) (out_before out_now : ℕ) (old mid new : List ℕ) (before now : Folder) where
   abbrev FolderSerial : Type 0
   FolderSerial = IsSerialRun status base counts has_mailbox clock lines journal old new
 
@@ -125,16 +124,16 @@ module _ (clock : ℕ → ℕ) (base : ℕ) (counts : Counts) (has_mailbox : Typ
     where
       by : (r : Result (Unit {0}) LineEnd) → Serves (guid_by clock) (stamp (clock 0)) (new_standing clock) lines r run.standing told holds old mid now → Caused (end_of run.standing r) → Concludes (end_of run.standing r) status mid new → FolderSerial
       by (Ok ok) serves cause done =
-          finished clock base counts has_mailbox lines served status journal old new mid (run.entries ∙ ap (λ (s : Standing). s.entries) serves.standing) (serves.output tells)
+          finished clock base counts has_mailbox lines served run.number later status journal old new mid (run.entries ∙ ap (λ (s : Standing). s.entries) serves.standing) (serves.output tells)
           (subst (λ (s : Standing). Concludes (how.Answered s.mark (length s.entries)) status mid new) serves.standing done)
       by (Err line_end.NoMemory) serves cause done =
-          no_memory_left clock base counts has_mailbox lines served status journal old new serves.front serves.line serves.behind serves.split mid
+          no_memory_left clock base counts has_mailbox lines served run.number later status journal old new serves.front serves.line serves.behind serves.split mid
           (⊎_elim (λ is. inl (run.entries ∙ ap (λ (s : Standing). s.entries) is)) (λ is. inr (run.entries ∙ ap (λ (s : Standing). s.entries) is)) serves.standing) (serves.output tells) done
       by (Err (line_end.Disk n)) serves cause done =
-          disk_failed clock base counts has_mailbox lines served status journal old new serves.front serves.line serves.behind serves.split mid n cause.0 cause.1
+          disk_failed clock base counts has_mailbox lines served run.number later status journal old new serves.front serves.line serves.behind serves.split mid n cause.0 cause.1
           (run.entries ∙ ap (λ (s : Standing). s.entries) serves.standing) (serves.output tells) done
       by (Err line_end.Sink) serves cause done =
-          output_failed clock base counts has_mailbox lines served status journal old new serves.front serves.line serves.behind serves.split mid
+          output_failed clock base counts has_mailbox lines served run.number later status journal old new serves.front serves.line serves.behind serves.split mid
           (run.entries ∙ ap (λ (s : Standing). s.entries) serves.standing) (serves.output tells) done
 
   pub folder_serial : (e : End) → FolderRun clock lines e journal told holds old mid before now → told → Caused e → Concludes e status mid new → FolderSerial

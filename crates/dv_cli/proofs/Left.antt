@@ -32,13 +32,13 @@ use Rattle.dv_cli.proofs.Serials.{Stands, new_stands, served_front, stands_behin
 use Rattle.dv_cli.proofs.LineLaws.{behind_more}
 
 -- the place behind some entries
-fold_mark : (m : Mark) (es : List Entry) → fold (λ mark e. mark_behind mark e.group) m es ≡ record m { offset = m.offset + length (flat_map written (flat_map (λ e. e.group.records) es)) }
+fold_mark : (m : Mark) (es : List Entry) → fold (λ mark e. mark_behind false mark e.group) m es ≡ record m { offset = m.offset + length (flat_map written (flat_map (λ e. e.group.records) es)) }
 fold_mark m [] = ap (λ (n : ℕ). record m { offset = n }) (omega arith)
 fold_mark m (e ∷ es) =
     let one = flat_map written e.group.records in
     let rest = flat_map (λ (e : Entry). e.group.records) es in
     let more : length (flat_map written (e.group.records ++ rest)) ≡ length one + length (flat_map written rest) = ap length (flat_map-append written e.group.records rest) ∙ length-append one (flat_map written rest) in
-    fold_mark (mark_behind m e.group) es ∙ ap (λ (n : ℕ). record m { offset = n }) (omega (arith, more))
+    fold_mark (mark_behind false m e.group) es ∙ ap (λ (n : ℕ). record m { offset = n }) (omega (arith, more))
 
 module _ (clock : ℕ → ℕ) where
   abbrev n : ℕ

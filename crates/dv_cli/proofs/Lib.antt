@@ -1,6 +1,7 @@
 pub mod RowLines
 pub mod Steps
 pub mod Serves
+pub mod Available
 pub mod Serials
 pub mod Concluding
 pub mod LineLaws

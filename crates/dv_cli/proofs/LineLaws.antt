@@ -1,5 +1,5 @@
 -- What a line of the script leaves.
-use Rattle.std.proofs.Common.{◌≡◌, ℕ, ◌+◌, ◌<◌, ◌≤◌, Option, Some, None, List, [], ◌∷◌, ◌++◌, length, take, drop, get_or, refl, ap, sym, ◌∙◌, subst, append_assoc, arith}
+use Rattle.std.proofs.Common.{false, ◌≡◌, ℕ, ◌+◌, ◌<◌, ◌≤◌, Option, Some, None, List, [], ◌∷◌, ◌++◌, length, take, drop, get_or, refl, ap, sym, ◌∙◌, subst, append_assoc, arith}
 use Rattle.std.proofs.lemmas.List.{append-nil, length_push, take_more, take-append-drop}
 use Rattle.dv_model.specs.declared.types.Command.{Command}
 use Rattle.dv_model.specs.declared.types.Entry.{Entry}
@@ -73,7 +73,7 @@ with_records_grows s [] = omega arith
 with_records_grows s (r ∷ rs) = omega (arith, length_push s.entries (record { author = first_session; group = record { records = r ∷ rs } }))
 
 pub step_grows : (guid : ℕ → List ℕ) (s : Standing) (c : Command) → length s.entries ≤ length (step guid s c).standing.entries
-step_grows guid s c = by (refusal_of s.state c s.mailbox s.mark guid)
+step_grows guid s c = by (refusal_of s.state c s.mailbox false s.mark guid)
   where
     by : (r : Option Reply) → length s.entries ≤ length (stepped_by guid s c r).standing.entries
     by (Some line) = omega arith

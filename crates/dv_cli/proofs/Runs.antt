@@ -1,5 +1,5 @@
 -- A run whose lines were answered until one ended it is a serial run.
-use Rattle.std.proofs.Common.{◌≡◌, ◌⊎◌, inl, inr, ⊎_elim, ℕ, ◌+◌, ◌≤◌, Bool, true, false, List, [], ◌∷◌, ◌++◌, length, take, drop, refl, sym, ap, ◌∙◌, subst, arith, append_assoc, length-append, Ok, Err}
+use Rattle.std.proofs.Common.{◌≡◌, ◌⊎◌, inl, inr, ⊎_elim, ℕ, ◌+◌, ◌^◌, ◌<◌, ◌≤◌, Bool, true, false, List, [], ◌∷◌, ◌++◌, length, take, drop, refl, sym, ap, ◌∙◌, subst, arith, append_assoc, length-append, Ok, Err}
 use Rattle.std.proofs.lemmas.List.{append-nil, drop_at}
 use Rattle.dv_model.specs.declared.types.Entry.{Entry}
 use Rattle.dv_model.specs.declared.types.Mark.{Mark}
@@ -12,7 +12,7 @@ use Rattle.dv_cli.specs.declared.ending.End.{End}
 use Rattle.dv_cli.specs.declared.ending.End.TheVariants as how
 use Rattle.dv_cli.specs.Endings.{status_of, text_of, Concludes}
 use Rattle.dv_cli.specs.Lines.{text_of_lines}
-use Rattle.dv_cli.specs.Running.{guid_by, log_of, new_standing, numbered, answer_text, end_text, disk_text, memory_text, replies_text}
+use Rattle.dv_cli.specs.Running.{guid_by, stamp, log_of, new_standing, numbered, answer_text, end_text, disk_text, memory_text, replies_text}
 use Rattle.dv_cli.specs.Runs.{Counts, LastLine, Tried, Writes, IsSerialRun}
 use Rattle.dv_cli.specs.Standings.{Standing, AreServed, step, behind_line, behind_lines, replies_of}
 use Rattle.dv_cli.proofs.LineLaws.{behind_more}
@@ -47,30 +47,30 @@ module _ (clock : ℕ → ℕ) (base : ℕ) where
 
   -- ---- the serial runs
 
-  module _ (lines : List Line) (served : AreServed lines) where
-    all_lines : Serial (log_of clock (behind_lines G S0 lines).entries) base (numbered lines) (replies_of G S0 lines)
+  module _ (faults : ℕ) (lines : List Line) (served : AreServed lines) (small : stamp (clock 0) < 2 ^ 32) (later : base ≤ faults) where
+    all_lines : Serial (log_of clock (behind_lines G S0 lines).entries) base faults (numbered lines) (replies_of G S0 lines)
     all_lines =
-        subst (λ (ls : List Line). Serial (log_of clock (behind_lines G S0 lines).entries) base (numbered ls) (replies_of G S0 lines)) (append-nil lines)
-        (serial_at clock base lines [] (subst AreServed (sym (append-nil lines)) served))
+        subst (λ (ls : List Line). Serial (log_of clock (behind_lines G S0 lines).entries) base faults (numbered ls) (replies_of G S0 lines)) (append-nil lines)
+        (serial_at clock base faults lines [] (subst AreServed (sym (append-nil lines)) served) small later)
 
     module _ (front : List Line) (line : Line) (behind : List Line) (split : lines ≡ front ++ line ∷ behind) where
       here : AreServed (front ++ line ∷ behind)
       here = subst AreServed split served
 
-      first_lines : Serial (log_of clock (behind_lines G S0 front).entries) base (numbered lines) (replies_of G S0 front)
-      first_lines = subst (λ (ls : List Line). Serial (log_of clock (behind_lines G S0 front).entries) base (numbered ls) (replies_of G S0 front)) (sym split) (serial_at clock base front (line ∷ behind) here)
+      first_lines : Serial (log_of clock (behind_lines G S0 front).entries) base faults (numbered lines) (replies_of G S0 front)
+      first_lines = subst (λ (ls : List Line). Serial (log_of clock (behind_lines G S0 front).entries) base faults (numbered ls) (replies_of G S0 front)) (sym split) (serial_at clock base faults front (line ∷ behind) here small later)
 
-      with_group : Serial (log_of clock (behind_line G (behind_lines G S0 front) line).entries) base (numbered lines) (replies_of G S0 front)
+      with_group : Serial (log_of clock (behind_line G (behind_lines G S0 front) line).entries) base faults (numbered lines) (replies_of G S0 front)
       with_group =
-          subst (λ (ls : List Line). Serial (log_of clock (behind_line G (behind_lines G S0 front) line).entries) base (numbered ls) (replies_of G S0 front)) (sym split) (serial_next clock base front line behind here)
+          subst (λ (ls : List Line). Serial (log_of clock (behind_line G (behind_lines G S0 front) line).entries) base faults (numbered ls) (replies_of G S0 front)) (sym split) (serial_next clock base faults front line behind here small later)
 
-      one_more : Serial (log_of clock (behind_line G (behind_lines G S0 front) line).entries) base (numbered lines) (replies_of G S0 front ++ (step G (behind_lines G S0 front) line.command).replies ∷ [])
+      one_more : Serial (log_of clock (behind_line G (behind_lines G S0 front) line).entries) base faults (numbered lines) (replies_of G S0 front ++ (step G (behind_lines G S0 front) line.command).replies ∷ [])
       one_more =
           let again : (front ++ line ∷ []) ++ behind ≡ front ++ line ∷ behind = append_assoc front (line ∷ []) behind in
-          let serial = serial_at clock base (front ++ line ∷ []) behind (subst AreServed (sym again) here) in
-          subst (λ (ls : List Line). Serial (log_of clock (behind_line G (behind_lines G S0 front) line).entries) base (numbered ls) (replies_of G S0 front ++ (step G (behind_lines G S0 front) line.command).replies ∷ [])) (again ∙ sym split)
-          (subst (λ (s : Standing). Serial (log_of clock s.entries) base (numbered ((front ++ line ∷ []) ++ behind)) (replies_of G S0 front ++ (step G (behind_lines G S0 front) line.command).replies ∷ [])) (behind_more G S0 front line)
-          (subst (λ (rs : List (List Reply)). Serial (log_of clock (behind_lines G S0 (front ++ line ∷ [])).entries) base (numbered ((front ++ line ∷ []) ++ behind)) rs) (replies_more S0 front line) serial))
+          let serial = serial_at clock base faults (front ++ line ∷ []) behind (subst AreServed (sym again) here) small later in
+          subst (λ (ls : List Line). Serial (log_of clock (behind_line G (behind_lines G S0 front) line).entries) base faults (numbered ls) (replies_of G S0 front ++ (step G (behind_lines G S0 front) line.command).replies ∷ [])) (again ∙ sym split)
+          (subst (λ (s : Standing). Serial (log_of clock s.entries) base faults (numbered ((front ++ line ∷ []) ++ behind)) (replies_of G S0 front ++ (step G (behind_lines G S0 front) line.command).replies ∷ [])) (behind_more G S0 front line)
+          (subst (λ (rs : List (List Reply)). Serial (log_of clock (behind_lines G S0 (front ++ line ∷ [])).entries) base faults (numbered ((front ++ line ∷ []) ++ behind)) rs) (replies_more S0 front line) serial))
 
       text-is : replies_text lines (replies_of G S0 front) ≡ text_of_lines G S0 front
       text-is = ap (λ (ls : List Line). replies_text ls (replies_of G S0 front)) split ∙ text_front S0 front (line ∷ behind)
@@ -137,7 +137,7 @@ module _ (clock : ℕ → ℕ) (base : ℕ) where
 
   -- ---- each way to end
 
-  module _ (counts : Counts) (has_mailbox : Type 0) (lines : List Line) (served : AreServed lines) (status : ℕ) (journal : List Entry) (old new : List ℕ) where
+  module _ (counts : Counts) (has_mailbox : Type 0) (lines : List Line) (served : AreServed lines) (small : stamp (clock 0) < 2 ^ 32) (later : base ≤ counts.shelf_now) (status : ℕ) (journal : List Entry) (old new : List ℕ) where
     abbrev SerialRun : Type 0
     SerialRun = IsSerialRun status base counts has_mailbox clock lines journal old new
 
@@ -155,7 +155,7 @@ module _ (clock : ℕ → ℕ) (base : ℕ) where
         let last : LastLine 0 counts (log_of clock s.entries) has_mailbox (end_text s.mark (length s.entries)) = inl (refl, ap (λ (mark : Mark). end_text mark (length s.entries)) (sym stands.mark)) in
         subst (λ (es : List Entry). IsSerialRun status base counts has_mailbox clock lines es old new) (sym entries) (record {
           replies = replies_of G S0 lines;
-          serial = all_lines lines served;
+          serial = inr (all_lines counts.shelf_now lines served small later);
           unanswered = [];
           by_rules = sym (append-nil (replies_of G S0 lines));
           whole = λ zero. refl;
@@ -170,36 +170,36 @@ module _ (clock : ℕ → ℕ) (base : ℕ) where
       first_replies = ap (λ (ls : List Line). replies_of G S0 ls) split ∙ replies_split S0 front (line ∷ behind)
 
       -- the run ended at a line, whose group may be in the log
-      ended : (e : End) → (status_of e ≡ 0 → ⊥) → (entries : List Entry) → Serial (log_of clock entries) base (numbered lines) (replies_of G S0 front) → journal ≡ entries → mid ≡ old ++ text_of_lines G S0 front
+      ended : (e : End) → (status_of e ≡ 0 → ⊥) → (entries : List Entry) → Serial (log_of clock entries) base counts.shelf_now (numbered lines) (replies_of G S0 front) → journal ≡ entries → mid ≡ old ++ text_of_lines G S0 front
           → LastLine (status_of e) counts (log_of clock entries) has_mailbox (text_of e) → Concludes e status mid new → SerialRun
       ended e differs entries serial is mid-is last done =
           subst (λ (es : List Entry). IsSerialRun status base counts has_mailbox clock lines es old new) (sym is) (record {
             replies = replies_of G S0 front;
-            serial = serial;
+            serial = inr serial;
             unanswered = replies_of G s (line ∷ behind);
             by_rules = first_replies;
             whole = λ zero. absurd (not_zero e mid differs done zero);
-            written = writes counts has_mailbox lines entries (replies_of G S0 front) old mid new (mid-is ∙ ap (λ (l : List ℕ). old ++ l) (sym (text-is lines served front line behind split))) e status last done;
+            written = writes counts has_mailbox lines entries (replies_of G S0 front) old mid new (mid-is ∙ ap (λ (l : List ℕ). old ++ l) (sym (text-is counts.shelf_now lines served small later front line behind split))) e status last done;
           })
 
       pub no_memory_left : (journal ≡ s.entries) ⊎ (journal ≡ (behind_line G s line).entries) → mid ≡ old ++ text_of_lines G S0 front → Concludes how.NoMemory status mid new → SerialRun
       no_memory_left entries mid-is done =
-          ⊎_elim (λ (is : journal ≡ s.entries). ended how.NoMemory (λ four. absurd (omega arith)) s.entries (first_lines lines served front line behind split) is mid-is (inr (inr (inr (inl (refl, refl))))) done)
-          (λ (is : journal ≡ (behind_line G s line).entries). ended how.NoMemory (λ four. absurd (omega arith)) (behind_line G s line).entries (with_group lines served front line behind split) is mid-is (inr (inr (inr (inl (refl, refl))))) done) entries
+          ⊎_elim (λ (is : journal ≡ s.entries). ended how.NoMemory (λ four. absurd (omega arith)) s.entries (first_lines counts.shelf_now lines served small later front line behind split) is mid-is (inr (inr (inr (inl (refl, refl))))) done)
+          (λ (is : journal ≡ (behind_line G s line).entries). ended how.NoMemory (λ four. absurd (omega arith)) (behind_line G s line).entries (with_group counts.shelf_now lines served small later front line behind split) is mid-is (inr (inr (inr (inl (refl, refl))))) done) entries
 
       pub disk_failed : (n : ℕ) → Rose counts.shelf_before counts.shelf_now → n ≡ counts.shelf_now → journal ≡ s.entries → mid ≡ old ++ text_of_lines G S0 front → Concludes (how.Disk n) status mid new → SerialRun
       disk_failed n rose is entries mid-is done =
-          ended (how.Disk n) (λ two. absurd (omega arith)) s.entries (first_lines lines served front line behind split) entries mid-is (inr (inl (refl, rose, ap disk_text is))) done
+          ended (how.Disk n) (λ two. absurd (omega arith)) s.entries (first_lines counts.shelf_now lines served small later front line behind split) entries mid-is (inr (inl (refl, rose, ap disk_text is))) done
 
       pub output_failed : journal ≡ (behind_line G s line).entries → AppendsFront (old ++ text_of_lines G S0 front) mid (answer_text line (step G s line.command).replies) → Concludes how.Sink status mid new → SerialRun
       output_failed entries took done =
           let text = answer_text line (step G s line.command).replies in
-          let tried = inr (line, behind, (step G s line.command).replies, left-is lines served front line behind split, one_more lines served front line behind split, refl) in
+          let tried = inr (line, behind, (step G s line.command).replies, left-is counts.shelf_now lines served small later front line behind split, one_more counts.shelf_now lines served small later front line behind split, refl) in
           let at = fails_at counts has_mailbox lines (behind_line G s line).entries (replies_of G S0 front) old mid new text status tried
-          (subst (λ (l : List ℕ). AppendsFront (old ++ l) mid text) (sym (text-is lines served front line behind split)) took) done in
+          (subst (λ (l : List ℕ). AppendsFront (old ++ l) mid text) (sym (text-is counts.shelf_now lines served small later front line behind split)) took) done in
           subst (λ (es : List Entry). IsSerialRun status base counts has_mailbox clock lines es old new) (sym entries) (record {
             replies = replies_of G S0 front;
-            serial = with_group lines served front line behind split;
+            serial = inr (with_group counts.shelf_now lines served small later front line behind split);
             unanswered = replies_of G s (line ∷ behind);
             by_rules = first_replies;
             whole = λ zero. absurd (omega (arith, at.0));

@@ -1,6 +1,9 @@
 -- A run of the rules, one line after another, is a serial run over the log that it leaves.
-use Rattle.std.proofs.Common.{◌≡◌, ◌⊎◌, inl, inr, ℕ, suc, ◌+◌, ◌≤◌, List, [], ◌∷◌, ◌++◌, length, take, drop, Option, Some, None, refl, sym, ◌∙◌, ap, subst, arith, append_assoc, length-append}
-use Rattle.std.specs.Prelude.{slice_get, unwrap_or, option_and_then}
+use Rattle.std.proofs.Common.{◌≡◌, ◌⊎◌, inl, inr, ℕ, suc, ◌+◌, ◌^◌, ◌<◌, ◌≤◌, lit<, Bool, true, false, cond, nat_eq, List, [], ◌∷◌, ◌++◌, length, take, drop, Option, Some, None, refl, sym, ◌∙◌, ap, subst, arith, rules, append_assoc, length-append}
+use Rattle.std.specs.Prelude.{slice_get, unwrap_or, option_and_then, IsSome}
+use Rattle.std.proofs.lemmas.Bool.{cases_lt}
+use Rattle.std.proofs.lemmas.Bool.Decides.{nat_tests}
+use Rattle.std.proofs.lemmas.List.Elements.{All-nil, All-push}
 use Rattle.std.proofs.lemmas.List.{append-nil, length_push, take_at, drop_at, map-append}
 use Rattle.dv_model.specs.declared.types.Command.{Command}
 use Rattle.dv_model.specs.declared.types.Command.TheVariants as command
@@ -9,15 +12,21 @@ use Rattle.dv_model.specs.declared.types.Mailbox.{Mailbox}
 use Rattle.dv_model.specs.declared.types.Mark.{Mark}
 use Rattle.dv_model.specs.declared.types.Reply.{Reply}
 use Rattle.dv_model.specs.Effects.{applied}
-use Rattle.dv_model.specs.Journals.{Log, at, mark_of, mark_behind}
-use Rattle.dv_model.specs.Sessions.{State, answer, refusal_of, group_of}
+use Rattle.dv_model.specs.Counts.{RoseBy}
+use Rattle.dv_model.specs.Journals.{IsEntry, IsSound, Log, at, mark_of, mark_behind}
+use Rattle.dv_model.specs.Mailboxes.{IsValid}
+use Rattle.dv_model.specs.Sessions.{State, answer, refusal_of, group_of, end_of_uids}
 use Rattle.dv_model.specs.Transcripts as transcripts
-use Rattle.dv_model.specs.Transcripts.{Answered, IsTold, IsRefused, HasWritten, Wrote, Runs, Serial, EndsAt, with_state}
+use Rattle.dv_model.specs.Transcripts.{Answered, IsTold, IsRefused, HasLeft, HasWritten, Wrote, Runs, Serial, EndsAt, unavailable_count, with_state}
 use Rattle.dv_model.proofs.Appends.{append_record, appended, append_group_is}
 use Rattle.dv_model.proofs.Transcripts.{at_grown, mark_grown, at_end, mark_end}
+use Rattle.dv_validity.proofs.Entries.{group_is_entry}
+use Rattle.dv_validity.proofs.Logs.{resets_at, valid_at}
+use Rattle.dv_validity.proofs.Texts.{new_guid_is}
 use Rattle.dv_script.specs.declared.types.Line.{Line}
 use Rattle.dv_cli.specs.Standings.{Standing, Stepped, first_session, no_bytes, step, stepped_by, told, with_records, behind_line, behind_lines, replies_of, IsServed, AreServed}
-use Rattle.dv_cli.specs.Running.{stamp, new_standing, log_of, guid_by, numbered}
+use Rattle.dv_cli.specs.Running.{stamp, new_mailbox, new_standing, log_of, guid_by, numbered}
+use Rattle.dv_cli.proofs.Available.{all_available}
 
 -- the run stands at the end of its log
 pub record Stands (clock : ℕ → ℕ) (s : Standing) : Type 0 where
@@ -25,6 +34,25 @@ pub record Stands (clock : ℕ → ℕ) (s : Standing) : Type 0 where
   pub mark : mark_of (log_of clock s.entries) (length s.entries) ≡ s.mark
   pub seen : s.state.told ≤ length s.entries
   pub validity : s.mailbox.uid_validity ≡ stamp (clock 0)
+  pub sound : stamp (clock 0) < 2 ^ 32 → IsSound (log_of clock s.entries)
+
+-- a new mailbox is valid
+new_is_valid : (n : ℕ) → IsValid (new_mailbox n)
+new_is_valid n = record {
+  next_uid = (omega arith, lit< tt);
+  rising = search rules;
+  rows = search rules;
+  names = search rules;
+  extensions = record { count = omega arith; record_sizes = omega arith; headers = search rules; names = search rules; distinct = search rules };
+  current = search rules;
+  highest = (omega arith, search rules);
+}
+
+-- an append that isn't refused finds a UID left
+uid_left : (b c : Bool) (x y : Reply) (o : Option Reply) → cond b (Some x) (cond c (Some y) o) ≡ None → c ≡ false
+uid_left true c x y o is = absurd cc
+uid_left false true x y o is = absurd cc
+uid_left false false x y o is = refl
 
 module _ (clock : ℕ → ℕ) (base : ℕ) where
   abbrev G : ℕ → List ℕ
@@ -39,26 +67,26 @@ module _ (clock : ℕ → ℕ) (base : ℕ) where
 
   -- ---- one line
 
-  refused : (s : Standing) (c : Command) (line : Reply) (more : List Entry) → Stands clock s → refusal_of s.state c s.mailbox s.mark G ≡ Some line
+  refused : (s : Standing) (c : Command) (line : Reply) (more : List Entry) → Stands clock s → refusal_of s.state c s.mailbox false s.mark G ≡ Some line
       → Answered (log_of clock (s.entries ++ more)) base first_session (length s.entries) (length s.entries) s.state c (line ∷ []) s.state
   refused s c line more stands is = inl (record {
     before = s.mailbox;
     was_there = there s more stands;
     line = line;
-    refusal = ap (λ (mark : Mark). refusal_of s.state c s.mailbox mark G) (marked s more stands) ∙ is;
+    refusal = ap (λ (mark : Mark). refusal_of s.state c s.mailbox false mark G) (marked s more stands) ∙ is;
     one_line = refl;
     nothing_written = refl;
     stays = refl;
   })
 
   -- a command without a group
-  read : (s : Standing) (c : Command) (more : List Entry) → Stands clock s → refusal_of s.state c s.mailbox s.mark G ≡ None → (group_of c s.state.view s.mailbox G).records ≡ []
+  read : (s : Standing) (c : Command) (more : List Entry) → Stands clock s → refusal_of s.state c s.mailbox false s.mark G ≡ None → (group_of c s.state.view s.mailbox G).records ≡ []
       → let a = answer no_bytes s.state c s.mailbox (length s.entries) s.mailbox s.mark in
       Answered (log_of clock (s.entries ++ more)) base first_session (length s.entries) (length s.entries) s.state c a.replies a.next
   read s c more stands allowed none = inr (inr (record {
     before = s.mailbox;
     was_there = there s more stands;
-    allowed = ap (λ (mark : Mark). refusal_of s.state c s.mailbox mark G) (marked s more stands) ∙ allowed;
+    allowed = ap (λ (mark : Mark). refusal_of s.state c s.mailbox false mark G) (marked s more stands) ∙ allowed;
     wrote = inr (refl, none);
     mailbox = s.mailbox;
     is_there = there s more stands;
@@ -67,7 +95,7 @@ module _ (clock : ℕ → ℕ) (base : ℕ) where
   }))
 
   stands_on : (s : Standing) (x : State) → Stands clock s → x.told ≤ length s.entries → Stands clock (record s { state = x })
-  stands_on s x stands le = record { mailbox = stands.mailbox; mark = stands.mark; seen = le; validity = stands.validity }
+  stands_on s x stands le = record { mailbox = stands.mailbox; mark = stands.mark; seen = le; validity = stands.validity; sound = stands.sound }
 
   -- an append, which has a group
   module _ (s : Standing) (stands : Stands clock s) where
@@ -84,44 +112,92 @@ module _ (clock : ℕ → ℕ) (base : ℕ) where
     applied_is : applied s.mailbox (append_record s.mailbox 0 ∷ []) ≡ Some behind.mailbox
     applied_is = append_group_is 0 [] s.state.view s.mailbox G ∙ ap (λ (m : Mailbox). Some m) (sym is_appended)
 
-    pub stands_behind : Stands clock behind
-    stands_behind = record {
-      mailbox =
-          ap (λ (k : ℕ). at (log_of clock (s.entries ++ entry ∷ [])) k) (length_push s.entries entry)
-          ∙ at_end (log_of clock s.entries) entry
-          ∙ ap (λ (m : Option Mailbox). option_and_then (λ n. applied n (append_record s.mailbox 0 ∷ [])) m) stands.mailbox
-          ∙ applied_is;
+    abbrev Allowed : Type 0
+    Allowed = refusal_of s.state (command.Append 0 [] []) s.mailbox false s.mark G ≡ None
+
+    behind_at : at (log_of clock (s.entries ++ entry ∷ [])) (length (s.entries ++ entry ∷ [])) ≡ Some behind.mailbox
+    behind_at =
+        ap (λ (k : ℕ). at (log_of clock (s.entries ++ entry ∷ [])) k) (length_push s.entries entry)
+        ∙ at_end (log_of clock s.entries) entry
+        ∙ ap (λ (m : Option Mailbox). option_and_then (λ n. applied n (append_record s.mailbox 0 ∷ [])) m) stands.mailbox
+        ∙ applied_is
+
+    is_entry : Allowed → IsSound (log_of clock s.entries) → IsEntry entry
+    is_entry allowed sound =
+        let valid = valid_at (log_of clock s.entries) sound (length s.entries) s.mailbox stands.mailbox in
+        let other : nat_eq s.mailbox.next_uid end_of_uids ≡ false = uid_left _ (nat_eq s.mailbox.next_uid end_of_uids) _ _ _ allowed in
+        let differs : s.mailbox.next_uid ≡ end_of_uids → ⊥ = grind (arith, nat_tests) in
+        let wide = valid.next_uid.1 in
+        group_is_entry (command.Append 0 [] []) s.state.view s.mailbox G first_session (lit< tt, All-nil _) valid
+        (resets_at (log_of clock s.entries) sound (length s.entries) s.mailbox stands.mailbox) sound.guids (lit< tt) (λ is. omega arith) (omega arith)
+
+    sound_behind : Allowed → IsSound (log_of clock s.entries) → IsSound (log_of clock behind.entries)
+    sound_behind allowed sound = record {
+      start = sound.start;
+      start_mark = sound.start_mark;
+      indexid = sound.indexid;
+      guids = sound.guids;
+      entries = All-push IsEntry s.entries entry sound.entries (is_entry allowed sound);
+      mailboxes = λ k le. by_place k le (cases_lt (length s.entries) k);
+    }
+      where
+        by_place : (k : ℕ) → k ≤ length behind.entries → (length s.entries < k) ⊎ (k ≤ length s.entries) → IsSome (at (log_of clock behind.entries) k)
+        by_place k le (inl past) =
+            let e : length behind.entries ≡ k = omega (arith, length_push s.entries entry) in
+            let some : IsSome (Some behind.mailbox) = refl in
+            subst (λ (n : ℕ). IsSome (at (log_of clock behind.entries) n)) e (subst (λ (o : Option Mailbox). IsSome o) (sym behind_at) some)
+        by_place k le (inr within) = subst (λ (o : Option Mailbox). IsSome o) (sym (at_grown (log_of clock s.entries) (entry ∷ []) k within)) (sound.mailboxes k within)
+
+    pub stands_behind : Allowed → Stands clock behind
+    stands_behind allowed = record {
+      mailbox = behind_at;
       mark =
           ap (λ (k : ℕ). mark_of (log_of clock (s.entries ++ entry ∷ [])) k) (length_push s.entries entry)
           ∙ mark_end (log_of clock s.entries) entry
-          ∙ ap (λ (mark : Mark). mark_behind mark entry.group) stands.mark;
+          ∙ ap (λ (mark : Mark). mark_behind false mark entry.group) stands.mark;
       seen = omega (arith, stands.seen, length_push s.entries entry);
       validity = ap (λ (m : Mailbox). m.uid_validity) is_appended ∙ stands.validity;
+      sound = λ small. sound_behind allowed (stands.sound small);
     }
 
     get_last : (es more : List Entry) (e : Entry) → slice_get ((es ++ e ∷ []) ++ more) (length es) ≡ Some e
     get_last [] more e = refl
     get_last (x ∷ es) more e = get_last es more e
 
-    appends : (more : List Entry) → refusal_of s.state (command.Append 0 [] []) s.mailbox s.mark G ≡ None
-        → let a = answer no_bytes s.state (command.Append 0 [] []) s.mailbox (length behind.entries) behind.mailbox behind.mark in
-        Answered (log_of clock (behind.entries ++ more)) base first_session (length s.entries) (length behind.entries) s.state (command.Append 0 [] []) a.replies a.next
-    appends more allowed = inr (inr (record {
-      before = s.mailbox;
-      was_there = ap (λ (es : List Entry). at (log_of clock es) (length s.entries)) (append_assoc s.entries (entry ∷ []) more) ∙ there s (entry ∷ more) stands;
-      allowed =
-          ap (λ (mark : Mark). refusal_of s.state (command.Append 0 [] []) s.mailbox mark G)
+    -- the group is in the log
+    module _ (more : List Entry) (allowed : Allowed) where
+      was_there : at (log_of clock (behind.entries ++ more)) (length s.entries) ≡ Some s.mailbox
+      was_there = ap (λ (es : List Entry). at (log_of clock es) (length s.entries)) (append_assoc s.entries (entry ∷ []) more) ∙ there s (entry ∷ more) stands
+
+      was_allowed : transcripts.refused_at (log_of clock (behind.entries ++ more)) (length s.entries) s.state (command.Append 0 [] []) s.mailbox ≡ None
+      was_allowed =
+          ap (λ (mark : Mark). refusal_of s.state (command.Append 0 [] []) s.mailbox false mark G)
           (ap (λ (es : List Entry). mark_of (log_of clock es) (length s.entries)) (append_assoc s.entries (entry ∷ []) more) ∙ marked s (entry ∷ more) stands)
-          ∙ allowed;
-      wrote = inl (record { behind = length_push s.entries entry; some = omega arith; entry = get_last s.entries more entry; message = kept });
-      mailbox = behind.mailbox;
-      is_there = there behind more stands_behind;
-      seen = (omega (arith, stands.seen, length_push s.entries entry), omega (arith, length-append behind.entries more));
-      is = ap (λ (mark : Mark). answer no_bytes s.state (command.Append 0 [] []) s.mailbox (length behind.entries) behind.mailbox mark) (marked behind more stands_behind);
-    }))
-      where
-        kept : transcripts.KeepsMessage (log_of clock (behind.entries ++ more)) (command.Append 0 [] []) s.mailbox
-        kept = (refl, (clock s.mailbox.next_uid, ap (λ (v : ℕ). Rattle.dv_model.specs.Journals.new_guid (stamp (clock 0)) v s.mailbox.next_uid (clock s.mailbox.next_uid)) (sym stands.validity)))
+          ∙ allowed
+
+      was_written : (q : ℕ) → q ≡ length s.entries + 1 → HasWritten (log_of clock (behind.entries ++ more)) first_session (length s.entries) q s.state.view (command.Append 0 [] []) s.mailbox
+      was_written q is = record {
+        behind = is;
+        some = omega arith;
+        entry = get_last s.entries more entry;
+        message = (refl, (clock s.mailbox.next_uid, ap (λ (v : ℕ). Rattle.dv_model.specs.Journals.new_guid (stamp (clock 0)) v s.mailbox.next_uid (clock s.mailbox.next_uid)) (sym stands.validity)));
+      }
+
+      has_left : HasLeft (log_of clock (behind.entries ++ more)) first_session (length s.entries) s.state (command.Append 0 [] [])
+      has_left = record { mailbox = s.mailbox; met = was_there; told = stands.seen; write = refl; allowed = was_allowed; written = was_written (length s.entries + 1) refl }
+
+      appends : let a = answer no_bytes s.state (command.Append 0 [] []) s.mailbox (length behind.entries) behind.mailbox behind.mark in
+          Answered (log_of clock (behind.entries ++ more)) base first_session (length s.entries) (length behind.entries) s.state (command.Append 0 [] []) a.replies a.next
+      appends = inr (inr (record {
+        before = s.mailbox;
+        was_there = was_there;
+        allowed = was_allowed;
+        wrote = inl (was_written (length behind.entries) (length_push s.entries entry));
+        mailbox = behind.mailbox;
+        is_there = there behind more (stands_behind allowed);
+        seen = (omega (arith, stands.seen, length_push s.entries entry), omega (arith, length-append behind.entries more));
+        is = ap (λ (mark : Mark). answer no_bytes s.state (command.Append 0 [] []) s.mailbox (length behind.entries) behind.mailbox mark) (marked behind more (stands_behind allowed));
+      }))
 
   -- what one line does
   pub record Goes (s : Standing) (c : Command) (t : Stepped) : Type 0 where
@@ -129,13 +205,12 @@ module _ (clock : ℕ → ℕ) (base : ℕ) where
     pub grows : (extra : List Entry) × (t.standing.entries ≡ s.entries ++ extra)
     pub answered : (more : List Entry) → Answered (log_of clock (t.standing.entries ++ more)) base first_session (length s.entries) (length t.standing.entries) s.state c t.replies t.standing.state
     pub last : (length t.standing.entries ≡ length s.entries)
-        ⊎ ((m : Mailbox) × (at (log_of clock t.standing.entries) (length s.entries) ≡ Some m) × (length t.standing.entries ≡ length s.entries + 1)
-        × (slice_get t.standing.entries (length s.entries) ≡ Some (record { author = first_session; group = group_of c s.state.view m G })))
+        ⊎ ((length t.standing.entries ≡ length s.entries + 1) × HasLeft (log_of clock t.standing.entries) first_session (length s.entries) s.state c)
 
-  goes_refused : (s : Standing) (c : Command) (line : Reply) → Stands clock s → refusal_of s.state c s.mailbox s.mark G ≡ Some line → Goes s c (record { replies = line ∷ []; standing = s })
+  goes_refused : (s : Standing) (c : Command) (line : Reply) → Stands clock s → refusal_of s.state c s.mailbox false s.mark G ≡ Some line → Goes s c (record { replies = line ∷ []; standing = s })
   goes_refused s c line stands is = record { stands = stands; grows = ([], sym (append-nil s.entries)); answered = λ more. refused s c line more stands is; last = inl refl }
 
-  goes_read : (s : Standing) (c : Command) → Stands clock s → refusal_of s.state c s.mailbox s.mark G ≡ None → (group_of c s.state.view s.mailbox G).records ≡ [] → Goes s c (told c s s)
+  goes_read : (s : Standing) (c : Command) → Stands clock s → refusal_of s.state c s.mailbox false s.mark G ≡ None → (group_of c s.state.view s.mailbox G).records ≡ [] → Goes s c (told c s s)
   goes_read s c stands allowed none = record {
     stands = stands_on s (answer no_bytes s.state c s.mailbox (length s.entries) s.mailbox s.mark).next stands (omega arith);
     grows = ([], sym (append-nil s.entries));
@@ -143,33 +218,31 @@ module _ (clock : ℕ → ℕ) (base : ℕ) where
     last = inl refl;
   }
 
-  goes_append : (s : Standing) (stands : Stands clock s) → refusal_of s.state (command.Append 0 [] []) s.mailbox s.mark G ≡ None
+  goes_append : (s : Standing) (stands : Stands clock s) → refusal_of s.state (command.Append 0 [] []) s.mailbox false s.mark G ≡ None
       → Goes s (command.Append 0 [] []) (told (command.Append 0 [] []) s (behind s stands))
   goes_append s stands allowed = record {
-    stands = stands_on (behind s stands) (answer no_bytes s.state (command.Append 0 [] []) s.mailbox (length (behind s stands).entries) (behind s stands).mailbox (behind s stands).mark).next (stands_behind s stands) (omega arith);
+    stands = stands_on (behind s stands) (answer no_bytes s.state (command.Append 0 [] []) s.mailbox (length (behind s stands).entries) (behind s stands).mailbox (behind s stands).mark).next (stands_behind s stands allowed) (omega arith);
     grows = (entry s stands ∷ [], refl);
     answered = λ more. appends s stands more allowed;
     last = inr (
-      s.mailbox,
-      there s (entry s stands ∷ []) stands,
       length_push s.entries (entry s stands),
-      subst (λ (es : List Entry). slice_get es (length s.entries) ≡ Some (entry s stands)) (append-nil (s.entries ++ entry s stands ∷ [])) (get_last s stands s.entries [] (entry s stands)),
+      subst (λ (es : List Entry). HasLeft (log_of clock es) first_session (length s.entries) s.state (command.Append 0 [] [])) (append-nil (behind s stands).entries) (has_left s stands [] allowed),
     );
   }
 
-  goes_allowed : (s : Standing) (c : Command) → IsServed c → Stands clock s → refusal_of s.state c s.mailbox s.mark G ≡ None → Goes s c (stepped_by G s c None)
+  goes_allowed : (s : Standing) (c : Command) → IsServed c → Stands clock s → refusal_of s.state c s.mailbox false s.mark G ≡ None → Goes s c (stepped_by G s c None)
   goes_allowed s command.Select served stands allowed = goes_read s command.Select stands allowed refl
   goes_allowed s command.Noop served stands allowed = goes_read s command.Noop stands allowed refl
   goes_allowed s (command.Append flags keywords message) served stands allowed =
       let c-is : command.Append flags keywords message ≡ command.Append 0 [] [] = cc (served.0, served.1, served.2) in
       subst (λ (c : Command). Goes s c (stepped_by G s c None)) (sym c-is)
-      (goes_append s stands (subst (λ (c : Command). refusal_of s.state c s.mailbox s.mark G ≡ None) c-is allowed))
+      (goes_append s stands (subst (λ (c : Command). refusal_of s.state c s.mailbox false s.mark G ≡ None) c-is allowed))
   goes_allowed s c served stands allowed = absurd served
 
   pub goes : (s : Standing) (c : Command) → IsServed c → Stands clock s → Goes s c (step G s c)
-  goes s c served stands = by (refusal_of s.state c s.mailbox s.mark G) refl
+  goes s c served stands = by (refusal_of s.state c s.mailbox false s.mark G) refl
     where
-      by : (r : Option Reply) → refusal_of s.state c s.mailbox s.mark G ≡ r → Goes s c (stepped_by G s c r)
+      by : (r : Option Reply) → refusal_of s.state c s.mailbox false s.mark G ≡ r → Goes s c (stepped_by G s c r)
       by (Some line) is = goes_refused s c line stands is
       by None is = goes_allowed s c served stands is
 
@@ -202,7 +275,23 @@ module _ (clock : ℕ → ℕ) (base : ℕ) where
       (rest.0, rest.1, (length s1.entries, s1.state, answered, rest.2))
 
   pub new_stands : Stands clock (new_standing clock)
-  new_stands = record { mailbox = refl; mark = refl; seen = omega arith; validity = refl }
+  new_stands = record {
+    mailbox = refl;
+    mark = refl;
+    seen = omega arith;
+    validity = refl;
+    sound = λ small. record {
+      start = (new_is_valid (stamp (clock 0)), search rules);
+      start_mark = (lit< tt, lit< tt);
+      indexid = small;
+      guids = λ uid. new_guid_is (stamp (clock 0)) (stamp (clock 0)) uid (clock uid);
+      entries = All-nil IsEntry;
+      mailboxes = λ k le.
+          let e : 0 ≡ k = omega arith in
+          let some : IsSome (at (log_of clock []) 0) = refl in
+          subst (λ (n : ℕ). IsSome (at (log_of clock []) n)) e some;
+    };
+  }
 
   pub served_front : (front rest : List Line) → AreServed (front ++ rest) → AreServed front
   served_front [] rest served = tt
@@ -229,12 +318,19 @@ module _ (clock : ℕ → ℕ) (base : ℕ) where
   ends_here log states met [] is = is
   ends_here log states met (line ∷ lines) is = inl is
 
+  -- no line is answered by the disk's failure
+  few : (lines : List Line) (faults : ℕ) → AreServed lines → base ≤ faults → RoseBy (unavailable_count (replies_of G S0 lines)) base faults
+  few lines faults served later = let none = all_available G S0 lines served in omega (arith, none, later)
+
   -- the first lines are answered, and the log ends behind them
-  pub serial_at : (front rest : List Line) → AreServed (front ++ rest) → Serial (log_of clock (behind_lines G S0 front).entries) base (numbered (front ++ rest)) (replies_of G S0 front)
-  serial_at front rest served =
+  pub serial_at : (faults : ℕ) (front rest : List Line) → AreServed (front ++ rest) → stamp (clock 0) < 2 ^ 32 → base ≤ faults
+      → Serial (log_of clock (behind_lines G S0 front).entries) base faults (numbered (front ++ rest)) (replies_of G S0 front)
+  serial_at faults front rest served small later =
       let entries = (behind_lines G S0 front).entries in
       let run = runs_by_rules (λ n. S0.state) S0 front [] refl (served_front front rest served) new_stands in
       record {
+        sound = (stands_behind_lines S0 front (served_front front rest served) new_stands).sound small;
+        few = few front faults (served_front front rest served) later;
         states = run.0;
         written = length entries;
         answered =
@@ -244,17 +340,19 @@ module _ (clock : ℕ → ℕ) (base : ℕ) where
       }
 
   -- the same where the next line's group is in the log, and its answer isn't out
-  pub serial_next : (front : List Line) (line : Line) (rest : List Line) → AreServed (front ++ line ∷ rest)
-      → Serial (log_of clock (behind_line G (behind_lines G S0 front) line).entries) base (numbered (front ++ line ∷ rest)) (replies_of G S0 front)
-  serial_next front line rest served =
+  pub serial_next : (faults : ℕ) (front : List Line) (line : Line) (rest : List Line) → AreServed (front ++ line ∷ rest) → stamp (clock 0) < 2 ^ 32 → base ≤ faults
+      → Serial (log_of clock (behind_line G (behind_lines G S0 front) line).entries) base faults (numbered (front ++ line ∷ rest)) (replies_of G S0 front)
+  serial_next faults front line rest served small later =
       let s = behind_lines G S0 front in
       let one = goes s line.command (served_next front line rest served) (stands_behind_lines S0 front (served_front front (line ∷ rest) served) new_stands) in
       let run = runs_by_rules (λ n. S0.state) S0 front one.grows.0 refl (served_front front (line ∷ rest) served) new_stands in
       let entries = (behind_line G s line).entries in
       let ends : EndsAt (log_of clock entries) run.0 (length s.entries) (numbered (line ∷ rest)) =
-      subst (λ (x : State). (length entries ≡ length s.entries) ⊎ ((m : Mailbox) × (at (log_of clock entries) (length s.entries) ≡ Some m) × (length entries ≡ length s.entries + 1) × (slice_get entries (length s.entries) ≡ Some (record { author = first_session; group = group_of line.command x.view m G }))))
+      subst (λ (x : State). (length entries ≡ length s.entries) ⊎ ((length entries ≡ length s.entries + 1) × HasLeft (log_of clock entries) first_session (length s.entries) x line.command))
       (sym run.1) one.last in
       record {
+        sound = one.stands.sound small;
+        few = few front faults (served_front front (line ∷ rest) served) later;
         states = run.0;
         written = length s.entries;
         answered =

@@ -26,7 +26,7 @@ append_of flags = command.Append flags [] []
 
 module _ (guid : ℕ → List ℕ) (s : Standing) where
   abbrev refusal : Command → Option Reply
-  refusal c = refusal_of s.state c s.mailbox s.mark guid
+  refusal c = refusal_of s.state c s.mailbox false s.mark guid
 
   never_and : (b : Bool) → (b && false) ≡ false
   never_and true = refl
@@ -53,13 +53,13 @@ module _ (guid : ℕ → List ℕ) (s : Standing) where
   module _ (q : ℕ) (all : s.state ≡ shown_all s.mailbox q) where
     pub noop_steps : step guid s command.Noop ≡ record { replies = reply.Done word.Noop s.mark None [] ∷ []; standing = record s { state = shown_all s.mailbox (length s.entries) } }
     noop_steps =
-        ap (λ (x : State). stepped_by guid (record s { state = x }) command.Noop (refusal_of x command.Noop s.mailbox s.mark guid)) all
+        ap (λ (x : State). stepped_by guid (record s { state = x }) command.Noop (refusal_of x command.Noop s.mailbox false s.mark guid)) all
         ∙ ap (λ (a : Answer). record { replies = a.replies; standing = record s { state = a.next } }) (noop_answer no_bytes s.mailbox (length s.entries) s.mark q s.mailbox)
 
     -- the limits that an append without keywords and without bytes may meet
     append_limit : (flags : ℕ) → refusal (append_of flags)
         ≡ cond (nat_eq s.mailbox.next_uid end_of_uids) (Some reply.UidsUsedUp) (cond (nat_lt log_limit (s.mark.offset + 16)) (Some (reply.TooLong 16)) None)
-    append_limit flags = ap (λ (x : State). refusal_of x (append_of flags) s.mailbox s.mark guid) all
+    append_limit flags = ap (λ (x : State). refusal_of x (append_of flags) s.mailbox false s.mark guid) all
 
     pub uids_used_up : (flags : ℕ) → s.mailbox.next_uid ≡ end_of_uids → step guid s (append_of flags) ≡ record { replies = reply.UidsUsedUp ∷ []; standing = s }
     uids_used_up flags is =

@@ -44,6 +44,7 @@ abbrev pub log_of : (ℕ → ℕ) → List Entry → Log
 log_of clock entries = record {
   start = new_mailbox (stamp (clock 0));
   start_mark = new_mark;
+  rotates = false;
   entries = entries;
   indexid = stamp (clock 0);
   mail = no_bytes;

@@ -159,7 +159,7 @@ LastLine status counts log has_mailbox text =
 abbrev pub Tried : Counts → Log → Type 0 → ℕ → List Line → List (List Reply) → List ℕ → Type 0
 Tried counts log has_mailbox base lines replies text =
     ((status : ℕ) × LastLine status counts log has_mailbox text)
-    ⊎ ((line : Line) × (behind : List Line) × (more : List Reply) × (drop (length replies) lines ≡ line ∷ behind) × Serial log base (numbered lines) (replies ++ more ∷ []) × (text ≡ answer_text line more))
+    ⊎ ((line : Line) × (behind : List Line) × (more : List Reply) × (drop (length replies) lines ≡ line ∷ behind) × Serial log base counts.shelf_now (numbered lines) (replies ++ more ∷ []) × (text ≡ answer_text line more))
 
 -- what was written: the replies and the last line; where the output failed, a front of that
 abbrev pub Writes : ℕ → Counts → Log → Type 0 → ℕ → List Line → List (List Reply) → List ℕ → List ℕ → Type 0
@@ -167,11 +167,11 @@ Writes status counts log has_mailbox base lines replies old new =
     ((last : List ℕ) × LastLine status counts log has_mailbox last × Appends old new (replies_text lines replies ++ last))
     ⊎ ((status ≡ 7) × (text : List ℕ) × Tried counts log has_mailbox base lines replies text × AppendsFront (old ++ replies_text lines replies) new text)
 
--- A run over a script of these lines: its replies are a serial run over the log that its journal is, and the first ones
--- of those that the rules give. All lines are answered where the status is 0.
+-- A run over a script of these lines: nothing was answered or written, or its replies are a serial run over the log that
+-- its journal is. They are the first ones of those that the rules give, and all of them where the status is 0.
 pub record IsSerialRun (status base : ℕ) (counts : Counts) (has_mailbox : Type 0) (clock : ℕ → ℕ) (lines : List Line) (journal : List Entry) (old new : List ℕ) : Type 0 where
   pub replies : List (List Reply)
-  pub serial : Serial (log_of clock journal) base (numbered lines) replies
+  pub serial : ((journal ≡ []) × (replies ≡ [])) ⊎ Serial (log_of clock journal) base counts.shelf_now (numbered lines) replies
   pub unanswered : List (List Reply)
   pub by_rules : replies_of (guid_by clock) (new_standing clock) lines ≡ replies ++ unanswered
   pub whole : status ≡ 0 → replies ≡ replies_of (guid_by clock) (new_standing clock) lines

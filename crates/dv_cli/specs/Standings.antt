@@ -1,5 +1,5 @@
 -- Where a run of one session stands after each command, by the session rules.
-use Rattle.std.specs.Prelude.{◌≡◌, ℕ, List, [], ◌∷◌, ◌++◌, length, fold, Option, Some, None, unwrap_or}
+use Rattle.std.specs.Prelude.{◌≡◌, ℕ, false, List, [], ◌∷◌, ◌++◌, length, fold, Option, Some, None, unwrap_or}
 use Rattle.std.specs.List.{AllByRecursion}
 use Rattle.dv_model.specs.declared.types.Command.{Command}
 use Rattle.dv_model.specs.declared.types.Command.TheVariants as command
@@ -33,7 +33,7 @@ abbrev pub with_records : Standing → List Record → Standing
 with_records s [] = s
 with_records s (r ∷ rs) = record s {
   mailbox = unwrap_or (applied s.mailbox (r ∷ rs)) s.mailbox;
-  mark = mark_behind s.mark (record { records = r ∷ rs });
+  mark = mark_behind false s.mark (record { records = r ∷ rs });
   entries = s.entries ++ record { author = first_session; group = record { records = r ∷ rs } } ∷ [];
 }
 
@@ -55,7 +55,7 @@ stepped_by guid s c None = told c s (with_records s (group_of c s.state.view s.m
 
 -- one command by the rules
 abbrev pub step : (ℕ → List ℕ) → Standing → Command → Stepped
-step guid s c = stepped_by guid s c (refusal_of s.state c s.mailbox s.mark guid)
+step guid s c = stepped_by guid s c (refusal_of s.state c s.mailbox false s.mark guid)
 
 -- where the run stands behind these lines
 abbrev pub behind_line : (ℕ → List ℕ) → Standing → Line → Standing

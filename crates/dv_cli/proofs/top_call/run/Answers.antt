@@ -41,7 +41,7 @@ returns-clause-serial g c = λ good tells clock_tells out_tells lines is.
     ⊎_elim
     (λ early. unread clock base counts has_mailbox lines served status journal old new e (g.I.Source.left c.args.script.now) is early.0 early.1.no_entries
     (subst (λ (l : List ℕ). Concludes e status l new) (ap g.O.Sink.taken early.1.out_stays) done))
-    (λ run. folder_serial clock base counts has_mailbox lines served status journal (g.O.Sink.tells) (g.S.Shelf.tells) new_there
+    (λ run. folder_serial clock base counts has_mailbox lines served c.whole-end.ensures.later.0 status journal (g.O.Sink.tells) (g.S.Shelf.tells) new_there
     (g.O.Sink.fault_count c.args.out.now) (g.O.Sink.fault_count c.whole-end.new.out) old mid new (g.S.Shelf.files c.args.shelf) (g.S.Shelf.files c.whole-end.new.shelf) e run out_tells
     (end_cause e counts (g.O.Sink.fault_count c.args.out.now) (g.O.Sink.fault_count c.whole-end.new.out) _ _ new_there has_mailbox c.whole-end.ensures.cause
     (ends_folder clock lines e journal _ _ old mid _ _ run)) done)
