@@ -11,9 +11,10 @@ use Rattle.dv_model.specs.declared.types.Mailbox.{Mailbox}
 use Rattle.dv_model.specs.declared.types.Mark.{Mark}
 use Rattle.dv_model.specs.declared.types.Reply.{Reply}
 use Rattle.dv_model.specs.declared.types.Span.{Span}
-use Rattle.dv_model.specs.Journals.{Log, Mail, Held, Damaged, at, mark_of, new_guid}
+use Rattle.dv_model.specs.Journals.{Log, Mail, Held, Damaged, at, mark_of}
 use Rattle.dv_model.specs.Sessions.{State, Answer, new_session, answer, group_of, missing_number, is_select, is_write}
 use Rattle.dv_model.specs.Transcripts.{refused_at}
+pub use Rattle.dv_model.specs.Transcripts.{with_message}
 
 -- ---- the state
 
@@ -123,14 +124,6 @@ stopped p = record p { running = false }
 -- no pending entry runs
 abbrev pub without_running : World → World
 without_running w = record w { pending = option_map stopped w.pending }
-
--- an appended message is the log's message of its UID, with its GUID
-abbrev pub with_message : Log → Command → ℕ → Mailbox → Log
-with_message log (command.Append flags keywords message) received m = record log {
-  mail = λ uid. if nat_eq uid m.next_uid then Held message else log.mail uid;
-  guid = λ uid. if nat_eq uid m.next_uid then new_guid log.indexid m.uid_validity m.next_uid received else log.guid uid;
-}
-with_message log c received m = log
 
 -- a pending entry is durable
 abbrev pub with_entry : Log → Pending → Log

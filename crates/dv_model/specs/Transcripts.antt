@@ -1,9 +1,10 @@
 -- What a run of commands is: each is answered by the rules over a prefix of one log.
-use Rattle.std.specs.Prelude.{◌≡◌, ◌⊎◌, ℕ, ◌+◌, ◌≤◌, Bool, true, false, ◌||◌, cond, List, [], ◌∷◌, length, map, filter, take, drop, count_by, All, Any, Option, Some, None, slice_get, nat_eq}
+use Rattle.std.specs.Prelude.{◌≡◌, ◌⊎◌, ℕ, ◌+◌, ◌≤◌, Bool, true, false, ◌||◌, cond, List, [], ◌∷◌, ◌++◌, length, map, filter, take, drop, count_by, All, Any, Option, Some, None, slice_get, nat_eq, if◌then◌else◌}
 use Rattle.std.specs.List.{list_any}
 use Rattle.dv_model.specs.declared.types.Command.{Command}
 use Rattle.dv_model.specs.declared.types.Command.TheVariants as command
 use Rattle.dv_model.specs.declared.types.Entry.{Entry}
+use Rattle.dv_model.specs.declared.types.Group.{Group}
 use Rattle.dv_model.specs.declared.types.Mailbox.{Mailbox}
 use Rattle.dv_model.specs.declared.types.Reply.{Reply}
 use Rattle.dv_model.specs.declared.types.Reply.TheVariants as reply
@@ -19,6 +20,22 @@ abbrev pub KeepsMessage : Log → Command → Mailbox → Type 0
 KeepsMessage log (command.Append flags keywords message) m =
     (log.mail m.next_uid ≡ Held message) × ((received : ℕ) × (log.guid m.next_uid ≡ new_guid log.indexid m.uid_validity m.next_uid received))
 KeepsMessage log c m = Unit {0}
+
+-- the log that keeps the message of an APPEND over this mailbox, with a GUID by the time when it came
+abbrev pub with_message : Log → Command → ℕ → Mailbox → Log
+with_message log (command.Append flags keywords message) received m = record log {
+  mail = λ uid. if nat_eq uid m.next_uid then Held message else log.mail uid;
+  guid = λ uid. if nat_eq uid m.next_uid then new_guid log.indexid m.uid_validity m.next_uid received else log.guid uid;
+}
+with_message log c received m = log
+
+-- the log with the group that a command wrote as one entry more, and its message where it appends one
+abbrev pub with_written : Log → ℕ → Command → ℕ → Group → Mailbox → Log
+with_written log author c received g m = record log {
+  entries = log.entries ++ record { author = author; group = g } ∷ [];
+  mail = (with_message log c received m).mail;
+  guid = (with_message log c received m).guid;
+}
 
 -- its group is the entry behind those that it met
 pub record HasWritten (log : Log) (author met q : ℕ) (view : View) (c : Command) (m : Mailbox) : Type 0 where

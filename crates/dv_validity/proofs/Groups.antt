@@ -27,7 +27,7 @@ use Rattle.dv_model.specs.Views.{View}
 use Rattle.dv_model.proofs.Appends.{append_is, append_record, appended}
 use Rattle.dv_validity.proofs.Numbers.{records_keep}
 use Rattle.dv_validity.specs.Laws.{IsInRange}
-use Rattle.dv_validity.specs.Entries.{AreInRange}
+use Rattle.dv_validity.specs.Entries.{AreInRange, HasUidLeft}
 
 -- ---- no record of the group is an append
 
@@ -165,6 +165,12 @@ uids_left x flags keywords message m rotates mark guid allowed same =
     by_selected true b is e = absurd cc
     by_selected false true is e = absurd cc
     by_selected false false is e = absurd cc
+
+-- so an APPEND that is allowed finds one
+pub uid_left : (x : State) (c : Command) (m : Mailbox) (rotates : Bool) (mark : Mark) (guid : ℕ → List ℕ) → IsValid m → refusal_of x c m rotates mark guid ≡ None → HasUidLeft c m
+uid_left x (command.Append flags keywords message) m rotates mark guid valid allowed =
+    λ append. let other = uids_left x flags keywords message m rotates mark guid allowed in let below = valid.next_uid.1 in omega (arith, other, below)
+uid_left x c m rotates mark guid valid allowed = λ append. absurd cc
 
 pub group_in_range : (x : State) (c : Command) (m : Mailbox) (rotates : Bool) (mark : Mark) (guid : ℕ → List ℕ) → IsValid m → IsCommand c → refusal_of x c m rotates mark guid ≡ None → AreInRange (group_of c x.view m guid)
 group_in_range x (command.Append flags keywords message) m rotates mark guid valid good allowed =

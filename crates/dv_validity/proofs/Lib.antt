@@ -22,3 +22,5 @@ pub mod Written
 pub mod Groups
 pub mod Agreeing
 pub mod Entries
+pub mod Logs
+pub mod Going
