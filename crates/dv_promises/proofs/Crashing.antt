@@ -20,10 +20,12 @@ use Rattle.dv_interleavings.specs.Promises.{CrashKeeps, GoesOn, IsSpokenAfterCra
 use Rattle.dv_interleavings.specs.Worlds.{World, Session, Pending, Crash, happens, length_of, only_log, with_entry}
 use Rattle.dv_promises.specs.Standing.{begins_at, HasAuthor, IsLive, IsToldTurn, IsTried, Stands}
 use Rattle.dv_promises.proofs.Ending.{crash_all, crash_none, crash_some, tried_of}
-use Rattle.dv_promises.proofs.Going.{live_on, same_refusal, turns_on}
-use Rattle.dv_promises.proofs.Logs.{Extends, last_extends, last_group, last_message, same_log, with_entry_is, with_last}
+use Rattle.dv_validity.proofs.Going.{same_refusal}
+use Rattle.dv_validity.proofs.Logs.{Extends, written_entry, written_group, written_length, written_message}
+use Rattle.dv_promises.proofs.Going.{live_on, turns_on}
+use Rattle.dv_promises.proofs.Logs.{last_extends, last_goes_on, same_log, with_entry_is, with_last}
 use Rattle.dv_promises.proofs.Refusals.{told_unrefused}
-use Rattle.dv_promises.proofs.Syncing.{at_seam, own_back, value_of, sound_more}
+use Rattle.dv_promises.proofs.Syncing.{own_back, sound_more, value_of}
 use Rattle.dv_promises.proofs.Transcripts.{all_written, entries_live, pair_of, speaks_live, speaks_of, turns_answered}
 
 -- ---- refused answers are passed over
@@ -92,7 +94,7 @@ all_back P (x ∷ front) back all = all_back P front back (All-tail P x (front +
 module _ (log : Log) (sound : IsSound log) (p : Pending) (published : ℕ) (pending : Option Pending) (session : Session) (live : IsLive log published pending p.author session)
     (tried : IsTried log live.start live.turns session.state session.wrote p) where
   abbrev more : Log
-  more = with_last log p tried.mailbox
+  more = with_last log p tried.attempt.mailbox
 
   abbrev entry : Entry
   entry = record { author = p.author; group = p.group }
@@ -107,19 +109,19 @@ module _ (log : Log) (sound : IsSound log) (p : Pending) (published : ℕ) (pend
   many = omega (arith, length_push log.entries entry)
 
   on : Extends log more
-  on = last_extends log p tried.mailbox sound tried.is_there
+  on = last_extends log p tried.attempt.mailbox sound tried.attempt.is_there
 
   split_each : All (IsToldTurn log p.author) (tried.front ++ tried.back)
   split_each = subst (All (IsToldTurn log p.author)) tried.split live.each
 
   failed_turn : IsTurn more 0 p.author failed
   failed_turn = record {
-    met = (tried.told, let all = many in omega arith);
+    met = (tried.attempt.told, let all = many in omega arith);
     answered = inr (inl (record {
-      before = tried.mailbox;
-      was_there = on.same_at (length log.entries) (omega arith) ∙ tried.is_there;
-      allowed = same_refusal log more on (length log.entries) tried.mailbox tried.state p.command None (omega arith) tried.is_there tried.allowed;
-      touches = or_left (is_write p.command) (reads_mail p.command) tried.write;
+      before = tried.attempt.mailbox;
+      was_there = on.same_at (length log.entries) (omega arith) ∙ tried.attempt.is_there;
+      allowed = same_refusal log more on (length log.entries) tried.attempt.mailbox tried.state p.command None (omega arith) tried.attempt.is_there tried.attempt.allowed;
+      touches = or_left (is_write p.command) (reads_mail p.command) tried.attempt.write;
       faults = 1;
       above = omega arith;
       one_line = refl;
@@ -147,16 +149,16 @@ module _ (log : Log) (sound : IsSound log) (p : Pending) (published : ℕ) (pend
   left : IsLeft more p.author (length log.entries) tried.state p.command
   left = record {
     left = record {
-      mailbox = tried.mailbox;
-      met = on.same_at (length log.entries) (omega arith) ∙ tried.is_there;
-      told = tried.told;
-      write = tried.write;
-      allowed = same_refusal log more on (length log.entries) tried.mailbox tried.state p.command None (omega arith) tried.is_there tried.allowed;
+      mailbox = tried.attempt.mailbox;
+      met = on.same_at (length log.entries) (omega arith) ∙ tried.attempt.is_there;
+      told = tried.attempt.told;
+      write = tried.attempt.write;
+      allowed = same_refusal log more on (length log.entries) tried.attempt.mailbox tried.state p.command None (omega arith) tried.attempt.is_there tried.attempt.allowed;
       written = record {
         behind = refl;
-        some = subst (λ (g : Group). 1 ≤ length g.records) (tried.group ∙ last_group log p tried.mailbox tried.state.view) tried.some;
-        entry = at_seam log.entries entry ∙ ap (λ (g : Group). Some (record { author = p.author; group = g })) (tried.group ∙ last_group log p tried.mailbox tried.state.view);
-        message = last_message log p tried.mailbox;
+        some = subst (λ (g : Group). 1 ≤ length g.records) (tried.attempt.group ∙ written_group log sound p.author p.command p.received p.group tried.attempt.mailbox tried.attempt.is_there tried.state.view) tried.attempt.some;
+        entry = written_entry log sound p.author p.command p.received p.group tried.attempt.mailbox tried.attempt.is_there ∙ ap (λ (g : Group). Some (record { author = p.author; group = g })) (tried.attempt.group ∙ written_group log sound p.author p.command p.received p.group tried.attempt.mailbox tried.attempt.is_there tried.state.view);
+        message = written_message log sound p.author p.command p.received p.group tried.attempt.mailbox tried.attempt.is_there;
       };
     };
     last = λ j own.
@@ -216,28 +218,28 @@ crash_keeps w n stands = by_number (nat_eq n (length_of w)) refl
     with_more : (p : Pending) → w.pending ≡ Some p → HasAuthor w p → (happens w (Crash n)).log ≡ with_entry w.log p → CrashKeeps w n
     with_more p is author left =
         let tried = tried_of w stands p is author in
-        keeps_by (with_last w.log p tried.mailbox) (left ∙ with_entry_is w.log p tried.mailbox tried.is_there)
+        keeps_by (with_last w.log p tried.attempt.mailbox) (left ∙ with_entry_is w.log p tried.attempt.mailbox tried.attempt.is_there)
         (inr (ap (λ (o : Option Pending). w.log.entries ++ pending_entries o) (sym is)))
-        (last_extends w.log p tried.mailbox stands.sound tried.is_there).goes_on
+        (last_goes_on w.log p tried.attempt.mailbox stands.sound tried.attempt.is_there)
         (λ s. by_session p is author s (w.sessions s) refl (nat_eq p.author s) refl)
       where
         by_session : (p : Pending) (is : w.pending ≡ Some p) (author : HasAuthor w p) (s : ℕ) (o : Option Session) → w.sessions s ≡ o → (b : Bool) → nat_eq p.author s ≡ b
-            → IfSome o (IsSpokenAfterCrash (with_last w.log p (tried_of w stands p is author).mailbox) s)
+            → IfSome o (IsSpokenAfterCrash (with_last w.log p (tried_of w stands p is author).attempt.mailbox) s)
         by_session p is author s None there b same = tt
         by_session p is author s (Some session) there true same =
             let e : p.author ≡ s = grind (arith, nat_tests) in
             let live = stands.each p.author author.0 author.1 in
             let one : author.0 ≡ session = same_Some author.0 session (sym author.1 ∙ ap w.sessions e ∙ there) in
-            subst (λ (t : ℕ). IsSpokenAfterCrash (with_last w.log p (tried_of w stands p is author).mailbox) t session) e
-            (subst (λ (x : Session). IsSpokenAfterCrash (with_last w.log p (tried_of w stands p is author).mailbox) p.author x) one
+            subst (λ (t : ℕ). IsSpokenAfterCrash (with_last w.log p (tried_of w stands p is author).attempt.mailbox) t session) e
+            (subst (λ (x : Session). IsSpokenAfterCrash (with_last w.log p (tried_of w stands p is author).attempt.mailbox) p.author x) one
             (author_after w.log stands.sound p w.published w.pending author.0 live (tried_of w stands p is author)))
         by_session p is author s (Some session) there false differs =
             let live = stands.each p.author author.0 author.1 in
             let tried = tried_of w stands p is author in
             let other : p.author ≡ s → ⊥ = λ e. let found : nat_eq p.author s ≡ true = grind (arith, nat_tests) in absurd cc in
-            spoken_after (with_last w.log p tried.mailbox) w.published None s session
+            spoken_after (with_last w.log p tried.attempt.mailbox) w.published None s session
             (sound_more w.log stands.sound p live.start live.turns author.0.state author.0.wrote tried)
-            (live_on w.log (with_last w.log p tried.mailbox) (last_extends w.log p tried.mailbox stands.sound tried.is_there) s
+            (live_on w.log (with_last w.log p tried.attempt.mailbox) (last_extends w.log p tried.attempt.mailbox stands.sound tried.attempt.is_there) s
             (own_back w.log stands.sound p live.start live.turns author.0.state author.0.wrote tried s other) w.published w.pending session (stands.each s session there))
 
     by_more : (p : Pending) → w.pending ≡ Some p → nat_eq n (length_of w) ≡ false → (b : Bool) → nat_eq n (length_of w + 1) ≡ b → CrashKeeps w n

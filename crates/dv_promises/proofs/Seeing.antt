@@ -9,7 +9,7 @@ use Rattle.dv_interleavings.specs.Promises.{GoesOn}
 use Rattle.dv_interleavings.specs.Worlds.{World, Session, Pending, Wrote, Event, Open, Write, Sync, Heal, Publish, Load, Tell, Crash, crashed, happens, length_of, loaded, loaded_number, only_log, opened, with_entry, with_session, without_running, without_running_of}
 use Rattle.dv_promises.specs.Standing.{HasAuthor, IsLive, Stands}
 use Rattle.dv_promises.proofs.Ending.{crash_all, crash_none, crash_some, tried_of}
-use Rattle.dv_promises.proofs.Logs.{last_extends, same_log, with_entry_is}
+use Rattle.dv_promises.proofs.Logs.{last_goes_on, same_log, with_entry_is}
 use Rattle.dv_promises.proofs.Syncing
 use Rattle.dv_promises.proofs.Syncing.{synced_by, tried, value_of}
 use Rattle.dv_promises.proofs.Telling.{told_by}
@@ -37,7 +37,7 @@ crashed_by w n stands P stays all more = by_number (nat_eq n (length_of w)) refl
 one_more : (w : World) (stands : Stands w) (p : Pending) → w.pending ≡ Some p → HasAuthor w p → GoesOn w.log (with_entry w.log p)
 one_more w stands p is author =
     let tried = tried_of w stands p is author in
-    subst (GoesOn w.log) (sym (with_entry_is w.log p tried.mailbox tried.is_there)) (last_extends w.log p tried.mailbox stands.sound tried.is_there).goes_on
+    subst (GoesOn w.log) (sym (with_entry_is w.log p tried.attempt.mailbox tried.attempt.is_there)) (last_goes_on w.log p tried.attempt.mailbox stands.sound tried.attempt.is_there)
 
 opened_log : (w : World) (s : ℕ) → GoesOn w.log (opened w s).log
 opened_log w s = by_session (w.sessions s) refl
@@ -57,7 +57,7 @@ pub logs_go_on : (w : World) (event : Event) → Stands w → GoesOn w.log (happ
 logs_go_on w (Open s) stands = opened_log w s
 logs_go_on w (Write s c received) stands = written_by w s c received (λ x. GoesOn w.log x.log) (same_log w.log) (λ session m may empty. same_log w.log) (λ session m may some. same_log w.log)
 logs_go_on w Sync stands = synced_by w stands (λ x. GoesOn w.log x.log) (same_log w.log) (λ p session is runs there.
-    let one = tried w stands p session is runs there in (last_extends w.log p one.mailbox stands.sound one.is_there).goes_on)
+    let one = tried w stands p session is runs there in last_goes_on w.log p one.attempt.mailbox stands.sound one.attempt.is_there)
 logs_go_on w Heal stands = same_log w.log
 logs_go_on w Publish stands = same_log w.log
 logs_go_on w (Load s) stands = loaded_log w s

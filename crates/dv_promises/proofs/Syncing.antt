@@ -16,11 +16,12 @@ use Rattle.dv_model.proofs.Speaking.{one_of_either, one_or_last}
 use Rattle.dv_model.proofs.Transcripts.{at_end}
 use Rattle.dv_interleavings.specs.Worlds.{World, Session, Pending, Wrote, with_session, with_entry, with_wrote, synced, length_of, happens, Sync}
 use Rattle.dv_promises.specs.Standing.{HasAuthor, IsLive, IsTried, IsWaiting, IsWriting, Stands}
-use Rattle.dv_promises.proofs.Going.{live_on, same_refusal, turns_on}
+use Rattle.dv_validity.proofs.Going.{same_refusal}
+use Rattle.dv_validity.proofs.Logs.{Extends, at_seam, resets_at, valid_at, written_group, written_message, written_sound}
+use Rattle.dv_promises.proofs.Going.{live_on, turns_on}
 use Rattle.dv_validity.proofs.Entries.{group_is_entry}
-use Rattle.dv_validity.proofs.Groups.{group_applies}
-use Rattle.dv_promises.proofs.Guids.{guids_with}
-use Rattle.dv_promises.proofs.Logs.{Extends, last_extends, last_group, last_message, resets_at, uid_left, valid_at, with_entry_is, with_last}
+use Rattle.dv_validity.proofs.Groups.{group_applies, uid_left}
+use Rattle.dv_promises.proofs.Logs.{last_extends, with_entry_is, with_last}
 use Rattle.dv_promises.proofs.Small.{absent_with, each_with}
 use Rattle.dv_promises.proofs.Writing.{not_waiting}
 
@@ -28,53 +29,30 @@ pub value_of : {X : Type 0} (P : X → Type 0) (o : Option X) (x : X) → o ≡ 
 value_of P None x e is = absurd (none-some x e)
 value_of P (Some y) x e is = subst P (same_Some y x e) is
 
-pub at_seam : {X : Type 0} (xs : List X) (x : X) → slice_get (xs ++ x ∷ []) (length xs) ≡ Some x
-at_seam [] x = refl
-at_seam (y ∷ xs) x = at_seam xs x
-
 -- ---- the longer log
 
 module _ (log : Log) (sound : IsSound log) (p : Pending) (start : ℕ) (turns : List Turn) (last : State) (wrote : Option Wrote) (tried : IsTried log start turns last wrote p) where
   abbrev more : Log
-  more = with_last log p tried.mailbox
+  more = with_last log p tried.attempt.mailbox
 
-  pub on : Extends log (with_last log p tried.mailbox)
-  on = last_extends log p tried.mailbox sound tried.is_there
+  pub on : Extends log (with_last log p tried.attempt.mailbox)
+  on = last_extends log p tried.attempt.mailbox sound tried.attempt.is_there
 
   last_entry : IsEntry (record { author = p.author; group = p.group })
   last_entry =
-      subst (λ (g : Group). IsEntry (record { author = p.author; group = g })) (sym tried.group)
-      (group_is_entry p.command tried.state.view tried.mailbox log.guid p.author tried.good
-      (valid_at log sound (length log.entries) tried.mailbox tried.is_there) (resets_at log sound (length log.entries) tried.mailbox tried.is_there) sound.guids tried.author
-      (uid_left log (length log.entries) tried.state p.command tried.mailbox (valid_at log sound (length log.entries) tried.mailbox tried.is_there) tried.good tried.allowed)
-      (subst (λ (g : Group). 1 ≤ length g.records) tried.group tried.some))
+      subst (λ (g : Group). IsEntry (record { author = p.author; group = g })) (sym tried.attempt.group)
+      (group_is_entry p.command tried.state.view tried.attempt.mailbox log.guid p.author tried.attempt.good
+      (valid_at log sound (length log.entries) tried.attempt.mailbox tried.attempt.is_there) (resets_at log sound (length log.entries) tried.attempt.mailbox tried.attempt.is_there) sound.guids tried.attempt.number
+      (uid_left tried.state p.command tried.attempt.mailbox log.rotates (mark_of log (length log.entries)) log.guid (valid_at log sound (length log.entries) tried.attempt.mailbox tried.attempt.is_there) tried.attempt.allowed)
+      (subst (λ (g : Group). 1 ≤ length g.records) tried.attempt.group tried.attempt.some))
 
-  pub at_last : at (with_last log p tried.mailbox) (length log.entries + 1) ≡ applied tried.mailbox p.group.records
-  at_last = at_end log (record { author = p.author; group = p.group }) ∙ ap (option_and_then (λ (m : Mailbox). applied m p.group.records)) tried.is_there
-
-  last_some : IsSome (at (with_last log p tried.mailbox) (length log.entries + 1))
-  last_some =
-      subst IsSome (sym at_last)
-      (subst (λ (g : Group). IsSome (applied tried.mailbox g.records)) (sym tried.group) (group_applies p.command tried.state.view tried.mailbox log.guid tried.good))
-
-  pub sound_more : IsSound (with_last log p tried.mailbox)
-  sound_more = record {
-    start = sound.start;
-    start_mark = sound.start_mark;
-    indexid = sound.indexid;
-    guids = guids_with log p.command p.received tried.mailbox sound.guids;
-    entries = All-push IsEntry log.entries (record { author = p.author; group = p.group }) sound.entries last_entry;
-    mailboxes = λ k le. by_place k le (cases_lt (length log.entries) k);
-  }
-    where
-      by_place : (k : ℕ) → k ≤ length (log.entries ++ record { author = p.author; group = p.group } ∷ []) → (length log.entries < k) ⊎ (k ≤ length log.entries) → IsSome (at (with_last log p tried.mailbox) k)
-      by_place k le (inl past) =
-          let e : length log.entries + 1 ≡ k = omega (arith, le, past, length_push log.entries (record { author = p.author; group = p.group })) in
-          subst (λ (n : ℕ). IsSome (at (with_last log p tried.mailbox) n)) e last_some
-      by_place k le (inr within) = subst IsSome (sym (on.same_at k within)) (sound.mailboxes k within)
+  pub sound_more : IsSound (with_last log p tried.attempt.mailbox)
+  sound_more =
+      written_sound log sound p.author p.command p.received p.group tried.attempt.mailbox tried.attempt.is_there last_entry
+      (subst (λ (g : Group). IsSome (applied tried.attempt.mailbox g.records)) (sym tried.attempt.group) (group_applies p.command tried.state.view tried.attempt.mailbox log.guid tried.attempt.good))
 
   -- the entries of others are as before
-  pub own_back : (s : ℕ) → (p.author ≡ s → ⊥) → (from k : ℕ) → IsOwn (with_last log p tried.mailbox) s from k → IsOwn log s from k
+  pub own_back : (s : ℕ) → (p.author ≡ s → ⊥) → (from k : ℕ) → IsOwn (with_last log p tried.attempt.mailbox) s from k → IsOwn log s from k
   own_back s other from k own =
       elim (one_of_either (λ (e : Entry). e.author ≡ s → ⊥) log.entries (record { author = p.author; group = p.group } ∷ []) k own.entry
       (All-cons (λ (e : Entry). e.author ≡ s → ⊥) (record { author = p.author; group = p.group }) [] other (All-nil (λ (e : Entry). e.author ≡ s → ⊥))) own.is) [
@@ -88,36 +66,36 @@ module _ (log : Log) (sound : IsSound log) (p : Pending) (start : ℕ) (turns : 
 module _ (log : Log) (sound : IsSound log) (p : Pending) (published : ℕ) (pending : Option Pending) (session : Session) (live : IsLive log published pending p.author session)
     (tried : IsTried log live.start live.turns session.state session.wrote p) (runs : p.running ≡ true) (met place : ℕ) (is_met : met ≡ length log.entries) (is_place : place ≡ length log.entries + 1) (all : published ≤ length log.entries) where
   abbrev longer : Log
-  longer = with_last log p tried.mailbox
+  longer = with_last log p tried.attempt.mailbox
 
-  goes_on : Extends log (with_last log p tried.mailbox)
-  goes_on = last_extends log p tried.mailbox sound tried.is_there
+  goes_on : Extends log (with_last log p tried.attempt.mailbox)
+  goes_on = last_extends log p tried.attempt.mailbox sound tried.attempt.is_there
 
   many : length (log.entries ++ record { author = p.author; group = p.group } ∷ []) ≡ length log.entries + 1
   many = omega (arith, length_push log.entries (record { author = p.author; group = p.group }))
 
-  author_writing : IsWriting (with_last log p tried.mailbox) p.author session.state (record { place = place; met = met; command = p.command })
+  author_writing : IsWriting (with_last log p tried.attempt.mailbox) p.author session.state (record { place = place; met = met; command = p.command })
   author_writing =
       let same : session.state ≡ tried.state = (tried.running runs).0 in
       let view : session.state.view ≡ tried.state.view = ap (λ (x : State). x.view) same in
-      let group : p.group ≡ group_of p.command session.state.view tried.mailbox (with_last log p tried.mailbox).guid =
-      tried.group ∙ ap (λ v. group_of p.command v tried.mailbox log.guid) (sym view) ∙ last_group log p tried.mailbox session.state.view in
-      let told : session.state.told ≤ length log.entries = subst (λ (x : State). x.told ≤ length log.entries) (sym same) tried.told in
+      let group : p.group ≡ group_of p.command session.state.view tried.attempt.mailbox (with_last log p tried.attempt.mailbox).guid =
+      tried.attempt.group ∙ ap (λ v. group_of p.command v tried.attempt.mailbox log.guid) (sym view) ∙ written_group log sound p.author p.command p.received p.group tried.attempt.mailbox tried.attempt.is_there session.state.view in
+      let told : session.state.told ≤ length log.entries = subst (λ (x : State). x.told ≤ length log.entries) (sym same) tried.attempt.told in
       record {
-        before = tried.mailbox;
-        was_there = ap (at (with_last log p tried.mailbox)) is_met ∙ goes_on.same_at (length log.entries) (omega arith) ∙ tried.is_there;
+        before = tried.attempt.mailbox;
+        was_there = ap (at (with_last log p tried.attempt.mailbox)) is_met ∙ goes_on.same_at (length log.entries) (omega arith) ∙ tried.attempt.is_there;
         allowed =
-            ap (λ (k : ℕ). refused_at (with_last log p tried.mailbox) k session.state p.command tried.mailbox) is_met
-            ∙ same_refusal log (with_last log p tried.mailbox) goes_on (length log.entries) tried.mailbox session.state p.command None (omega arith) tried.is_there
-            (ap (λ (x : State). refused_at log (length log.entries) x p.command tried.mailbox) same ∙ tried.allowed);
+            ap (λ (k : ℕ). refused_at (with_last log p tried.attempt.mailbox) k session.state p.command tried.attempt.mailbox) is_met
+            ∙ same_refusal log (with_last log p tried.attempt.mailbox) goes_on (length log.entries) tried.attempt.mailbox session.state p.command None (omega arith) tried.attempt.is_there
+            (ap (λ (x : State). refused_at log (length log.entries) x p.command tried.attempt.mailbox) same ∙ tried.attempt.allowed);
         wrote = inl (record {
           behind = omega arith;
-          some = subst (λ (g : Group). 1 ≤ length g.records) group tried.some;
+          some = subst (λ (g : Group). 1 ≤ length g.records) group tried.attempt.some;
           entry =
               ap (slice_get (log.entries ++ record { author = p.author; group = p.group } ∷ [])) is_met
               ∙ at_seam log.entries (record { author = p.author; group = p.group })
               ∙ ap (λ (g : Group). Some (record { author = p.author; group = g })) group;
-          message = last_message log p tried.mailbox;
+          message = written_message log sound p.author p.command p.received p.group tried.attempt.mailbox tried.attempt.is_there;
         });
         told = omega arith;
         there = let all = many in omega arith;
@@ -128,14 +106,14 @@ module _ (log : Log) (sound : IsSound log) (p : Pending) (published : ℕ) (pend
             omega arith;
       }
 
-  author_live : IsLive (with_last log p tried.mailbox) published None p.author (record session { wrote = Some (record { place = place; met = met; command = p.command }) })
+  author_live : IsLive (with_last log p tried.attempt.mailbox) published None p.author (record session { wrote = Some (record { place = place; met = met; command = p.command }) })
   author_live = record {
     told = live.told;
     seen = live.seen;
     start = live.start;
     there = omega (arith, live.there, many);
     turns = live.turns;
-    each = turns_on log (with_last log p tried.mailbox) goes_on p.author live.turns live.each;
+    each = turns_on log (with_last log p tried.attempt.mailbox) goes_on p.author live.turns live.each;
     leads = live.leads;
     answers = live.answers;
     ledger = λ k own. by_place k own (one_or_last log.entries (record { author = p.author; group = p.group }) k own.entry own.is);
@@ -144,7 +122,7 @@ module _ (log : Log) (sound : IsSound log) (p : Pending) (published : ℕ) (pend
     pending = tt;
   }
     where
-      by_place : (k : ℕ) (own : IsOwn (with_last log p tried.mailbox) p.author live.start k) → (slice_get log.entries k ≡ Some own.entry) ⊎ (k ≡ length log.entries)
+      by_place : (k : ℕ) (own : IsOwn (with_last log p tried.attempt.mailbox) p.author live.start k) → (slice_get log.entries k ≡ Some own.entry) ⊎ (k ≡ length log.entries)
           → WroteEntry live.turns k ⊎ IsWaiting (Some (record { place = place; met = met; command = p.command })) k
       by_place k own (inl there) =
           inl (not_waiting live.turns session.wrote k (tried.running runs).1 (live.ledger k (record { later = own.later; entry = own.entry; is = there; by = own.by })))
@@ -160,7 +138,7 @@ module _ (w : World) (stands : Stands w) (p : Pending) (session : Session) (is :
   tried = value_of (λ (q : Pending). q.author ≡ p.author → IsTried w.log live.start live.turns session.state session.wrote q) w.pending p is live.pending refl
 
   abbrev pub behind : World
-  behind = record w { log = with_last w.log p tried.mailbox; pending = None }
+  behind = record w { log = with_last w.log p tried.attempt.mailbox; pending = None }
 
   abbrev pub write : Wrote
   write = record { place = length_of behind; met = length_of behind - 1; command = p.command }
@@ -186,7 +164,7 @@ module _ (w : World) (stands : Stands w) (p : Pending) (session : Session) (is :
       }
 
   synced_is : (P : World → Type 0) → P (with_session behind p.author (Some (record session { wrote = Some write }))) → P (synced w)
-  synced_is P holds = rw (is, runs, with_entry_is w.log p tried.mailbox tried.is_there, there) holds
+  synced_is P holds = rw (is, runs, with_entry_is w.log p tried.attempt.mailbox tried.attempt.is_there, there) holds
 
 -- what holds of the world as it was and of that with the entry holds of the world behind
 pub synced_by : (w : World) (stands : Stands w) (P : World → Type 0) → P w

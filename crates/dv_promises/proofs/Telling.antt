@@ -117,15 +117,7 @@ module _ (log : Log) (published : ℕ) (pending other : Option Pending) (s : ℕ
     state = tried.state;
     leads = tried.leads;
     rest = leads_push tried.state tried.back session.state turn tried.rest refl;
-    mailbox = tried.mailbox;
-    is_there = tried.is_there;
-    allowed = tried.allowed;
-    group = tried.group;
-    some = tried.some;
-    author = tried.author;
-    good = tried.good;
-    write = tried.write;
-    told = tried.told;
+    attempt = tried.attempt;
     empty = tt;
     running = λ runs. absurd cc;
   }

@@ -26,15 +26,7 @@ tried_stopped log start turns last wrote p tried = record {
   state = tried.state;
   leads = tried.leads;
   rest = tried.rest;
-  mailbox = tried.mailbox;
-  is_there = tried.is_there;
-  allowed = tried.allowed;
-  group = tried.group;
-  some = tried.some;
-  author = tried.author;
-  good = tried.good;
-  write = tried.write;
-  told = tried.told;
+  attempt = tried.attempt;
   empty = tried.empty;
   running = λ is. absurd cc;
 }
@@ -110,15 +102,7 @@ module _ (w : World) (s : ℕ) (session : Session) (c : Command) (m : Mailbox) (
         state = t.state;
         leads = t.leads;
         rest = t.rest;
-        mailbox = t.mailbox;
-        is_there = t.is_there;
-        allowed = t.allowed;
-        group = t.group;
-        some = t.some;
-        author = t.author;
-        good = t.good;
-        write = t.write;
-        told = t.told;
+        attempt = t.attempt;
         empty = refl;
         running = λ is. absurd cc;
       }
@@ -163,15 +147,17 @@ module _ (w : World) (s : ℕ) (session : Session) (c : Command) (m : Mailbox) (
         state = session.state;
         leads = leads;
         rest = refl;
-        mailbox = m;
-        is_there = is_there;
-        allowed = allowed;
-        group = refl;
-        some = some_of (group_of c session.state.view m w.log.guid).records some;
-        author = author;
-        good = good;
-        write = write;
-        told = told_all;
+        attempt = record {
+          mailbox = m;
+          is_there = is_there;
+          allowed = allowed;
+          group = refl;
+          some = some_of (group_of c session.state.view m w.log.guid).records some;
+          number = author;
+          good = good;
+          write = write;
+          told = told_all;
+        };
         empty = subst (λ (o : Option Wrote). IfSome o (λ (x : Wrote). x.place ≡ x.met)) (sym none) tt;
         running = λ runs. (refl, none);
       }

@@ -1,6 +1,7 @@
 -- What stands in each world that good events lead to.
 use Rattle.std.specs.Prelude.{◌≡◌, ◌⊎◌, ℕ, ◌+◌, ◌≤◌, true, List, ◌++◌, length, map, All, Option, Some, None, IfSome}
 use Rattle.dv_model.specs.declared.types.Command.{Command}
+use Rattle.dv_model.specs.declared.types.Group.{Group}
 use Rattle.dv_model.specs.declared.types.Mailbox.{Mailbox}
 use Rattle.dv_model.specs.declared.types.Mark.{Mark}
 use Rattle.dv_model.specs.Journals.{Log, HasResets, IsGuid, IsSound, IsU32, at}
@@ -49,8 +50,22 @@ pub record IsWriting (log : Log) (s : ℕ) (x : State) (write : Wrote) : Type 0 
   -- no entry of the session follows
   pub last : (j : ℕ) → IsOwn log s write.met j → j ≡ write.met
 
--- A pending entry of the session: a command that was allowed in the state behind some first turns, over the mailbox at
--- the log's end. While it runs that is the session's last state.
+-- A write of a good event, allowed in a session's state over the mailbox at the log's end, and its group, which isn't
+-- empty.
+pub record IsAttempt (log : Log) (author : ℕ) (state : State) (c : Command) (g : Group) : Type 0 where
+  pub mailbox : Mailbox
+  pub is_there : at log (length log.entries) ≡ Some mailbox
+  pub allowed : refused_at log (length log.entries) state c mailbox ≡ None
+  pub group : g ≡ group_of c state.view mailbox log.guid
+  pub some : 1 ≤ length g.records
+  pub number : IsU32 author
+  pub good : IsCommand c
+  pub write : is_write c ≡ true
+  -- it met no fewer entries than its session was told of
+  pub told : state.told ≤ length log.entries
+
+-- A pending entry of the session: it was tried in the state behind some first turns. While it runs that is the session's
+-- last state.
 pub record IsTried (log : Log) (start : ℕ) (turns : List Turn) (last : State) (wrote : Option Wrote) (p : Pending) : Type 0 where
   -- the turns before it, those since, and the state between
   pub front : List Turn
@@ -59,18 +74,7 @@ pub record IsTried (log : Log) (start : ℕ) (turns : List Turn) (last : State) 
   pub state : State
   pub leads : LeadsTo (begins_at start) front state
   pub rest : LeadsTo state back last
-  -- the mailbox that it met, where it was allowed
-  pub mailbox : Mailbox
-  pub is_there : at log (length log.entries) ≡ Some mailbox
-  pub allowed : refused_at log (length log.entries) state p.command mailbox ≡ None
-  -- its group is that of the rules, and isn't empty
-  pub group : p.group ≡ group_of p.command state.view mailbox log.guid
-  pub some : 1 ≤ length p.group.records
-  -- it is a write of a good event, and met no fewer entries than its session was told of
-  pub author : IsU32 p.author
-  pub good : IsCommand p.command
-  pub write : is_write p.command ≡ true
-  pub told : state.told ≤ length log.entries
+  pub attempt : IsAttempt log p.author state p.command p.group
   -- the session wrote no entry since
   pub empty : IfSome wrote (λ write. write.place ≡ write.met)
   -- while it runs the session was told nothing since, and nothing waits for its answer

@@ -1,5 +1,5 @@
 use Rattle.dv_promises.proofs.Ending.{all_keep, begins, keeps}
-use Rattle.dv_promises.proofs.Logs.{valid_at}
+use Rattle.dv_validity.proofs.Logs.{valid_at}
 use Rattle.dv_promises.proofs.laws.worlds_stand.Goals as goal
 
 pub returns-clause-begins : goal.returns-clause-begins
