@@ -1,5 +1,5 @@
-//! The words by which sessions tell each other of groups, as a law of the definitions: they are of one
-//! list of entries.
+//! The words by which sessions tell each other of groups, as a law of the definitions: they are of
+//! one list of entries.
 #![tactic(auto)]
 
 mod laws;

@@ -1,29 +1,19 @@
 -- The log with a pending entry as its last.
-use Rattle.std.proofs.Common.{◌≡◌, List, [], ◌∷◌, ◌++◌, length, Some, refl, sym}
+use Rattle.std.proofs.Common.{◌≡◌, List, [], ◌∷◌, length, Some, refl, sym}
 use Rattle.std.proofs.lemmas.List.{append-nil}
-use Rattle.dv_model.specs.declared.types.Command.{Command}
-use Rattle.dv_model.specs.declared.types.Command.TheVariants as command
-use Rattle.dv_model.specs.declared.types.Entry.{Entry}
 use Rattle.dv_model.specs.declared.types.Mailbox.{Mailbox}
 use Rattle.dv_model.specs.Journals.{Log, IsSound, at}
-use Rattle.dv_model.specs.Transcripts.{with_message, with_written}
+use Rattle.dv_model.specs.Transcripts.{with_written}
 use Rattle.dv_validity.proofs.Logs.{Extends, written_extends}
 use Rattle.dv_interleavings.specs.Promises.{GoesOn}
 use Rattle.dv_interleavings.specs.Worlds.{Pending, with_entry}
-use Rattle.std.specs.Prelude.{ℕ}
 
 -- the log with one entry more, and its message where it appends one
 abbrev pub with_last : Log → Pending → Mailbox → Log
 with_last log p m = with_written log p.author p.command p.received p.group m
 
-message_is : (log : Log) (es : List Entry) (c : Command) (received : ℕ) (m : Mailbox)
-    → with_message (record log { entries = es }) c received m
-    ≡ record log { entries = es; mail = (with_message log c received m).mail; guid = (with_message log c received m).guid }
-message_is log es (command.Append flags keywords message) received m = refl
-message_is log es c received m = refl
-
 pub with_entry_is : (log : Log) (p : Pending) (m : Mailbox) → at log (length log.entries) ≡ Some m → with_entry log p ≡ with_last log p m
-with_entry_is log p m is = rw is (message_is log (log.entries ++ record { author = p.author; group = p.group } ∷ []) p.command p.received m)
+with_entry_is log p m is = rw is refl
 
 pub last_extends : (log : Log) (p : Pending) (m : Mailbox) → IsSound log → at log (length log.entries) ≡ Some m → Extends log (with_last log p m)
 last_extends log p m sound is = written_extends log sound p.author p.command p.received p.group m is

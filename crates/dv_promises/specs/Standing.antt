@@ -12,7 +12,8 @@ use Rattle.dv_interleavings.specs.Worlds.{World, Session, Pending, Wrote, Event,
 
 -- ---- events
 
--- a session's number has 32 bits, and a command that is written is one of its type, since other records have no spelling
+-- a session's number has 32 bits, and a command that is written is one of its type, since other
+-- records have no spelling
 abbrev pub IsGoodEvent : Event → Type 0
 IsGoodEvent (Write s c received) = IsU32 s × IsCommand c
 IsGoodEvent event = Unit {0}
@@ -20,7 +21,8 @@ IsGoodEvent event = Unit {0}
 -- ---- the beginning
 
 -- a valid mailbox, a place of a log, and messages with GUIDs of 16 bytes
-pub record IsStart (start : Mailbox) (indexid : ℕ) (mark : Mark) (stored : List Stored) : Type 0 where
+pub record IsStart (start : Mailbox) (indexid : ℕ) (mark : Mark) (stored : List Stored)
+    : Type 0 where
   pub mailbox : IsValid start × HasResets start
   pub numbers : IsU32 indexid × IsU32 mark.file_seq × IsU32 mark.offset
   pub guids : All (λ s. IsGuid s.guid) stored
@@ -36,8 +38,8 @@ pub record IsToldTurn (log : Log) (s : ℕ) (t : Turn) : Type 0 where
 abbrev pub begins_at : ℕ → State
 begins_at start = record new_session { told = start }
 
--- A command that has its place in the log and isn't answered yet: it was allowed in the session's state, and its group is
--- the last entry of its session, or is empty.
+-- A command that has its place in the log and isn't answered yet: it was allowed in the session's
+-- state, and its group is the last entry of its session, or is empty.
 pub record IsWriting (log : Log) (s : ℕ) (x : State) (write : Wrote) : Type 0 where
   -- the mailbox that it met
   pub before : Mailbox
@@ -50,9 +52,10 @@ pub record IsWriting (log : Log) (s : ℕ) (x : State) (write : Wrote) : Type 0 
   -- no entry of the session follows
   pub last : (j : ℕ) → IsOwn log s write.met j → j ≡ write.met
 
--- A write of a good event, allowed in a session's state over the mailbox at the log's end, and its group, which isn't
--- empty.
-pub record IsAttempt (log : Log) (author : ℕ) (state : State) (c : Command) (g : Group) : Type 0 where
+-- A write of a good event, allowed in a session's state over the mailbox at the log's end, and its
+-- group, which isn't empty.
+pub record IsAttempt (log : Log) (author : ℕ) (state : State) (c : Command) (g : Group)
+    : Type 0 where
   pub mailbox : Mailbox
   pub is_there : at log (length log.entries) ≡ Some mailbox
   pub allowed : refused_at log (length log.entries) state c mailbox ≡ None
@@ -64,9 +67,10 @@ pub record IsAttempt (log : Log) (author : ℕ) (state : State) (c : Command) (g
   -- it met no fewer entries than its session was told of
   pub told : state.told ≤ length log.entries
 
--- A pending entry of the session: it was tried in the state behind some first turns. While it runs that is the session's
--- last state.
-pub record IsTried (log : Log) (start : ℕ) (turns : List Turn) (last : State) (wrote : Option Wrote) (p : Pending) : Type 0 where
+-- A pending entry of the session: it was tried in the state behind some first turns. While it runs
+-- that is the session's last state.
+pub record IsTried (log : Log) (start : ℕ) (turns : List Turn) (last : State)
+    (wrote : Option Wrote) (p : Pending) : Type 0 where
   -- the turns before it, those since, and the state between
   pub front : List Turn
   pub back : List Turn
@@ -85,9 +89,10 @@ abbrev pub IsWaiting : Option Wrote → ℕ → Type 0
 IsWaiting None k = ⊥
 IsWaiting (Some wrote) k = (wrote.met ≡ k) × (wrote.place ≡ k + 1)
 
--- A live session: its turns were told by the rules and lead to its state, and each entry that is its own was written by
--- one of them, or waits for its answer.
-pub record IsLive (log : Log) (published : ℕ) (waiting : Option Pending) (s : ℕ) (session : Session) : Type 0 where
+-- A live session: its turns were told by the rules and lead to its state, and each entry that is
+-- its own was written by one of them, or waits for its answer.
+pub record IsLive (log : Log) (published : ℕ) (waiting : Option Pending) (s : ℕ)
+    (session : Session) : Type 0 where
   -- it was told of no more than it has seen, and has seen no more than was published
   pub told : session.state.told ≤ session.seen
   pub seen : session.seen ≤ published
@@ -106,7 +111,8 @@ pub record IsLive (log : Log) (published : ℕ) (waiting : Option Pending) (s : 
   -- it hasn't loaded past its own write
   pub loaded : IfSome session.wrote (λ write. session.seen ≤ write.place)
   -- so was a pending entry of its own
-  pub pending : IfSome waiting (λ p. p.author ≡ s → IsTried log start turns session.state session.wrote p)
+  pub pending : IfSome waiting
+      (λ p. p.author ≡ s → IsTried log start turns session.state session.wrote p)
 
 -- ---- the world
 
@@ -121,7 +127,8 @@ pub record Stands (w : World) : Type 0 where
   -- no more is published than is durable
   pub published : w.published ≤ length w.log.entries
   -- each live session has its story
-  pub each : (s : ℕ) (session : Session) → w.sessions s ≡ Some session → IsLive w.log w.published w.pending s session
+  pub each : (s : ℕ) (session : Session)
+      → w.sessions s ≡ Some session → IsLive w.log w.published w.pending s session
   -- one that isn't there wrote nothing that isn't published, so it may open
   pub absent : (s k : ℕ) → w.sessions s ≡ None → IsOwn w.log s w.published k → ⊥
   -- whose entry is pending lives
