@@ -4,4 +4,4 @@
 
 mod laws;
 
-pub use laws::one_feed;
+pub use laws::{feed_goes_on, one_feed};

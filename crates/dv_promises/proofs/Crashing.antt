@@ -47,7 +47,7 @@ pub spoken_after : (log : Log) (published : ℕ) (pending : Option Pending) (s :
 spoken_after log published pending s session sound live = record {
   answers = session.answers;
   unanswered = sent_of session.wrote;
-  kept = subst (λ answers. filter (λ a. not (was_refused a)) answers ≡ answers) live.answers (all_kept log s live.turns live.each);
+  kept = subst (λ answers. filter (λ a. not (was_refused a)) answers ≡ answers) live.story.answers (all_kept log s live.story.turns live.story.each);
   spoken = record {
     sound = sound;
     speaks = speaks_live log published pending s session live;
@@ -92,7 +92,7 @@ all_back P [] back all = all
 all_back P (x ∷ front) back all = all_back P front back (All-tail P x (front ++ back) all)
 
 module _ (log : Log) (sound : IsSound log) (p : Pending) (published : ℕ) (pending : Option Pending) (session : Session) (live : IsLive log published pending p.author session)
-    (tried : IsTried log live.start live.turns session.state session.wrote p) where
+    (tried : IsTried log live.story.start live.story.turns session.state session.wrote p) where
   abbrev more : Log
   more = with_last log p tried.attempt.mailbox
 
@@ -112,7 +112,7 @@ module _ (log : Log) (sound : IsSound log) (p : Pending) (published : ℕ) (pend
   on = last_extends log p tried.attempt.mailbox sound tried.attempt.is_there
 
   split_each : All (IsToldTurn log p.author) (tried.front ++ tried.back)
-  split_each = subst (All (IsToldTurn log p.author)) tried.split live.each
+  split_each = subst (All (IsToldTurn log p.author)) tried.split live.story.each
 
   failed_turn : IsTurn more 0 p.author failed
   failed_turn = record {
@@ -144,7 +144,7 @@ module _ (log : Log) (sound : IsSound log) (p : Pending) (published : ℕ) (pend
       ∙ ap (λ answers. map pair_of tried.front ++ answers) (all_kept log p.author tried.back (all_back (IsToldTurn log p.author) tried.front tried.back split_each))
       ∙ sym (map-append pair_of tried.front tried.back)
       ∙ ap (map pair_of) (sym tried.split)
-      ∙ live.answers
+      ∙ live.story.answers
 
   left : IsLeft more p.author (length log.entries) tried.state p.command
   left = record {
@@ -168,14 +168,14 @@ module _ (log : Log) (sound : IsSound log) (p : Pending) (published : ℕ) (pend
         omega arith;
   }
 
-  written_but : AreWrittenBut more p.author live.start turns (length log.entries)
+  written_but : AreWrittenBut more p.author live.story.start turns (length log.entries)
   written_but k own = by_place (one_or_last log.entries entry k own.entry own.is)
     where
       by_place : (slice_get log.entries k ≡ Some own.entry) ⊎ (k ≡ length log.entries) → WroteEntry turns k ⊎ (k ≡ length log.entries)
       by_place (inr last) = inr last
       by_place (inl there) =
-          let old : IsOwn log p.author live.start k = record { later = own.later; entry = own.entry; is = there; by = own.by } in
-          let wrote : WroteEntry live.turns k = all_written log published pending p.author session live tried.empty k old in
+          let old : IsOwn log p.author live.story.start k = record { later = own.later; entry = own.entry; is = there; by = own.by } in
+          let wrote : WroteEntry live.story.turns k = all_written log published pending p.author session live tried.empty k old in
           inl (any_inserted (λ (t : Turn). (t.met ≡ k) × (t.behind ≡ k + 1)) tried.front failed tried.back (subst (λ ts. WroteEntry ts k) tried.split wrote))
 
   author_after : IsSpokenAfterCrash more p.author session
@@ -184,9 +184,9 @@ module _ (log : Log) (sound : IsSound log) (p : Pending) (published : ℕ) (pend
     unanswered = [];
     kept = kept_is;
     spoken = record {
-      sound = sound_more log sound p live.start live.turns session.state session.wrote tried;
-      speaks = speaks_of more p.author live.start turns session.state (map pair_of turns) [] (let all = many in let low = live.there in omega arith) turns_told
-          (leads_through (begins_at live.start) tried.front tried.state (failed ∷ tried.back) session.state tried.leads (refl, tried.rest)) refl;
+      sound = sound_more log sound p live.story.start live.story.turns session.state session.wrote tried;
+      speaks = speaks_of more p.author live.story.start turns session.state (map pair_of turns) [] (let all = many in let low = live.story.there in omega arith) turns_told
+          (leads_through (begins_at live.story.start) tried.front tried.state (failed ∷ tried.back) session.state tried.leads (refl, tried.rest)) refl;
       entries = inr (
         length log.entries,
         inr (any_middle (λ (t : Turn). IsFailed t × (t.met ≡ length log.entries) × IsLeft more p.author (length log.entries) t.before t.command) tried.front failed tried.back ((1, refl), refl, left)),
@@ -238,9 +238,9 @@ crash_keeps w n stands = by_number (nat_eq n (length_of w)) refl
             let tried = tried_of w stands p is author in
             let other : p.author ≡ s → ⊥ = λ e. let found : nat_eq p.author s ≡ true = grind (arith, nat_tests) in absurd cc in
             spoken_after (with_last w.log p tried.attempt.mailbox) w.published None s session
-            (sound_more w.log stands.sound p live.start live.turns author.0.state author.0.wrote tried)
+            (sound_more w.log stands.sound p live.story.start live.story.turns author.0.state author.0.wrote tried)
             (live_on w.log (with_last w.log p tried.attempt.mailbox) (last_extends w.log p tried.attempt.mailbox stands.sound tried.attempt.is_there) s
-            (own_back w.log stands.sound p live.start live.turns author.0.state author.0.wrote tried s other) w.published w.pending session (stands.each s session there))
+            (own_back w.log stands.sound p live.story.start live.story.turns author.0.state author.0.wrote tried s other) w.published w.pending session (stands.each s session there))
 
     by_more : (p : Pending) → w.pending ≡ Some p → nat_eq n (length_of w) ≡ false → (b : Bool) → nat_eq n (length_of w + 1) ≡ b → CrashKeeps w n
     by_more p is less true more =

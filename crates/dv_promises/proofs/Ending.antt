@@ -27,9 +27,9 @@ alone log sound = record {
 
 -- the story of the pending entry
 pub tried_of : (w : World) → (stands : Stands w) → (p : Pending) → w.pending ≡ Some p → (author : HasAuthor w p)
-    → IsTried w.log (stands.each p.author author.0 author.1).start (stands.each p.author author.0 author.1).turns author.0.state author.0.wrote p
+    → IsTried w.log (stands.each p.author author.0 author.1).story.start (stands.each p.author author.0 author.1).story.turns author.0.state author.0.wrote p
 tried_of w stands p is author =
-    let live = stands.each p.author author.0 author.1 in value_of (λ (q : Pending). q.author ≡ p.author → IsTried w.log live.start live.turns author.0.state author.0.wrote q) w.pending p is live.pending refl
+    let live = stands.each p.author author.0 author.1 in value_of (λ (q : Pending). q.author ≡ p.author → IsTried w.log live.story.start live.story.turns author.0.state author.0.wrote q) w.pending p is live.pending refl
 
 abbrev by_pending : World → ℕ → Option Pending → World
 by_pending w n None = w
@@ -53,7 +53,7 @@ crashes w n stands = by_number (nat_eq n (length_of w)) refl
         let live = stands.each p.author author.0 author.1 in
         let tried = tried_of w stands p is author in
         subst (λ log. Stands (only_log log)) (sym (with_entry_is w.log p tried.attempt.mailbox tried.attempt.is_there))
-        (alone (with_last w.log p tried.attempt.mailbox) (sound_more w.log stands.sound p live.start live.turns author.0.state author.0.wrote tried))
+        (alone (with_last w.log p tried.attempt.mailbox) (sound_more w.log stands.sound p live.story.start live.story.turns author.0.state author.0.wrote tried))
 
     by_more : (p : Pending) → w.pending ≡ Some p → (b : Bool) → Stands (cond b (only_log (with_entry w.log p)) w)
     by_more p is true = with_more p is (value_of (HasAuthor w) w.pending p is stands.author)

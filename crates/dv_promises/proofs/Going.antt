@@ -12,7 +12,7 @@ use Rattle.dv_model.specs.Sessions.{State, answer}
 use Rattle.dv_model.specs.Transcripts.{IsOwn, IsTold, Turn, Wrote, refused_at}
 use Rattle.dv_model.specs.Views.{View}
 use Rattle.dv_interleavings.specs.Worlds.{Session, Pending, Wrote as Write}
-use Rattle.dv_promises.specs.Standing.{IsLive, IsToldTurn, IsWriting}
+use Rattle.dv_promises.specs.Standing.{IsLive, IsStory, IsToldTurn, IsWriting}
 use Rattle.dv_validity.proofs.Going.{same_refusal, told_on, wrote_on}
 use Rattle.dv_validity.proofs.Logs.{Extends}
 use Rattle.dv_promises.proofs.Small.{if_some}
@@ -26,6 +26,16 @@ module _ (log more : Log) (on : Extends log more) where
 
   pub turns_on : (s : ℕ) (turns : List Turn) → All (IsToldTurn log s) turns → All (IsToldTurn more s) turns
   turns_on s turns each = All-weaker (IsToldTurn log s) (IsToldTurn more s) (turn_on s) turns each
+
+  abbrev pub story_on : (s : ℕ) (state : State) (replied : List (Command × List Reply)) → IsStory log s state replied → IsStory more s state replied
+  story_on s state replied story = record {
+    start = story.start;
+    there = omega (arith, story.there, on.longer);
+    turns = story.turns;
+    each = turns_on s story.turns story.each;
+    leads = story.leads;
+    answers = story.answers;
+  }
 
   module _ (s : ℕ) (back : (start k : ℕ) → IsOwn more s start k → IsOwn log s start k) where
     pub writing_on : (x : State) (write : Write) → IsWriting log s x write → IsWriting more s x write
@@ -49,13 +59,8 @@ module _ (log more : Log) (on : Extends log more) where
     live_on published pending session live = record {
       told = live.told;
       seen = live.seen;
-      start = live.start;
-      there = omega (arith, live.there, on.longer);
-      turns = live.turns;
-      each = turns_on s live.turns live.each;
-      leads = live.leads;
-      answers = live.answers;
-      ledger = λ k own. live.ledger k (back live.start k own);
+      story = story_on s session.state session.answers live.story;
+      ledger = λ k own. live.ledger k (back live.story.start k own);
       wrote = if_some (IsWriting log s session.state) (IsWriting more s session.state) session.wrote (writing_on session.state) live.wrote;
       loaded = live.loaded;
       pending = tt;

@@ -85,6 +85,6 @@ module _ (log : Log) (sound : IsSound log) (s : ℕ) where
 pub numbers_stay : (log : Log) (sound : IsSound log) (published : ℕ) (pending : Option Pending) (s : ℕ) (session : Session) → IsLive log published pending s session → NumbersStay session
 numbers_stay log sound published pending s session live before between behind is keeps =
     steady_stay (flat_map heard_of session.answers) before between behind
-    (subst (λ answers. AreSteady [] (flat_map heard_of answers)) live.answers
-    (turns_steady log sound s (begins_at live.start) live.turns session.state [] live.each live.leads (λ selected. absurd cc)))
+    (subst (λ answers. AreSteady [] (flat_map heard_of answers)) live.story.answers
+    (turns_steady log sound s (begins_at live.story.start) live.story.turns session.state [] live.story.each live.story.leads (λ selected. absurd cc)))
     is keeps

@@ -18,7 +18,7 @@ use Rattle.dv_interleavings.specs.Worlds.{World, Session, Pending, Wrote, with_s
 use Rattle.dv_promises.specs.Standing.{HasAuthor, IsLive, IsTried, IsWaiting, IsWriting, Stands}
 use Rattle.dv_validity.proofs.Going.{same_refusal}
 use Rattle.dv_validity.proofs.Logs.{Extends, at_seam, resets_at, valid_at, written_group, written_message, written_sound}
-use Rattle.dv_promises.proofs.Going.{live_on, turns_on}
+use Rattle.dv_promises.proofs.Going.{live_on, story_on}
 use Rattle.dv_validity.proofs.Entries.{group_is_entry}
 use Rattle.dv_validity.proofs.Groups.{group_applies, uid_left}
 use Rattle.dv_promises.proofs.Logs.{last_extends, with_entry_is, with_last}
@@ -64,7 +64,7 @@ module _ (log : Log) (sound : IsSound log) (p : Pending) (start : ℕ) (turns : 
 
 -- its entry is the last, and waits for its answer
 module _ (log : Log) (sound : IsSound log) (p : Pending) (published : ℕ) (pending : Option Pending) (session : Session) (live : IsLive log published pending p.author session)
-    (tried : IsTried log live.start live.turns session.state session.wrote p) (runs : p.running ≡ true) (met place : ℕ) (is_met : met ≡ length log.entries) (is_place : place ≡ length log.entries + 1) (all : published ≤ length log.entries) where
+    (tried : IsTried log live.story.start live.story.turns session.state session.wrote p) (runs : p.running ≡ true) (met place : ℕ) (is_met : met ≡ length log.entries) (is_place : place ≡ length log.entries + 1) (all : published ≤ length log.entries) where
   abbrev longer : Log
   longer = with_last log p tried.attempt.mailbox
 
@@ -110,22 +110,17 @@ module _ (log : Log) (sound : IsSound log) (p : Pending) (published : ℕ) (pend
   author_live = record {
     told = live.told;
     seen = live.seen;
-    start = live.start;
-    there = omega (arith, live.there, many);
-    turns = live.turns;
-    each = turns_on log (with_last log p tried.attempt.mailbox) goes_on p.author live.turns live.each;
-    leads = live.leads;
-    answers = live.answers;
+    story = story_on log (with_last log p tried.attempt.mailbox) goes_on p.author session.state session.answers live.story;
     ledger = λ k own. by_place k own (one_or_last log.entries (record { author = p.author; group = p.group }) k own.entry own.is);
     wrote = author_writing;
     loaded = let high = live.seen in omega arith;
     pending = tt;
   }
     where
-      by_place : (k : ℕ) (own : IsOwn (with_last log p tried.attempt.mailbox) p.author live.start k) → (slice_get log.entries k ≡ Some own.entry) ⊎ (k ≡ length log.entries)
-          → WroteEntry live.turns k ⊎ IsWaiting (Some (record { place = place; met = met; command = p.command })) k
+      by_place : (k : ℕ) (own : IsOwn (with_last log p tried.attempt.mailbox) p.author live.story.start k) → (slice_get log.entries k ≡ Some own.entry) ⊎ (k ≡ length log.entries)
+          → WroteEntry live.story.turns k ⊎ IsWaiting (Some (record { place = place; met = met; command = p.command })) k
       by_place k own (inl there) =
-          inl (not_waiting live.turns session.wrote k (tried.running runs).1 (live.ledger k (record { later = own.later; entry = own.entry; is = there; by = own.by })))
+          inl (not_waiting live.story.turns session.wrote k (tried.running runs).1 (live.ledger k (record { later = own.later; entry = own.entry; is = there; by = own.by })))
       by_place k own (inr last) = inr (omega arith, omega arith)
 
 -- ---- the world behind it
@@ -134,8 +129,8 @@ module _ (w : World) (stands : Stands w) (p : Pending) (session : Session) (is :
   abbrev pub live : IsLive w.log w.published w.pending p.author session
   live = stands.each p.author session there
 
-  abbrev pub tried : IsTried w.log live.start live.turns session.state session.wrote p
-  tried = value_of (λ (q : Pending). q.author ≡ p.author → IsTried w.log live.start live.turns session.state session.wrote q) w.pending p is live.pending refl
+  abbrev pub tried : IsTried w.log live.story.start live.story.turns session.state session.wrote p
+  tried = value_of (λ (q : Pending). q.author ≡ p.author → IsTried w.log live.story.start live.story.turns session.state session.wrote q) w.pending p is live.pending refl
 
   abbrev pub behind : World
   behind = record w { log = with_last w.log p tried.attempt.mailbox; pending = None }
@@ -146,7 +141,7 @@ module _ (w : World) (stands : Stands w) (p : Pending) (session : Session) (is :
   stands_behind : Stands (with_session behind p.author (Some (record session { wrote = Some write })))
   stands_behind =
       let sound = stands.sound in
-      let more = sound_more w.log sound p live.start live.turns session.state session.wrote tried in
+      let more = sound_more w.log sound p live.story.start live.story.turns session.state session.wrote tried in
       let all = many w.log sound p w.published w.pending session live tried runs (length w.log.entries) (length w.log.entries + 1) refl refl stands.published in
       record {
         sound = more;
@@ -154,12 +149,12 @@ module _ (w : World) (stands : Stands w) (p : Pending) (session : Session) (is :
         each = each_with behind p.author _ None behind.log
             (author_live w.log sound p w.published w.pending session live tried runs (length_of behind - 1) (length_of behind) (omega (arith, all)) (omega (arith, all)) stands.published)
             (λ t other differs is_there.
-            live_on w.log behind.log (on w.log sound p live.start live.turns session.state session.wrote tried) t (own_back w.log sound p live.start live.turns session.state session.wrote tried t differs)
+            live_on w.log behind.log (on w.log sound p live.story.start live.story.turns session.state session.wrote tried) t (own_back w.log sound p live.story.start live.story.turns session.state session.wrote tried t differs)
             w.published w.pending other (stands.each t other is_there));
         absent = λ t k gone own.
             let none = absent_with behind p.author _ t gone in
             stands.absent t k none
-            (own_back w.log sound p live.start live.turns session.state session.wrote tried t (λ same. absurd (none-some session (sym none ∙ ap w.sessions (sym same) ∙ there))) w.published k own);
+            (own_back w.log sound p live.story.start live.story.turns session.state session.wrote tried t (λ same. absurd (none-some session (sym none ∙ ap w.sessions (sym same) ∙ there))) w.published k own);
         author = tt;
       }
 

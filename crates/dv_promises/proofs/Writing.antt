@@ -73,13 +73,8 @@ module _ (w : World) (s : ℕ) (session : Session) (c : Command) (m : Mailbox) (
       record {
         told = live.told;
         seen = live.seen;
-        start = live.start;
-        there = live.there;
-        turns = live.turns;
-        each = live.each;
-        leads = live.leads;
-        answers = live.answers;
-        ledger = λ k own. inl (not_waiting live.turns session.wrote k none (live.ledger k own));
+        story = live.story;
+        ledger = λ k own. inl (not_waiting live.story.turns session.wrote k none (live.ledger k own));
         wrote = record {
           before = m;
           was_there = is_there;
@@ -90,7 +85,7 @@ module _ (w : World) (s : ℕ) (session : Session) (c : Command) (m : Mailbox) (
           last = λ j own. absurd (none_past w.log s j own);
         };
         loaded = omega (arith, live.seen, stands.published);
-        pending = tried live.start live.turns w.pending live.pending;
+        pending = tried live.story.start live.story.turns w.pending live.pending;
       }
     where
       one : (start : ℕ) (turns : List Turn) (p : Pending) → IsTried w.log start turns session.state session.wrote p
@@ -119,7 +114,7 @@ module _ (w : World) (s : ℕ) (session : Session) (c : Command) (m : Mailbox) (
     published = stands.published;
     each = each_with w s _ (option_map stopped w.pending) w.log (done_live empty)
         (λ t other differs there. let live = stands.each t other there in
-        live_by w.log w.published w.published w.pending (option_map stopped w.pending) t other (omega arith) live (all_stopped w.log t live.start live.turns other.state other.wrote w.pending live.pending));
+        live_by w.log w.published w.published w.pending (option_map stopped w.pending) t other (omega arith) live (all_stopped w.log t live.story.start live.story.turns other.state other.wrote w.pending live.pending));
     absent = λ t k gone own. stands.absent t k (absent_with w s _ t gone) own;
     author = if_some (HasAuthor w) _ (option_map stopped w.pending) (author_with w s _) (author_stopped w w.pending stands.author);
   }
@@ -133,7 +128,7 @@ module _ (w : World) (s : ℕ) (session : Session) (c : Command) (m : Mailbox) (
     published = stands.published;
     each = λ t other there. let live = stands.each t other there in
         live_by w.log w.published w.published w.pending (Some _) t other (omega arith) live
-        (λ same. by_same other live.start live.turns live.leads (same_Some session other (sym is ∙ ap w.sessions same ∙ there)));
+        (λ same. by_same other live.story.start live.story.turns live.story.leads (same_Some session other (sym is ∙ ap w.sessions same ∙ there)));
     absent = stands.absent;
     author = (session, is);
   }

@@ -4,6 +4,7 @@ use Rattle.dv_model.specs.declared.types.Command.{Command}
 use Rattle.dv_model.specs.declared.types.Group.{Group}
 use Rattle.dv_model.specs.declared.types.Mailbox.{Mailbox}
 use Rattle.dv_model.specs.declared.types.Mark.{Mark}
+use Rattle.dv_model.specs.declared.types.Reply.{Reply}
 use Rattle.dv_model.specs.Journals.{Log, HasResets, IsGuid, IsSound, IsU32, at}
 use Rattle.dv_model.specs.Mailboxes.{IsValid}
 use Rattle.dv_model.specs.Sessions.{State, IsCommand, new_session, group_of, is_write}
@@ -89,6 +90,17 @@ abbrev pub IsWaiting : Option Wrote → ℕ → Type 0
 IsWaiting None k = ⊥
 IsWaiting (Some wrote) k = (wrote.met ≡ k) × (wrote.place ≡ k + 1)
 
+-- a session's commands, each answered by the rules, from its beginning to its state
+pub record IsStory (log : Log) (s : ℕ) (state : State) (replied : List (Command × List Reply))
+    : Type 0 where
+  -- the log had so many entries when it opened
+  pub start : ℕ
+  pub there : start ≤ length log.entries
+  pub turns : List Turn
+  pub each : All (IsToldTurn log s) turns
+  pub leads : LeadsTo (begins_at start) turns state
+  pub answers : map (λ t. (t.command, t.replies)) turns ≡ replied
+
 -- A live session: its turns were told by the rules and lead to its state, and each entry that is
 -- its own was written by one of them, or waits for its answer.
 pub record IsLive (log : Log) (published : ℕ) (waiting : Option Pending) (s : ℕ)
@@ -96,23 +108,17 @@ pub record IsLive (log : Log) (published : ℕ) (waiting : Option Pending) (s : 
   -- it was told of no more than it has seen, and has seen no more than was published
   pub told : session.state.told ≤ session.seen
   pub seen : session.seen ≤ published
-  -- the log had so many entries when it opened
-  pub start : ℕ
-  pub there : start ≤ length log.entries
-  -- its commands, each answered by the rules, from its beginning to its state
-  pub turns : List Turn
-  pub each : All (IsToldTurn log s) turns
-  pub leads : LeadsTo (begins_at start) turns session.state
-  pub answers : map (λ t. (t.command, t.replies)) turns ≡ session.answers
+  pub story : IsStory log s session.state session.answers
   -- each entry of its own is that of one of them, or of the one that waits for its answer
-  pub ledger : (k : ℕ) → IsOwn log s start k → WroteEntry turns k ⊎ IsWaiting session.wrote k
+  pub ledger : (k : ℕ) → IsOwn log s story.start k
+      → WroteEntry story.turns k ⊎ IsWaiting session.wrote k
   -- that one was allowed, and has its place
   pub wrote : IfSome session.wrote (IsWriting log s session.state)
   -- it hasn't loaded past its own write
   pub loaded : IfSome session.wrote (λ write. session.seen ≤ write.place)
   -- so was a pending entry of its own
-  pub pending : IfSome waiting
-      (λ p. p.author ≡ s → IsTried log start turns session.state session.wrote p)
+  pub pending : IfSome waiting (λ p. p.author ≡ s
+      → IsTried log story.start story.turns session.state session.wrote p)
 
 -- ---- the world
 
