@@ -7,9 +7,14 @@ ghost use Rattle.dv_validity.specs.Entries.{GroupIsEntry, GroupApplies, EntryIsI
 pub fn records_keep_valid()
     ensures one { RecordKeepsValid }
     ensures all { RecordsKeepValid }
+{}
+
+/// What has a spelling in bytes is in range, and under records in range too a valid mailbox stays
+/// valid.
+pub fn ranges_keep_valid()
     ensures range { RecordIsInRange }
-    ensures one_in_range { RangeKeepsValid }
-    ensures all_in_range { RangesKeepValid }
+    ensures one { RangeKeepsValid }
+    ensures all { RangesKeepValid }
 {}
 
 /// The modification sequences of a record's rows can be set in one pass: a row is compared with the
@@ -17,10 +22,14 @@ pub fn records_keep_valid()
 pub fn stamped_by_rows()
     ensures alone { StampedByItself }
     ensures rows { StampedByRows }
+    ensures flags { FlagsByRows }
+{}
+
+/// Rows that stay as they are keep their modification sequences, where others leave or are new.
+pub fn stamped_as_before()
     ensures alike { StampedAlike }
     ensures without { StampedWithout }
     ensures more { StampedWithMore }
-    ensures flags { FlagsByRows }
 {}
 
 /// The UIDNEXT and the highest modification sequence never fall. Each record has the next one, and

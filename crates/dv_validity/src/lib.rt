@@ -5,6 +5,6 @@
 mod laws;
 
 pub use laws::{
-    entries_keep_valid, groups_are_entries, keywords_stay, numbers_never_fall, records_keep_valid,
-    stamped_by_rows, uids_never_return,
+    entries_keep_valid, groups_are_entries, keywords_stay, numbers_never_fall, ranges_keep_valid,
+    records_keep_valid, stamped_as_before, stamped_by_rows, uids_never_return,
 };
