@@ -4,7 +4,7 @@ use Rattle.std.specs.Prelude.{All, Any, IfSome, filter, map, slice_get}
 use Rattle.std.specs.List.{list_any}
 use Rattle.std.proofs.lemmas.Bool.{or_left}
 use Rattle.std.proofs.lemmas.Bool.Decides.{nat_tests}
-use Rattle.std.proofs.lemmas.List.{append-nil, length_push, map-append}
+use Rattle.std.proofs.lemmas.List.{length_push, map-append}
 use Rattle.std.proofs.lemmas.List.Elements.{All-append, All-cons, All-head, All-nil, All-tail, filter-append}
 use Rattle.std.proofs.lemmas.Option.{same_Some, slice_get_within}
 use Rattle.dv_model.specs.declared.types.Command.{Command}
@@ -21,7 +21,7 @@ use Rattle.dv_interleavings.specs.Worlds.{World, Session, Pending, Crash, happen
 use Rattle.dv_promises.specs.Standing.{begins_at, HasAuthor, IsLive, IsToldTurn, IsTried, Stands}
 use Rattle.dv_promises.proofs.Ending.{crash_all, crash_none, crash_some, tried_of}
 use Rattle.dv_validity.proofs.Going.{same_refusal}
-use Rattle.dv_validity.proofs.Logs.{Extends, written_entry, written_group, written_length, written_message}
+use Rattle.dv_validity.proofs.Logs.{Extends, written_entry, written_group, written_message}
 use Rattle.dv_promises.proofs.Going.{live_on, turns_on}
 use Rattle.dv_promises.proofs.Logs.{last_extends, last_goes_on, same_log, with_entry_is, with_last}
 use Rattle.dv_promises.proofs.Refusals.{told_unrefused}

@@ -1,16 +1,12 @@
 -- What was told and written stays so in a log that goes on.
-use Rattle.std.proofs.Common.{◌≡◌, inl, inr, ℕ, ◌≤◌, List, length, Option, Some, None, sym, ◌∙◌, ap, subst, arith}
-use Rattle.std.specs.Prelude.{All, slice_get}
+use Rattle.std.proofs.Common.{inl, inr, ℕ, ◌≤◌, List, length, Option, None, ◌∙◌, arith}
+use Rattle.std.specs.Prelude.{All}
 use Rattle.std.proofs.lemmas.List.Elements.{All-weaker}
 use Rattle.dv_model.specs.declared.types.Command.{Command}
-use Rattle.dv_model.specs.declared.types.Group.{Group}
-use Rattle.dv_model.specs.declared.types.Mailbox.{Mailbox}
-use Rattle.dv_model.specs.declared.types.Mark.{Mark}
 use Rattle.dv_model.specs.declared.types.Reply.{Reply}
-use Rattle.dv_model.specs.Journals.{Log, at, mark_of}
-use Rattle.dv_model.specs.Sessions.{State, answer}
-use Rattle.dv_model.specs.Transcripts.{IsOwn, IsTold, Turn, Wrote, refused_at}
-use Rattle.dv_model.specs.Views.{View}
+use Rattle.dv_model.specs.Journals.{Log}
+use Rattle.dv_model.specs.Sessions.{State}
+use Rattle.dv_model.specs.Transcripts.{IsOwn, Turn}
 use Rattle.dv_interleavings.specs.Worlds.{Session, Pending, Wrote as Write}
 use Rattle.dv_promises.specs.Standing.{IsLive, IsStory, IsToldTurn, IsWriting}
 use Rattle.dv_validity.proofs.Going.{same_refusal, told_on, wrote_on}

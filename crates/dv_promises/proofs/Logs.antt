@@ -1,6 +1,6 @@
 -- The log with a pending entry as its last.
-use Rattle.std.proofs.Common.{◌≡◌, List, [], ◌∷◌, length, Some, refl, sym}
-use Rattle.std.proofs.lemmas.List.{append-nil}
+use Rattle.std.proofs.Common.{◌≡◌, ℕ, ◌≤◌, [], ◌∷◌, ◌++◌, length, Some, refl, sym, ◌∙◌, ap, arith, length-append}
+use Rattle.std.proofs.lemmas.List.{append-nil, append_assoc}
 use Rattle.dv_model.specs.declared.types.Mailbox.{Mailbox}
 use Rattle.dv_model.specs.Journals.{Log, IsSound, at}
 use Rattle.dv_model.specs.Transcripts.{with_written}
@@ -29,6 +29,21 @@ same_log log = record {
   mailboxes = λ k le. refl;
   messages = λ k uid m le is low. (refl, refl);
 }
+
+pub goes_on_further : (log between later : Log) → GoesOn log between → GoesOn between later → GoesOn log later
+goes_on_further log between later first second =
+    let up : (k : ℕ) → k ≤ length log.entries → k ≤ length between.entries = λ k le. omega (arith, le, ap length first.entries, length-append log.entries first.more) in
+    record {
+      start = (second.start.0 ∙ first.start.0, second.start.1 ∙ first.start.1);
+      files = (second.files.0 ∙ first.files.0, second.files.1 ∙ first.files.1);
+      more = first.more ++ second.more;
+      entries = second.entries ∙ ap (λ es. es ++ second.more) first.entries ∙ append_assoc log.entries first.more second.more;
+      mailboxes = λ k le. second.mailboxes k (up k le) ∙ first.mailboxes k le;
+      messages = λ k uid m le is low.
+          let one = first.messages k uid m le is low in
+          let other = second.messages k uid m (up k le) (first.mailboxes k le ∙ is) low in
+          (other.0 ∙ one.0, other.1 ∙ one.1);
+    }
 
 pub last_goes_on : (log : Log) (p : Pending) (m : Mailbox) → IsSound log → at log (length log.entries) ≡ Some m → GoesOn log (with_last log p m)
 last_goes_on log p m sound is =

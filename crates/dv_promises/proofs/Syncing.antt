@@ -1,19 +1,16 @@
 -- A pending entry is made durable.
-use Rattle.std.proofs.Common.{◌≡◌, ◌⊎◌, inl, inr, ℕ, ◌+◌, ◌-◌, ◌<◌, ◌≤◌, Bool, true, false, cond, List, [], ◌∷◌, ◌++◌, length, Option, Some, None, refl, sym, ◌∙◌, ap, subst, arith}
-use Rattle.std.specs.Prelude.{IfSome, IsSome, option_and_then, slice_get}
-use Rattle.std.proofs.lemmas.Bool.{cases_lt}
+use Rattle.std.proofs.Common.{◌≡◌, ◌⊎◌, inl, inr, ℕ, ◌+◌, ◌-◌, ◌≤◌, Bool, true, false, cond, List, [], ◌∷◌, ◌++◌, length, Option, Some, None, refl, sym, ◌∙◌, ap, subst, arith}
+use Rattle.std.specs.Prelude.{IfSome, IsSome, slice_get}
 use Rattle.std.proofs.lemmas.List.{length_push}
-use Rattle.std.proofs.lemmas.List.Elements.{All-cons, All-nil, All-push}
+use Rattle.std.proofs.lemmas.List.Elements.{All-cons, All-nil}
 use Rattle.std.proofs.lemmas.Option.{none-some, same_Some, slice_get_within}
 use Rattle.dv_model.specs.declared.types.Entry.{Entry}
 use Rattle.dv_model.specs.declared.types.Group.{Group}
-use Rattle.dv_model.specs.declared.types.Mailbox.{Mailbox}
 use Rattle.dv_model.specs.Effects.{applied}
 use Rattle.dv_model.specs.Journals.{Log, IsSound, IsEntry, at, mark_of}
 use Rattle.dv_model.specs.Sessions.{State, group_of}
 use Rattle.dv_model.specs.Transcripts.{IsOwn, Turn, WroteEntry, refused_at}
 use Rattle.dv_model.proofs.Speaking.{one_of_either, one_or_last}
-use Rattle.dv_model.proofs.Transcripts.{at_end}
 use Rattle.dv_interleavings.specs.Worlds.{World, Session, Pending, Wrote, with_session, with_entry, with_wrote, synced, length_of, happens, Sync}
 use Rattle.dv_promises.specs.Standing.{HasAuthor, IsLive, IsTried, IsWaiting, IsWriting, Stands}
 use Rattle.dv_validity.proofs.Going.{same_refusal}

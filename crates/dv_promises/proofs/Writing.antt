@@ -9,7 +9,7 @@ use Rattle.dv_model.specs.declared.types.Command.{Command}
 use Rattle.dv_model.specs.declared.types.Mailbox.{Mailbox}
 use Rattle.dv_model.specs.declared.types.Record.{Record}
 use Rattle.dv_model.specs.declared.types.Reply.{Reply}
-use Rattle.dv_model.specs.Journals.{Log, IsSound, IsU32, at}
+use Rattle.dv_model.specs.Journals.{Log, IsU32, at}
 use Rattle.dv_model.specs.Sessions.{State, IsCommand, group_of, is_write}
 use Rattle.dv_model.specs.Transcripts.{LeadsTo, Turn, WroteEntry, refused_at}
 use Rattle.dv_interleavings.specs.Worlds.{World, Session, Pending, Wrote, Write, with_session, without_running, stopped, may_write, written, length_of, happens}

@@ -1,7 +1,6 @@
 -- What holds in each world that good events lead to.
-use Rattle.std.specs.Prelude.{◌≡◌, ◌⊎◌, ℕ, ◌+◌, ◌<◌, ◌≤◌, List, ◌++◌, length, All, AllPairs, Some}
+use Rattle.std.specs.Prelude.{◌≡◌, ◌⊎◌, ℕ, ◌+◌, ◌<◌, ◌≤◌, List, All, AllPairs, Some}
 use Rattle.dv_model.specs.declared.types.Command.{Command}
-use Rattle.dv_model.specs.declared.types.Entry.{Entry}
 use Rattle.dv_model.specs.declared.types.Mailbox.{Mailbox}
 use Rattle.dv_model.specs.declared.types.Mark.{Mark}
 use Rattle.dv_model.specs.declared.types.Reply.{Reply}
@@ -58,6 +57,11 @@ WritesAreDistinct = (log : Log) (base author : ℕ)
 -- no event takes an entry away, or changes a mailbox or a message that was given out
 abbrev pub LogsGoOn : Type 0
 LogsGoOn = (w : World) (event : Event) → Stands w → GoesOn w.log (happens w event).log
+
+-- nor do good events in turn
+abbrev pub AllGoOn : Type 0
+AllGoOn = (w : World) (events : List Event)
+    → Stands w → All IsGoodEvent events → GoesOn w.log (all_happen w events).log
 
 -- a session is answered at the end of what it has seen
 abbrev pub AnswersAreAsSeen : Type 0

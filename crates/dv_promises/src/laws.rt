@@ -1,4 +1,4 @@
-ghost use Rattle.dv_promises.specs.Laws.{BeginsStanding, EventsKeep, AllEventsKeep, PrefixesAreValid, StandingHolds, AllHold, WritesAreDistinct, LogsGoOn, AnswersAreAsSeen, SeenRises, StandingCrashKeeps, AllCrashesKeep};
+ghost use Rattle.dv_promises.specs.Laws.{BeginsStanding, EventsKeep, AllEventsKeep, PrefixesAreValid, StandingHolds, AllHold, WritesAreDistinct, LogsGoOn, AllGoOn, AnswersAreAsSeen, SeenRises, StandingCrashKeeps, AllCrashesKeep};
 
 /// What stands in a new world over a valid mailbox stands behind each event, in whatever order the
 /// steps of the sessions come: the log stays sound, and each prefix of it has a valid mailbox.
@@ -24,6 +24,7 @@ pub fn promises_hold()
 /// session is answered at the end of what it has seen, and it never sees less than before.
 pub fn prefixes_grow()
     ensures log { LogsGoOn }
+    ensures all { AllGoOn }
     ensures answers { AnswersAreAsSeen }
     ensures seen { SeenRises }
 {}
