@@ -23,8 +23,10 @@ record AreNumbers (uid physical virtual_size place : ℕ) (at : ℕ) (b : List �
   third : word_at (at + 8) b ≡ virtual_size
   fourth : word_at (at + 12) b ≡ place
 
-numbers_in : (front back b : List ℕ) (uid physical virtual_size place at : ℕ) → uid < 2 ^ 32 → physical < 2 ^ 32 → virtual_size < 2 ^ 32 → place < 2 ^ 32 → length front ≡ at
-    → b ≡ front ++ (entry_text uid physical virtual_size place ++ back) → AreNumbers uid physical virtual_size place at b
+numbers_in : (front back b : List ℕ) (uid physical virtual_size place at : ℕ) → uid < 2 ^ 32
+    → physical < 2 ^ 32 → virtual_size < 2 ^ 32 → place < 2 ^ 32 → length front ≡ at
+    → b ≡ front ++ (entry_text uid physical virtual_size place ++ back)
+    → AreNumbers uid physical virtual_size place at b
 numbers_in front back b uid physical virtual_size place at p q r s here e =
     let tail = entry_text uid physical virtual_size place ++ back in
     let behind : (k : ℕ) → drop (at + k) b ≡ drop k tail = λ k. ap (λ n. drop (n + k) b) (sym here) ∙ ap (drop (length front + k)) e ∙ drop-append-add front tail k in
@@ -56,7 +58,8 @@ place_rises : (at : ℕ) (rows : List CacheRow) → at ≤ place_behind at rows
 place_rises at rows = omega (arith, texts_length at rows)
 
 -- the rows before a row, it, and those behind it
-around : (rows : List CacheRow) (i : ℕ) (row : CacheRow) → slice_get rows i ≡ Some row → rows ≡ take i rows ++ (row ∷ drop (i + 1) rows)
+around : (rows : List CacheRow) (i : ℕ) (row : CacheRow) → slice_get rows i ≡ Some row
+    → rows ≡ take i rows ++ (row ∷ drop (i + 1) rows)
 around rows i row e =
     let less = slice_get_within rows i row e in
     sym (take-append-drop (i + 1) rows) ∙ ap (λ t. t ++ drop (i + 1) rows) (take_more rows i row less ∙ ap (λ x. take i rows ++ x ∷ []) (get_or_from_slice_get rows i row row e))
@@ -79,7 +82,8 @@ entry_regrouped h a e z t = simp append_assoc
 fields_regrouped : (h s a k z : List ℕ) → h ++ s ++ (a ++ (k ++ z)) ≡ (h ++ s ++ a) ++ (k ++ z)
 fields_regrouped h s a k z = simp append_assoc
 
-parts : (indexid seq : ℕ) (rows : List CacheRow) (i : ℕ) (row : CacheRow) → slice_get rows i ≡ Some row → Parts indexid seq rows i row
+parts : (indexid seq : ℕ) (rows : List CacheRow) (i : ℕ) (row : CacheRow)
+    → slice_get rows i ≡ Some row → Parts indexid seq rows i row
 parts indexid seq rows i row e =
     let first = first_place rows in
     let place = place_of rows i in
@@ -106,13 +110,15 @@ parts indexid seq rows i row e =
 
 -- ---- the whole
 
-text_length : (indexid seq : ℕ) (rows : List CacheRow) → length (cache_text indexid seq rows) ≡ place_behind (first_place rows) rows
+text_length : (indexid seq : ℕ) (rows : List CacheRow)
+    → length (cache_text indexid seq rows) ≡ place_behind (first_place rows) rows
 text_length indexid seq rows =
     let first = first_place rows in
     let head = header_text indexid seq (length rows) (place_behind first rows) in
     omega (arith, length-append (head ++ entries_from first rows) (texts_from first rows), length-append head (entries_from first rows), entries_length first rows, texts_length first rows)
 
-has_header : (indexid seq : ℕ) (rows : List CacheRow) → indexid < 2 ^ 32 → seq < 2 ^ 32 → length rows ≤ 8388608 → HasHeader indexid seq (cache_text indexid seq rows)
+has_header : (indexid seq : ℕ) (rows : List CacheRow) → indexid < 2 ^ 32 → seq < 2 ^ 32
+    → length rows ≤ 8388608 → HasHeader indexid seq (cache_text indexid seq rows)
 has_header indexid seq rows p q few =
     let size = place_behind (first_place rows) rows in
     let small = place_small (first_place rows) rows (omega (arith, few)) in
@@ -124,15 +130,19 @@ has_header indexid seq rows p q few =
       whole = from_le_bytes-to_le_bytes_4 size (omega (arith, small)) ∙ sym (text_length indexid seq rows);
     }
 
-counted : (indexid seq : ℕ) (rows : List CacheRow) → length rows ≤ 8388608 → word_at 16 (cache_text indexid seq rows) ≡ length rows
+counted : (indexid seq : ℕ) (rows : List CacheRow) → length rows ≤ 8388608
+    → word_at 16 (cache_text indexid seq rows) ≡ length rows
 counted indexid seq rows few = from_le_bytes-to_le_bytes_4 (length rows) (omega (arith, few))
 
-place_of_small : (rows : List CacheRow) (i : ℕ) → length rows ≤ 8388608 → place_of rows i ≤ 1073741824
+place_of_small : (rows : List CacheRow) (i : ℕ) → length rows ≤ 8388608
+    → place_of rows i ≤ 1073741824
 place_of_small rows i few = place_small (first_place rows) (take i rows) (omega (arith, few))
 
 -- a row that is kept
-pub found : (indexid seq : ℕ) (rows : List CacheRow) (i : ℕ) (row : CacheRow) (known : Known) → indexid < 2 ^ 32 → seq < 2 ^ 32 → AreWritable rows → slice_get rows i ≡ Some row
-    → kept (place_of rows i) row.known ≡ Some known → IsRowAt (cache_text indexid seq rows) indexid seq row.uid (32 + 16 * i) row
+pub found : (indexid seq : ℕ) (rows : List CacheRow) (i : ℕ) (row : CacheRow) (known : Known)
+    → indexid < 2 ^ 32 → seq < 2 ^ 32 → AreWritable rows → slice_get rows i ≡ Some row
+    → kept (place_of rows i) row.known ≡ Some known
+    → IsRowAt (cache_text indexid seq rows) indexid seq row.uid (32 + 16 * i) row
 found indexid seq rows i row known p q ok e k =
     let b = cache_text indexid seq rows in
     let place = place_of rows i in
@@ -165,8 +175,10 @@ found indexid seq rows i row known p q ok e k =
     }
 
 -- a row that isn't kept
-pub not_found : (indexid seq : ℕ) (rows : List CacheRow) (i uid : ℕ) (row other : CacheRow) → AreWritable rows → slice_get rows i ≡ Some row
-    → kept (place_of rows i) row.known ≡ None → IsRowAt (cache_text indexid seq rows) indexid seq uid (32 + 16 * i) other → ⊥
+pub not_found : (indexid seq : ℕ) (rows : List CacheRow) (i uid : ℕ) (row other : CacheRow)
+    → AreWritable rows → slice_get rows i ≡ Some row
+    → kept (place_of rows i) row.known ≡ None
+    → IsRowAt (cache_text indexid seq rows) indexid seq uid (32 + 16 * i) other → ⊥
 not_found indexid seq rows i uid row other ok e k is =
     let b = cache_text indexid seq rows in
     let place = place_of rows i in

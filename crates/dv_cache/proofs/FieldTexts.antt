@@ -7,17 +7,20 @@ use Rattle.std.proofs.lemmas.List.Elements.{All-cons, All-contains, All-head, Al
 use Rattle.std.proofs.lemmas.List.Sums.{sum_by-cons}
 use Rattle.std.proofs.Math.Seq.{take-append_seam}
 use Rattle.std.proofs.lemmas.Nat.{from_le_bytes-to_le_bytes_4}
+use Rattle.dv_formats.proofs.Texts.{parts_one, word_one}
 use Rattle.dv_cache.specs.Caches.{field_size, field_text, fields_text, IsShort}
 use Rattle.dv_cache.specs.Finding.{AreFieldsOf}
 
 -- ---- sizes
 
-pub text_size : (fields : List (Option (List ℕ))) → length (fields_text fields) ≡ 4 * length fields + sum_by field_size fields
+pub text_size : (fields : List (Option (List ℕ)))
+    → length (fields_text fields) ≡ 4 * length fields + sum_by field_size fields
 text_size [] = refl
 text_size (None ∷ fields) = omega (arith, text_size fields, sum_by-cons field_size None fields)
 text_size (Some value ∷ fields) = omega (arith, text_size fields, sum_by-cons field_size (Some value) fields, length-append value (fields_text fields), length-append (field_text (Some value)) (fields_text fields))
 
-pub all_short : (fields : List (Option (List ℕ))) → sum_by field_size fields ≤ 65536 → All IsShort fields
+pub all_short : (fields : List (Option (List ℕ))) → sum_by field_size fields ≤ 65536
+    → All IsShort fields
 all_short [] few = λ k d below. absurd (omega (arith, below))
 all_short (None ∷ fields) few =
     let split = sum_by-cons field_size None fields in
@@ -28,23 +31,8 @@ all_short (Some value ∷ fields) few =
 
 -- ---- a text is of one list of fields
 
-word_one : (m n : ℕ) → m < 2 ^ 32 → n < 2 ^ 32 → to_le_bytes w32 m ≡ to_le_bytes w32 n → m ≡ n
-word_one m n p q e = sym (from_le_bytes-to_le_bytes_4 m p) ∙ ap (from_le_bytes w32) e ∙ from_le_bytes-to_le_bytes_4 n q
-
-head_one : (x y : ℕ) (xs ys : List ℕ) → x ∷ xs ≡ y ∷ ys → x ≡ y
-head_one x y xs ys e = cc
-
--- lists of one length in front of others
-pub parts_one : (a c b d : List ℕ) → length a ≡ length c → a ++ b ≡ c ++ d → (a ≡ c) × (b ≡ d)
-parts_one [] [] b d same e = (refl, e)
-parts_one [] (y ∷ c) b d same e = absurd (omega (arith, same))
-parts_one (x ∷ a) [] b d same e = absurd (omega (arith, same))
-parts_one (x ∷ a) (y ∷ c) b d same e =
-    let first = head_one x y (a ++ b) (c ++ d) e in
-    let rest = parts_one a c b d (omega (arith, same)) (ap (drop 1) e) in
-    (ap (λ z. z ∷ a) first ∙ ap (λ zs. y ∷ zs) rest.0, rest.1)
-
-field_one : (f g : Option (List ℕ)) (b c : List ℕ) → IsShort f → IsShort g → field_text f ++ b ≡ field_text g ++ c → (f ≡ g) × (b ≡ c)
+field_one : (f g : Option (List ℕ)) (b c : List ℕ) → IsShort f → IsShort g
+    → field_text f ++ b ≡ field_text g ++ c → (f ≡ g) × (b ≡ c)
 field_one None None b c p q e = (refl, ap (drop 4) e)
 field_one None (Some w) b c p q e = let same = word_one 4294967295 (length w) (omega arith) (omega (arith, q)) (ap (take 4) e) in absurd (omega (arith, same, q))
 field_one (Some v) None b c p q e = let same = word_one (length v) 4294967295 (omega (arith, p)) (omega arith) (ap (take 4) e) in absurd (omega (arith, same, p))
@@ -54,7 +42,8 @@ field_one (Some v) (Some w) b c p q e =
     (ap (λ x. Some x) both.0, both.1)
 
 -- fields that begin bytes are the first of more fields that do
-first_of : (fs gs : List (Option (List ℕ))) (b c : List ℕ) → length fs ≤ length gs → All IsShort fs → All IsShort gs → fields_text fs ++ b ≡ fields_text gs ++ c
+first_of : (fs gs : List (Option (List ℕ))) (b c : List ℕ) → length fs ≤ length gs → All IsShort fs
+    → All IsShort gs → fields_text fs ++ b ≡ fields_text gs ++ c
     → (xs : List (Option (List ℕ))) × (gs ≡ fs ++ xs) × (b ≡ fields_text xs ++ c)
 first_of [] gs b c le p q e = (gs, refl, e)
 first_of (f ∷ fs) [] b c le p q e = absurd (omega (arith, le))
@@ -64,11 +53,13 @@ first_of (f ∷ fs) (g ∷ gs) b c le p q e =
     let rest = first_of fs gs b c (omega (arith, le)) (All-tail IsShort f fs p) (All-tail IsShort g gs q) here.1 in
     (rest.0, ap (λ x. x ∷ gs) (sym here.0) ∙ ap (λ xs. f ∷ xs) rest.1, rest.2)
 
-fields_front : (b : List ℕ) (fields : List (Option (List ℕ))) → AreFieldsOf b fields → fields_text fields ++ drop (length (fields_text fields)) b ≡ b
+fields_front : (b : List ℕ) (fields : List (Option (List ℕ))) → AreFieldsOf b fields
+    → fields_text fields ++ drop (length (fields_text fields)) b ≡ b
 fields_front b fields is = ap (λ t. t ++ drop (length (fields_text fields)) b) (sym is.text) ∙ take-append-drop (length (fields_text fields)) b
 
 -- at most one list of five fields begins any bytes
-pub one_five : (b : List ℕ) (fs gs : List (Option (List ℕ))) → AreFieldsOf b fs → AreFieldsOf b gs → fs ≡ gs
+pub one_five : (b : List ℕ) (fs gs : List (Option (List ℕ))) → AreFieldsOf b fs → AreFieldsOf b gs
+    → fs ≡ gs
 one_five b fs gs p q =
     let more = first_of fs gs (drop (length (fields_text fs)) b) (drop (length (fields_text gs)) b) (omega (arith, p.five, q.five)) p.short q.short (fields_front b fs p ∙ sym (fields_front b gs q)) in
     by_rest more.0 more.1
@@ -89,21 +80,26 @@ pub starts : (b : List ℕ) → IsReadTo b [] b 0
 starts b = record { counted = refl; short = λ k d below. absurd (omega (arith, below)); text = refl }
 
 -- no five fields begin the bytes where no field follows
-pub no_field : (b : List ℕ) (fields : List (Option (List ℕ))) (rest : List ℕ) (done : ℕ) → IsReadTo b fields rest done → done < 5
-    → ((field : Option (List ℕ)) (behind : List ℕ) → IsShort field → rest ≡ field_text field ++ behind → ⊥) → (others : List (Option (List ℕ))) → AreFieldsOf b others → ⊥
+pub no_field : (b : List ℕ) (fields : List (Option (List ℕ))) (rest : List ℕ) (done : ℕ)
+    → IsReadTo b fields rest done → done < 5
+    → ((field : Option (List ℕ)) (behind : List ℕ) → IsShort field → rest ≡ field_text field ++ behind → ⊥)
+    → (others : List (Option (List ℕ))) → AreFieldsOf b others → ⊥
 no_field b fields rest done so_far less none others is =
     let behind = drop (length (fields_text others)) b in
     let more = first_of fields others rest behind (omega (arith, so_far.counted, is.five)) so_far.short is.short (sym so_far.text ∙ sym (fields_front b others is)) in
     by_rest more.0 more.1 more.2
   where
-    by_rest : (xs : List (Option (List ℕ))) → others ≡ fields ++ xs → rest ≡ fields_text xs ++ drop (length (fields_text others)) b → ⊥
+    by_rest : (xs : List (Option (List ℕ))) → others ≡ fields ++ xs
+        → rest ≡ fields_text xs ++ drop (length (fields_text others)) b → ⊥
     by_rest [] e f = let same : length others ≡ length fields = ap length (e ∙ append-nil fields) in absurd (omega (arith, same, so_far.counted, is.five))
     by_rest (x ∷ xs) e f =
         let there : Contains others x = subst (λ ys. Contains ys x) (sym e) (Contains-append_right fields (x ∷ xs) x (0, omega arith, refl)) in
         none x (fields_text xs ++ drop (length (fields_text others)) b) (All-contains IsShort others x is.short there) (f ∙ append_assoc (field_text x) (fields_text xs) (drop (length (fields_text others)) b))
 
 -- one more field
-pub one_more : (b : List ℕ) (fields : List (Option (List ℕ))) (rest : List ℕ) (done : ℕ) → IsReadTo b fields rest done → (field : Option (List ℕ)) (behind : List ℕ) → IsShort field → rest ≡ field_text field ++ behind
+pub one_more : (b : List ℕ) (fields : List (Option (List ℕ))) (rest : List ℕ) (done : ℕ)
+    → IsReadTo b fields rest done → (field : Option (List ℕ)) (behind : List ℕ) → IsShort field
+    → rest ≡ field_text field ++ behind
     → IsReadTo b (fields ++ field ∷ []) behind (done + 1)
 one_more b fields rest done so_far field behind short e = record {
   counted = omega (arith, so_far.counted, length_push fields field);
@@ -111,5 +107,6 @@ one_more b fields rest done so_far field behind short e = record {
   text = so_far.text ∙ ap (λ t. fields_text fields ++ t) e ∙ sym (append_assoc (fields_text fields) (field_text field) behind) ∙ ap (λ t. t ++ behind) (flat_map_more field_text [] fields field);
 }
 
-pub is_done : (b : List ℕ) (fields : List (Option (List ℕ))) (rest : List ℕ) → IsReadTo b fields rest 5 → AreFieldsOf b fields
+pub is_done : (b : List ℕ) (fields : List (Option (List ℕ))) (rest : List ℕ)
+    → IsReadTo b fields rest 5 → AreFieldsOf b fields
 is_done b fields rest is = record { five = is.counted; short = is.short; text = ap (take (length (fields_text fields))) is.text ∙ take-append_seam (fields_text fields) rest }

@@ -3,20 +3,13 @@ use Rattle.std.proofs.Common.{◌≡◌, ℕ, ◌+◌, ◌≤◌, Bool, true, fa
 use Rattle.std.specs.Prelude.{nat_le, ◌&&◌, sum_by, if◌then◌else◌}
 use Rattle.std.proofs.lemmas.Bool.{le-leb, leb-true}
 use Rattle.std.proofs.lemmas.List.{append-nil}
+use Rattle.std.proofs.Math.Bool.{and-eq-true_iff}
 use Rattle.dv_cache.specs.declared.row.CacheRow.{CacheRow}
 use Rattle.dv_cache.specs.declared.row.Known.{Known}
 use Rattle.dv_cache.specs.Caches.{entries_from, field_size, fields_text, fits, IsShort, kept, known_text, place_behind, row_entry, texts_from}
 use Rattle.dv_cache.proofs.FieldTexts.{all_short, text_size}
 
 -- ---- what is kept
-
-and_left : (a b : Bool) → (a && b) ≡ true → a ≡ true
-and_left true b e = refl
-and_left false b e = absurd cc
-
-and_right : (a b : Bool) → (a && b) ≡ true → b ≡ true
-and_right true b e = e
-and_right false b e = absurd cc
 
 pub record Fits (at : ℕ) (known : Known) : Type 0 where
   pub sizes : (known.physical ≤ 2147483648) × (known.virtual_size ≤ 2147483648)
@@ -29,16 +22,19 @@ fits_is at known e =
     let b = nat_le known.virtual_size 2147483648 in
     let c = nat_le (sum_by field_size known.fields) 65536 in
     let d = nat_le (at + length (fields_text known.fields)) 1073741824 in
-    let abc = and_left (a && b && c) d e in
-    let ab = and_left (a && b) c abc in
+    let all = (and-eq-true_iff (a && b && c) d).0 e in
+    let three = (and-eq-true_iff (a && b) c).0 all.0 in
+    let two = (and-eq-true_iff a b).0 three.0 in
     record {
-      sizes = (leb-true known.physical 2147483648 (and_left a b ab), leb-true known.virtual_size 2147483648 (and_right a b ab));
-      fields = leb-true (sum_by field_size known.fields) 65536 (and_right (a && b) c abc);
-      end = leb-true (at + length (fields_text known.fields)) 1073741824 (and_right (a && b && c) d e);
+      sizes = (leb-true known.physical 2147483648 two.0, leb-true known.virtual_size 2147483648 two.1);
+      fields = leb-true (sum_by field_size known.fields) 65536 three.1;
+      end = leb-true (at + length (fields_text known.fields)) 1073741824 all.1;
     }
 
 -- the test of the end is the last
-pub fits_by : (at size : ℕ) (known : Known) → known.physical ≤ 2147483648 → known.virtual_size ≤ 2147483648 → size ≡ sum_by field_size known.fields → size ≤ 65536 → length known.fields ≡ 5
+pub fits_by : (at size : ℕ) (known : Known) → known.physical ≤ 2147483648
+    → known.virtual_size ≤ 2147483648 → size ≡ sum_by field_size known.fields → size ≤ 65536
+    → length known.fields ≡ 5
     → nat_le (at + 20 + size) 1073741824 ≡ fits at known
 fits_by at size known p q e few five =
     let a = le-leb known.physical 2147483648 p in
@@ -52,19 +48,23 @@ pub record IsKept (at : ℕ) (known : Option Known) (written : Known) : Type 0 w
   pub is : known ≡ Some written
   pub fits : Fits at written
 
-pub kept_is : (at : ℕ) (known : Option Known) (written : Known) → kept at known ≡ Some written → IsKept at known written
+pub kept_is : (at : ℕ) (known : Option Known) (written : Known) → kept at known ≡ Some written
+    → IsKept at known written
 kept_is at None written e = absurd cc
 kept_is at (Some known) written e = by_test (fits at known) refl e
   where
-    by_test : (t : Bool) → fits at known ≡ t → (if t then Some known else None) ≡ Some written → IsKept at (Some known) written
+    by_test : (t : Bool) → fits at known ≡ t → (if t then Some known else None) ≡ Some written
+        → IsKept at (Some known) written
     by_test true h f = let same : known ≡ written = cc in record { is = f; fits = subst (λ k. Fits at k) same (fits_is at known h) }
     by_test false h f = absurd cc
 
-pub kept_short : (at : ℕ) (known : Option Known) (written : Known) → kept at known ≡ Some written → All IsShort written.fields
+pub kept_short : (at : ℕ) (known : Option Known) (written : Known) → kept at known ≡ Some written
+    → All IsShort written.fields
 kept_short at known written e = all_short written.fields (kept_is at known written e).fits.fields
 
 -- the fields that are kept end within 2^30 bytes
-pub kept_ends : (at : ℕ) (known : Option Known) → at ≤ 1073741824 → at + length (known_text (kept at known)) ≤ 1073741824
+pub kept_ends : (at : ℕ) (known : Option Known) → at ≤ 1073741824
+    → at + length (known_text (kept at known)) ≤ 1073741824
 kept_ends at known small = by_kept (kept at known) refl
   where
     by_kept : (o : Option Known) → kept at known ≡ o → at + length (known_text o) ≤ 1073741824
@@ -73,24 +73,28 @@ kept_ends at known small = by_kept (kept at known) refl
 
 -- ---- rows behind others
 
-pub texts_length : (at : ℕ) (rows : List CacheRow) → at + length (texts_from at rows) ≡ place_behind at rows
+pub texts_length : (at : ℕ) (rows : List CacheRow)
+    → at + length (texts_from at rows) ≡ place_behind at rows
 texts_length at [] = omega arith
 texts_length at (row ∷ rows) =
     let text = known_text (kept at row.known) in
     omega (arith, length-append text (texts_from (at + length text) rows), texts_length (at + length text) rows)
 
-pub behind_append : (at : ℕ) (xs ys : List CacheRow) → place_behind at (xs ++ ys) ≡ place_behind (place_behind at xs) ys
+pub behind_append : (at : ℕ) (xs ys : List CacheRow)
+    → place_behind at (xs ++ ys) ≡ place_behind (place_behind at xs) ys
 behind_append at [] ys = refl
 behind_append at (row ∷ xs) ys = behind_append (at + length (known_text (kept at row.known))) xs ys
 
-pub texts_append : (at : ℕ) (xs ys : List CacheRow) → texts_from at (xs ++ ys) ≡ texts_from at xs ++ texts_from (place_behind at xs) ys
+pub texts_append : (at : ℕ) (xs ys : List CacheRow)
+    → texts_from at (xs ++ ys) ≡ texts_from at xs ++ texts_from (place_behind at xs) ys
 texts_append at [] ys = refl
 texts_append at (row ∷ xs) ys =
     let text = known_text (kept at row.known) in
     let next = at + length text in
     ap (λ t. text ++ t) (texts_append next xs ys) ∙ sym (append_assoc text (texts_from next xs) (texts_from (place_behind next xs) ys))
 
-pub entries_append : (at : ℕ) (xs ys : List CacheRow) → entries_from at (xs ++ ys) ≡ entries_from at xs ++ entries_from (place_behind at xs) ys
+pub entries_append : (at : ℕ) (xs ys : List CacheRow)
+    → entries_from at (xs ++ ys) ≡ entries_from at xs ++ entries_from (place_behind at xs) ys
 entries_append at [] ys = refl
 entries_append at (row ∷ xs) ys =
     let entry = row_entry at row.uid (kept at row.known) in
@@ -108,8 +112,12 @@ pub record IsWrittenTo (first : ℕ) (rows : List CacheRow) (entries texts : Lis
 pub starts : (first : ℕ) → first ≤ 1073741824 → IsWrittenTo first [] [] []
 starts first small = record { listed = refl; spelled = refl; place = omega arith; small = omega (arith, small) }
 
-pub one_row_more : (first : ℕ) (rows : List CacheRow) (entries texts more_entries more_texts : List ℕ) (row : CacheRow) (at : ℕ) → IsWrittenTo first rows entries texts → at ≡ first + length texts
-    → more_entries ≡ entries ++ row_entry at row.uid (kept at row.known) → more_texts ≡ texts ++ known_text (kept at row.known) → IsWrittenTo first (rows ++ row ∷ []) more_entries more_texts
+pub one_row_more : (first : ℕ) (rows : List CacheRow)
+    (entries texts more_entries more_texts : List ℕ) (row : CacheRow) (at : ℕ)
+    → IsWrittenTo first rows entries texts → at ≡ first + length texts
+    → more_entries ≡ entries ++ row_entry at row.uid (kept at row.known)
+    → more_texts ≡ texts ++ known_text (kept at row.known)
+    → IsWrittenTo first (rows ++ row ∷ []) more_entries more_texts
 one_row_more first rows entries texts more_entries more_texts row at is e p q =
     let here : at ≡ place_behind first rows = e ∙ is.place in
     let entry : row_entry at row.uid (kept at row.known) ≡ entries_from (place_behind first rows) (row ∷ []) = ap (λ k. row_entry k row.uid (kept k row.known)) here ∙ sym (append-nil _) in
@@ -124,5 +132,7 @@ one_row_more first rows entries texts more_entries more_texts row at is e p q =
     }
 
 -- four pieces in turn
-pub four_more : (out a b c d one two three four : List ℕ) (e f g h : List ℕ) → a ≡ e → b ≡ f → c ≡ g → d ≡ h → one ≡ out ++ a → two ≡ one ++ b → three ≡ two ++ c → four ≡ three ++ d → four ≡ out ++ (e ++ (f ++ (g ++ h)))
+pub four_more : (out a b c d one two three four : List ℕ) (e f g h : List ℕ) → a ≡ e → b ≡ f → c ≡ g
+    → d ≡ h → one ≡ out ++ a → two ≡ one ++ b → three ≡ two ++ c → four ≡ three ++ d
+    → four ≡ out ++ (e ++ (f ++ (g ++ h)))
 four_more out a b c d one two three four e f g h i j k l p q r s = s ∙ rw (r, q, p, i, j, k, l) (simp append_assoc)

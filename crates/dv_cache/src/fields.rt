@@ -14,7 +14,8 @@ const ABSENT: u32 = u32::MAX;
 
 /// The number of bytes of all fields, and `None` where there are more than `most`.
 pub fn size_of(fields: &[Option<Bytes>], most: usize) -> Option<usize>
-    ensures { MatchOption result (most < sum_by field_size fields.now) (λ n. (n ≡ sum_by field_size fields.now) × (n ≤ most)) }
+    ensures { MatchOption result (most < sum_by field_size fields.now)
+        (λ n. (n ≡ sum_by field_size fields.now) × (n ≤ most)) }
 {
     let mut size = 0;
     for field in fields {
@@ -57,8 +58,10 @@ pub fn write_fields(fields: &[Option<Bytes>], out: &mut Bytes) -> Result<(), NoM
 
 // The field whose text begins these bytes, and what follows it.
 fn read_field(b: &[u8]) -> Option<(Option<&[u8]>, &[u8])>
-    ensures some { IfSome result (λ x. IsShort (option_map (λ v. v.now) x.0) × (b.now ≡ field_text (option_map (λ v. v.now) x.0) ++ x.1.now)) }
-    ensures none { IfNone result ((field : Option (List ℕ)) (rest : List ℕ) → IsShort field → b.now ≡ field_text field ++ rest → ⊥) }
+    ensures some { IfSome result (λ x. IsShort (option_map (λ v. v.now) x.0)
+        × (b.now ≡ field_text (option_map (λ v. v.now) x.0) ++ x.1.now)) }
+    ensures none { IfNone result ((field : Option (List ℕ)) (rest : List ℕ) → IsShort field
+        → b.now ≡ field_text field ++ rest → ⊥) }
 {
     if b.len() < 4 {
         return None;
@@ -87,7 +90,8 @@ fn copied(alloc: Global, value: Option<&[u8]>) -> Result<Option<Bytes>, NoMemory
 /// The five fields whose texts begin these bytes; `None` where there aren't five.
 pub fn read_fields(alloc: Global, b: &[u8]) -> Result<Option<List<Option<Bytes>>>, NoMemory>
     ensures found { IfOk result (λ o. IfSome o (λ fields. AreFieldsOf b.now fields)) }
-    ensures none { IfOk result (λ o. IfNone o ((fields : List (Option (List ℕ))) → AreFieldsOf b.now fields → ⊥)) }
+    ensures none { IfOk result (λ o. IfNone o
+        ((fields : List (Option (List ℕ))) → AreFieldsOf b.now fields → ⊥)) }
 {
     let mut fields = List::new(alloc);
     let mut rest = b;

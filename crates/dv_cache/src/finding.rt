@@ -47,11 +47,14 @@ pub fn find(
     offset: u32,
 ) -> Result<Option<CacheRow>, NoMemory>
     // What is found stands there.
-    ensures found { IfOk result (λ o. IfSome o (λ row. IsRowAt b.now indexid seq uid offset row)) }
+    ensures found { IfOk result
+        (λ o. IfSome o (λ row. IsRowAt b.now indexid seq uid offset row)) }
     // Nothing is found only where no row stands.
-    ensures none { IfOk result (λ o. IfNone o ((row : CacheRow) → IsRowAt b.now indexid seq uid offset row → ⊥)) }
+    ensures none { IfOk result
+        (λ o. IfNone o ((row : CacheRow) → IsRowAt b.now indexid seq uid offset row → ⊥)) }
     // A row that stands there is found.
-    ensures only { (row : CacheRow) → IsRowAt b.now indexid seq uid offset row → IfOk result (λ o. o ≡ Some row) }
+    ensures only { (row : CacheRow) → IsRowAt b.now indexid seq uid offset row
+        → IfOk result (λ o. o ≡ Some row) }
 {
     if !has_header(b, indexid, seq) || !has_entry(b, uid, offset) {
         return Ok(None);

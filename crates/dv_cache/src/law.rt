@@ -7,14 +7,26 @@ ghost use Rattle.dv_cache.specs.declared.row.Known.{Known};
 
 /// At most one row stands at an offset.
 pub fn one_row()
-    ensures { (b : List ℕ) (indexid seq uid offset : ℕ) (row other : CacheRow) → IsRowAt b indexid seq uid offset row → IsRowAt b indexid seq uid offset other → row ≡ other }
+    ensures { (b : List ℕ) (indexid seq uid offset : ℕ) (row other : CacheRow)
+        → IsRowAt b indexid seq uid offset row
+        → IsRowAt b indexid seq uid offset other
+        → row ≡ other }
 {}
 
 /// Row i of a written file stands at the offset 32 + 16 i where it is kept, and no row does where
 /// it isn't.
 pub fn written_is_found()
-    ensures kept { (indexid seq : ℕ) (rows : List CacheRow) (i : ℕ) (row : CacheRow) (known : Known) → indexid < 2 ^ 32 → seq < 2 ^ 32 → AreWritable rows
-        → slice_get rows i ≡ Some row → kept (place_of rows i) row.known ≡ Some known → IsRowAt (cache_text indexid seq rows) indexid seq row.uid (32 + 16 * i) row }
-    ensures none { (indexid seq : ℕ) (rows : List CacheRow) (i uid : ℕ) (row other : CacheRow) → AreWritable rows
-        → slice_get rows i ≡ Some row → kept (place_of rows i) row.known ≡ None → IsRowAt (cache_text indexid seq rows) indexid seq uid (32 + 16 * i) other → ⊥ }
+    ensures kept { (indexid seq : ℕ) (rows : List CacheRow) (i : ℕ) (row : CacheRow) (known : Known)
+        → indexid < 2 ^ 32
+        → seq < 2 ^ 32
+        → AreWritable rows
+        → slice_get rows i ≡ Some row
+        → kept (place_of rows i) row.known ≡ Some known
+        → IsRowAt (cache_text indexid seq rows) indexid seq row.uid (32 + 16 * i) row }
+    ensures none { (indexid seq : ℕ) (rows : List CacheRow) (i uid : ℕ) (row other : CacheRow)
+        → AreWritable rows
+        → slice_get rows i ≡ Some row
+        → kept (place_of rows i) row.known ≡ None
+        → IsRowAt (cache_text indexid seq rows) indexid seq uid (32 + 16 * i) other
+        → ⊥ }
 {}

@@ -68,7 +68,8 @@ fn write_row(
 ) -> Result<(), NoMemory>
     requires place { at ≤ 2 ^ 30 }
     requires five { HasFive row.now.known }
-    ensures entries { OnOk result (entries.new ≡ entries.old ++ row_entry at row.now.uid (kept at row.now.known)) }
+    ensures entries { OnOk result
+        (entries.new ≡ entries.old ++ row_entry at row.now.uid (kept at row.now.known)) }
     ensures texts { OnOk result (texts.new ≡ texts.old ++ known_text (kept at row.now.known)) }
 {
     let Some(known) = kept(at, &row.known) else {

@@ -16,7 +16,7 @@ use Rattle.dv_cli.specs.declared.serving.Serving.{Serving}
 use Rattle.dv_cli.specs.Crashing.{LeavesMade, RestsAt}
 use Rattle.dv_cli.specs.Found.{IsNew}
 use Rattle.dv_cli.specs.Servings.{HasLog, HoldsLog, IsServing, log_records}
-use Rattle.dv_cli.proofs.Crashes.{weaker}
+use Rattle.dv_shelf.proofs.Moments.{weaker}
 use Rattle.dv_cli.proofs.Serves.{holds_log}
 
 -- folders with the same files

@@ -62,25 +62,6 @@ module _ (s : Serving) (serving : IsServing s) (left : s.next_uid < end_of_uids)
       → HoldsLog s.uid_validity s.journal.items c ⊎ HoldsLog s.uid_validity (s.journal.items ++ append_entry s ∷ []) c
   appends_either images rest c from = ⊎_elim (λ old. inl (appends_old from.0 c (rest from.0 from.1).0 old)) (λ new. inr (appends_group from.0 c (rest from.0 from.1).0 new)) from.2
 
--- ---- over calls on the folder, one behind the other
-
-module _ {S : Type 0} (moment : S → ℕ) (left_since : S → ℕ → Folder → Type 0) where
-  -- a crash leaves no more than a weaker statement says
-  pub weaker : (old new : S) (P Q : Folder → Type 0) → LeavesOnly moment left_since old new P → ((c : Folder) → P c → Q c) → LeavesOnly moment left_since old new Q
-  weaker old new P Q run also = record {
-    later = run.later;
-    each = λ c left. also c (run.each c left);
-    before = λ t c le left. ⊎_elim inl (λ p. inr (also c p)) (run.before t c le left);
-  }
-
-  -- a run and the next
-  pub joined : (old mid new : S) (P : Folder → Type 0) → LeavesOnly moment left_since old mid P → LeavesOnly moment left_since mid new P → LeavesOnly moment left_since old new P
-  joined old mid new P first second = record {
-    later = omega (arith, first.later, second.later);
-    each = λ c left. ⊎_elim (first.each c) (λ p. p) (second.before (moment old) c first.later left);
-    before = λ t c le left. ⊎_elim (first.before t c le) inr (second.before t c (omega (arith, le, first.later)) left);
-  }
-
 -- ---- where nothing was done
 
 module _ {S : Type 0} (moment : S → ℕ) (left_since : S → ℕ → Folder → Type 0) (may_leave : S → Folder → Type 0) where

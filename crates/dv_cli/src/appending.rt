@@ -33,16 +33,14 @@ impl Serving {
         ensures serving { OnOk result (IsServing self.new) }
         ensures err { OnErr result (standing_of self.new ≡ standing_of self.old) }
         ensures validity { self.new.uid_validity ≡ self.old.uid_validity }
-        ensures files { S.tells shelf.old → HasLog self.old.uid_validity self.old.journal.items (S.files shelf.old) → OnOk result (HasLog self.old.uid_validity self.new.journal.items (S.files shelf.new)) }
-        ensures files_left { (guid : ℕ → List ℕ) → S.tells shelf.old → HasLog self.old.uid_validity self.old.journal.items (S.files shelf.old) → IfErr result (λ e. EndsWith e guid self.old (command.Append 0 [] []) (S.files shelf.new)) }
-        ensures crash { (guid : ℕ → List ℕ) → S.tells shelf.old → RestsAt self.old.uid_validity self.old.journal.items (S.may_leave shelf.old) → LeavesOnly S.moment S.left_since shelf.old shelf.new (LeavesCommand guid self.old (command.Append 0 [] []) self.new (Rose (S.fault_count shelf.old) (S.fault_count shelf.new))) }
-        ensures rest { S.tells shelf.old → RestsAt self.old.uid_validity self.old.journal.items (S.may_leave shelf.old) → OnOk result (RestsAt self.old.uid_validity self.new.journal.items (S.may_leave shelf.new)) }
-        ensures rest_left { (guid : ℕ → List ℕ) → S.tells shelf.old → RestsAt self.old.uid_validity self.old.journal.items (S.may_leave shelf.old) → IfErr result (λ e. (f : Folder) → S.may_leave shelf.new f → EndsHolding e guid self.old (command.Append 0 [] []) f) }
-        ensures told { S.tells shelf.old → S.tells shelf.new }
+        ensures files { S.tells → HasLog self.old.uid_validity self.old.journal.items (S.files shelf.old) → OnOk result (HasLog self.old.uid_validity self.new.journal.items (S.files shelf.new)) }
+        ensures files_left { (guid : ℕ → List ℕ) → S.tells → HasLog self.old.uid_validity self.old.journal.items (S.files shelf.old) → IfErr result (λ e. EndsWith e guid self.old (command.Append 0 [] []) (S.files shelf.new)) }
+        ensures crash { (guid : ℕ → List ℕ) → S.tells → RestsAt self.old.uid_validity self.old.journal.items (S.may_leave shelf.old) → LeavesOnly S.moment S.left_since shelf.old shelf.new (LeavesCommand guid self.old (command.Append 0 [] []) self.new (Rose (S.fault_count shelf.old) (S.fault_count shelf.new))) }
+        ensures rest { S.tells → RestsAt self.old.uid_validity self.old.journal.items (S.may_leave shelf.old) → OnOk result (RestsAt self.old.uid_validity self.new.journal.items (S.may_leave shelf.new)) }
+        ensures rest_left { (guid : ℕ → List ℕ) → S.tells → RestsAt self.old.uid_validity self.old.journal.items (S.may_leave shelf.old) → IfErr result (λ e. (f : Folder) → S.may_leave shelf.new f → EndsHolding e guid self.old (command.Append 0 [] []) f) }
         ensures later { S.fault_count shelf.old ≤ S.fault_count shelf.new }
         ensures cause { IfErr result (λ e. IsDiskFault e (S.fault_count shelf.old) (S.fault_count shelf.new)) }
-        ensures clock_told { C.tells clock.old → C.tells clock.new }
-        ensures clock { C.tells clock.old → OnOk result (HasRead (length self.new.journal.items - length self.old.journal.items) (C.upcoming clock.old) (C.upcoming clock.new)) }
+        ensures clock { C.tells → OnOk result (HasRead (length self.new.journal.items - length self.old.journal.items) (C.upcoming clock.old) (C.upcoming clock.new)) }
     {
         if self.next_uid == END_OF_UIDS {
             return Ok(one_line(alloc, Reply::UidsUsedUp)?);
@@ -70,12 +68,11 @@ impl Serving {
         ensures err { OnErr result (standing_of self.new ≡ standing_of self.old) }
         ensures validity { self.new.uid_validity ≡ self.old.uid_validity }
         ensures one_more { OnOk result (length self.new.journal.items ≡ length self.old.journal.items + 1) }
-        ensures files { S.tells shelf.old → HasLog self.old.uid_validity self.old.journal.items (S.files shelf.old) → OnOk result (HasLog self.old.uid_validity self.new.journal.items (S.files shelf.new)) }
-        ensures files_left { (guid : ℕ → List ℕ) → S.tells shelf.old → HasLog self.old.uid_validity self.old.journal.items (S.files shelf.old) → IfErr result (λ e. EndsWith e guid self.old (command.Append 0 [] []) (S.files shelf.new)) }
-        ensures crash { (guid : ℕ → List ℕ) → S.tells shelf.old → RestsAt self.old.uid_validity self.old.journal.items (S.may_leave shelf.old) → LeavesOnly S.moment S.left_since shelf.old shelf.new (LeavesCommand guid self.old (command.Append 0 [] []) self.new (Rose (S.fault_count shelf.old) (S.fault_count shelf.new))) }
-        ensures rest { S.tells shelf.old → RestsAt self.old.uid_validity self.old.journal.items (S.may_leave shelf.old) → OnOk result (RestsAt self.old.uid_validity self.new.journal.items (S.may_leave shelf.new)) }
-        ensures rest_left { (guid : ℕ → List ℕ) → S.tells shelf.old → RestsAt self.old.uid_validity self.old.journal.items (S.may_leave shelf.old) → IfErr result (λ e. (f : Folder) → S.may_leave shelf.new f → EndsHolding e guid self.old (command.Append 0 [] []) f) }
-        ensures told { S.tells shelf.old → S.tells shelf.new }
+        ensures files { S.tells → HasLog self.old.uid_validity self.old.journal.items (S.files shelf.old) → OnOk result (HasLog self.old.uid_validity self.new.journal.items (S.files shelf.new)) }
+        ensures files_left { (guid : ℕ → List ℕ) → S.tells → HasLog self.old.uid_validity self.old.journal.items (S.files shelf.old) → IfErr result (λ e. EndsWith e guid self.old (command.Append 0 [] []) (S.files shelf.new)) }
+        ensures crash { (guid : ℕ → List ℕ) → S.tells → RestsAt self.old.uid_validity self.old.journal.items (S.may_leave shelf.old) → LeavesOnly S.moment S.left_since shelf.old shelf.new (LeavesCommand guid self.old (command.Append 0 [] []) self.new (Rose (S.fault_count shelf.old) (S.fault_count shelf.new))) }
+        ensures rest { S.tells → RestsAt self.old.uid_validity self.old.journal.items (S.may_leave shelf.old) → OnOk result (RestsAt self.old.uid_validity self.new.journal.items (S.may_leave shelf.new)) }
+        ensures rest_left { (guid : ℕ → List ℕ) → S.tells → RestsAt self.old.uid_validity self.old.journal.items (S.may_leave shelf.old) → IfErr result (λ e. (f : Folder) → S.may_leave shelf.new f → EndsHolding e guid self.old (command.Append 0 [] []) f) }
         ensures later { S.fault_count shelf.old ≤ S.fault_count shelf.new }
         ensures cause { IfErr result (λ e. IsDiskFault e (S.fault_count shelf.old) (S.fault_count shelf.new)) }
     {

@@ -129,13 +129,12 @@ fn new_serving(alloc: Global, now: u32) -> Serving
 
 /// Whether the folder has none of the files of a mailbox.
 fn is_new<S: Shelf>(alloc: Global, shelf: &mut S) -> Result<bool, CreateEnd>
-    ensures is { S.tells shelf.old → IfOk result (λ new. MatchBool new (IsNew (S.files shelf.old)) (IsNew (S.files shelf.old) → ⊥)) }
-    ensures files { S.tells shelf.old → S.files shelf.new ≡ S.files shelf.old }
-    ensures told { S.tells shelf.old → S.tells shelf.new }
+    ensures is { S.tells → IfOk result (λ new. MatchBool new (IsNew (S.files shelf.old)) (IsNew (S.files shelf.old) → ⊥)) }
+    ensures files { S.tells → S.files shelf.new ≡ S.files shelf.old }
     ensures later { S.fault_count shelf.old ≤ S.fault_count shelf.new }
     ensures cause { IfErr result (λ e. IsCreateFault e (S.fault_count shelf.old) (S.fault_count shelf.new)) }
-    ensures since { S.tells shelf.old → LeavesOnly S.moment S.left_since shelf.old shelf.new (S.may_leave shelf.old) }
-    ensures crash { S.tells shelf.old → FollowsNone (S.may_leave shelf.old) (S.may_leave shelf.new) }
+    ensures since { S.tells → LeavesOnly S.moment S.left_since shelf.old shelf.new (S.may_leave shelf.old) }
+    ensures crash { S.tells → FollowsNone (S.may_leave shelf.old) (S.may_leave shelf.new) }
     ensures not_later { IfErr result (λ e. e ≢ CreateEnd.Later) }
 {
     match shelf.list(alloc) {
@@ -152,20 +151,18 @@ pub fn create_folder<S: Shelf, C: Clock>(
     clock: &mut C,
 ) -> Result<Serving, CreateEnd>
     ensures serving { IfOk result IsServing }
-    ensures standing { C.tells clock.old → IfOk result (λ s. standing_of s ≡ new_standing (C.upcoming clock.old)) }
+    ensures standing { C.tells → IfOk result (λ s. standing_of s ≡ new_standing (C.upcoming clock.old)) }
     ensures journal { IfOk result (λ s. s.journal.items ≡ []) }
-    ensures validity { C.tells clock.old → IfOk result (λ s. s.uid_validity ≡ stamp (C.upcoming clock.old 0)) }
-    ensures files { S.tells shelf.old → IfOk result (λ s. HasLog s.uid_validity [] (S.files shelf.new) × IsNew (S.files shelf.old)) }
-    ensures files_left { S.tells shelf.old → C.tells clock.old → IfErr result (λ e. LeavesNew e (stamp (C.upcoming clock.old 0)) (S.files shelf.old) (S.files shelf.new)) }
-    ensures crash { S.tells shelf.old → C.tells clock.old → Only (S.files shelf.old) (S.may_leave shelf.old) →
+    ensures validity { C.tells → IfOk result (λ s. s.uid_validity ≡ stamp (C.upcoming clock.old 0)) }
+    ensures files { S.tells → IfOk result (λ s. HasLog s.uid_validity [] (S.files shelf.new) × IsNew (S.files shelf.old)) }
+    ensures files_left { S.tells → C.tells → IfErr result (λ e. LeavesNew e (stamp (C.upcoming clock.old 0)) (S.files shelf.old) (S.files shelf.new)) }
+    ensures crash { S.tells → C.tells → Only (S.files shelf.old) (S.may_leave shelf.old) →
         LeavesOnly S.moment S.left_since shelf.old shelf.new (LeavesMade (stamp (C.upcoming clock.old 0)) (S.files shelf.old)) }
-    ensures rest { S.tells shelf.old → IfOk result (λ s. RestsAt s.uid_validity [] (S.may_leave shelf.new)) }
-    ensures refused { S.tells shelf.old → IfErr result (λ e. e ≡ CreateEnd.Later → IsNew (S.files shelf.old) → ⊥) }
-    ensures told { S.tells shelf.old → S.tells shelf.new }
+    ensures rest { S.tells → IfOk result (λ s. RestsAt s.uid_validity [] (S.may_leave shelf.new)) }
+    ensures refused { S.tells → IfErr result (λ e. e ≡ CreateEnd.Later → IsNew (S.files shelf.old) → ⊥) }
     ensures later { S.fault_count shelf.old ≤ S.fault_count shelf.new }
     ensures cause { IfErr result (λ e. IsCreateFault e (S.fault_count shelf.old) (S.fault_count shelf.new)) }
-    ensures clock_told { C.tells clock.old → C.tells clock.new }
-    ensures clock { C.tells clock.old → OnOk result (HasRead 1 (C.upcoming clock.old) (C.upcoming clock.new)) }
+    ensures clock { C.tells → OnOk result (HasRead 1 (C.upcoming clock.old) (C.upcoming clock.new)) }
 {
     if !is_new(alloc, shelf)? {
         return Err(CreateEnd::Later);

@@ -103,9 +103,8 @@ fn last_line(alloc: Global, end: &End) -> Result<Bytes, NoMemory>
 /// Writes a text and gives the status, or 7 where the output fails.
 pub fn write_text<O: Sink>(out: &mut O, text: &[u8], status: u8) -> u8
     requires { status < 7 }
-    ensures text { O.tells out.old → ((result ≡ status) × Appends (O.taken out.old) (O.taken out.new) text.now) ⊎ ((result ≡ 7) × AppendsFront (O.taken out.old) (O.taken out.new) text.now) }
+    ensures text { O.tells → ((result ≡ status) × Appends (O.taken out.old) (O.taken out.new) text.now) ⊎ ((result ≡ 7) × AppendsFront (O.taken out.old) (O.taken out.new) text.now) }
     ensures status { (result ≡ status) ⊎ (result ≡ 7) }
-    ensures told { O.tells out.old → O.tells out.new }
     ensures later { O.fault_count out.old ≤ O.fault_count out.new }
     ensures cause { result ≡ 7 → Rose (O.fault_count out.old) (O.fault_count out.new) }
 {
@@ -118,9 +117,8 @@ pub fn write_text<O: Sink>(out: &mut O, text: &[u8], status: u8) -> u8
 /// Writes the last line of a run that ends so, where the output hasn't failed before, and gives
 /// the run's status. Where memory for the line runs out the line is that of status 4.
 pub fn conclude<O: Sink>(alloc: Global, out: &mut O, end: &End) -> u8
-    ensures text { O.tells out.old → Concludes end.now result (O.taken out.old) (O.taken out.new) }
+    ensures text { O.tells → Concludes end.now result (O.taken out.old) (O.taken out.new) }
     ensures status { IsStatus end.now result }
-    ensures told { O.tells out.old → O.tells out.new }
     ensures later { O.fault_count out.old ≤ O.fault_count out.new }
     ensures cause { result ≡ 7 → (end.now ≡ how.Sink) ⊎ Rose (O.fault_count out.old) (O.fault_count out.new) }
 {
@@ -136,9 +134,8 @@ pub fn conclude<O: Sink>(alloc: Global, out: &mut O, end: &End) -> u8
 /// Writes a last line that takes memory.
 fn write_formatted<O: Sink>(alloc: Global, out: &mut O, end: &End) -> u8
     requires { is_plain end.now ≡ false }
-    ensures text { O.tells out.old → Concludes end.now result (O.taken out.old) (O.taken out.new) }
+    ensures text { O.tells → Concludes end.now result (O.taken out.old) (O.taken out.new) }
     ensures status { IsStatus end.now result }
-    ensures told { O.tells out.old → O.tells out.new }
     ensures later { O.fault_count out.old ≤ O.fault_count out.new }
     ensures cause { result ≡ 7 → Rose (O.fault_count out.old) (O.fault_count out.new) }
 {

@@ -64,19 +64,16 @@ impl Serving {
         ensures err { (guid : ℕ → List ℕ) → IfErr result (λ e. StandsAfter e guid (standing_of self.old) line.now (standing_of self.new)) }
         ensures serving { OnOk result (IsServing self.new) }
         ensures validity { self.new.uid_validity ≡ self.old.uid_validity }
-        ensures output { (guid : ℕ → List ℕ) → O.tells out.old → OnOk result (Appends (O.taken out.old) (O.taken out.new) (answer_text line.now (step guid (standing_of self.old) line.now.command).replies)) }
-        ensures output_left { (guid : ℕ → List ℕ) → O.tells out.old → IfErr result (λ e. WroteSome e guid (standing_of self.old) line.now (O.taken out.old) (O.taken out.new)) }
-        ensures files { S.tells shelf.old → HasLog self.old.uid_validity self.old.journal.items (S.files shelf.old) → OnOk result (HasLog self.old.uid_validity self.new.journal.items (S.files shelf.new)) }
-        ensures files_left { (guid : ℕ → List ℕ) → S.tells shelf.old → HasLog self.old.uid_validity self.old.journal.items (S.files shelf.old) → IfErr result (λ e. FilesAfter e guid self.old.uid_validity (standing_of self.old) (standing_of self.new) line.now (S.files shelf.new)) }
-        ensures crash { (guid : ℕ → List ℕ) → S.tells shelf.old → RestsAt self.old.uid_validity self.old.journal.items (S.may_leave shelf.old) → LeavesOnly S.moment S.left_since shelf.old shelf.new (LeavesCommand guid self.old line.now.command self.new (Rose (S.fault_count shelf.old) (S.fault_count shelf.new))) }
-        ensures rest { S.tells shelf.old → RestsAt self.old.uid_validity self.old.journal.items (S.may_leave shelf.old) → OnOk result (RestsAt self.old.uid_validity self.new.journal.items (S.may_leave shelf.new)) }
-        ensures rest_left { (guid : ℕ → List ℕ) → S.tells shelf.old → RestsAt self.old.uid_validity self.old.journal.items (S.may_leave shelf.old) → IfErr result (λ e. (f : Folder) → S.may_leave shelf.new f → FilesAfter e guid self.old.uid_validity (standing_of self.old) (standing_of self.new) line.now f) }
-        ensures told { S.tells shelf.old → S.tells shelf.new }
-        ensures out_told { O.tells out.old → O.tells out.new }
+        ensures output { (guid : ℕ → List ℕ) → O.tells → OnOk result (Appends (O.taken out.old) (O.taken out.new) (answer_text line.now (step guid (standing_of self.old) line.now.command).replies)) }
+        ensures output_left { (guid : ℕ → List ℕ) → O.tells → IfErr result (λ e. WroteSome e guid (standing_of self.old) line.now (O.taken out.old) (O.taken out.new)) }
+        ensures files { S.tells → HasLog self.old.uid_validity self.old.journal.items (S.files shelf.old) → OnOk result (HasLog self.old.uid_validity self.new.journal.items (S.files shelf.new)) }
+        ensures files_left { (guid : ℕ → List ℕ) → S.tells → HasLog self.old.uid_validity self.old.journal.items (S.files shelf.old) → IfErr result (λ e. FilesAfter e guid self.old.uid_validity (standing_of self.old) (standing_of self.new) line.now (S.files shelf.new)) }
+        ensures crash { (guid : ℕ → List ℕ) → S.tells → RestsAt self.old.uid_validity self.old.journal.items (S.may_leave shelf.old) → LeavesOnly S.moment S.left_since shelf.old shelf.new (LeavesCommand guid self.old line.now.command self.new (Rose (S.fault_count shelf.old) (S.fault_count shelf.new))) }
+        ensures rest { S.tells → RestsAt self.old.uid_validity self.old.journal.items (S.may_leave shelf.old) → OnOk result (RestsAt self.old.uid_validity self.new.journal.items (S.may_leave shelf.new)) }
+        ensures rest_left { (guid : ℕ → List ℕ) → S.tells → RestsAt self.old.uid_validity self.old.journal.items (S.may_leave shelf.old) → IfErr result (λ e. (f : Folder) → S.may_leave shelf.new f → FilesAfter e guid self.old.uid_validity (standing_of self.old) (standing_of self.new) line.now f) }
         ensures later { (S.fault_count shelf.old ≤ S.fault_count shelf.new) × (O.fault_count out.old ≤ O.fault_count out.new) }
         ensures cause { IfErr result (λ e. IsFault e (S.fault_count shelf.old) (S.fault_count shelf.new) (O.fault_count out.old) (O.fault_count out.new)) }
-        ensures clock_told { C.tells clock.old → C.tells clock.new }
-        ensures clock { C.tells clock.old → OnOk result (HasRead (length self.new.journal.items - length self.old.journal.items) (C.upcoming clock.old) (C.upcoming clock.new)) }
+        ensures clock { C.tells → OnOk result (HasRead (length self.new.journal.items - length self.old.journal.items) (C.upcoming clock.old) (C.upcoming clock.new)) }
     {
         let replies = self.answer(alloc, shelf, clock, &line.command)?;
         let text = replies_text(alloc, line.session.as_slice(), &replies)?;
@@ -98,17 +95,15 @@ impl Serving {
     ) -> Result<(), LineEnd>
         requires serving { IsServing self.old }
         requires served { All (λ line. IsServed line.command) lines.now }
-        ensures serves { (guid : ℕ → List ℕ) → Serves guid self.old.uid_validity (standing_of self.old) lines.now result (standing_of self.new) (O.tells out.old)
-            (S.tells shelf.old × HasLog self.old.uid_validity self.old.journal.items (S.files shelf.old)) (O.taken out.old) (O.taken out.new) (S.files shelf.new) }
-        ensures crash { (guid : ℕ → List ℕ) → S.tells shelf.old → RestsAt self.old.uid_validity self.old.journal.items (S.may_leave shelf.old) → LeavesOnly S.moment S.left_since shelf.old shelf.new (LeavesLines guid self.old.uid_validity (standing_of self.old) lines.now (Rose (S.fault_count shelf.old) (S.fault_count shelf.new)) self.new.journal.items) }
-        ensures rest { S.tells shelf.old → RestsAt self.old.uid_validity self.old.journal.items (S.may_leave shelf.old) → OnOk result (RestsAt self.old.uid_validity self.new.journal.items (S.may_leave shelf.new)) }
-        ensures rest_left { (guid : ℕ → List ℕ) → S.tells shelf.old → RestsAt self.old.uid_validity self.old.journal.items (S.may_leave shelf.old) → (f : Folder) → S.may_leave shelf.new f →
-            Serves guid self.old.uid_validity (standing_of self.old) lines.now result (standing_of self.new) (O.tells out.old) (S.tells shelf.old) (O.taken out.old) (O.taken out.new) f }
-        ensures told { S.tells shelf.old → S.tells shelf.new }
-        ensures out_told { O.tells out.old → O.tells out.new }
+        ensures serves { (guid : ℕ → List ℕ) → Serves guid self.old.uid_validity (standing_of self.old) lines.now result (standing_of self.new) (O.tells)
+            (S.tells × HasLog self.old.uid_validity self.old.journal.items (S.files shelf.old)) (O.taken out.old) (O.taken out.new) (S.files shelf.new) }
+        ensures crash { (guid : ℕ → List ℕ) → S.tells → RestsAt self.old.uid_validity self.old.journal.items (S.may_leave shelf.old) → LeavesOnly S.moment S.left_since shelf.old shelf.new (LeavesLines guid self.old.uid_validity (standing_of self.old) lines.now (Rose (S.fault_count shelf.old) (S.fault_count shelf.new)) self.new.journal.items) }
+        ensures rest { S.tells → RestsAt self.old.uid_validity self.old.journal.items (S.may_leave shelf.old) → OnOk result (RestsAt self.old.uid_validity self.new.journal.items (S.may_leave shelf.new)) }
+        ensures rest_left { (guid : ℕ → List ℕ) → S.tells → RestsAt self.old.uid_validity self.old.journal.items (S.may_leave shelf.old) → (f : Folder) → S.may_leave shelf.new f →
+            Serves guid self.old.uid_validity (standing_of self.old) lines.now result (standing_of self.new) (O.tells) (S.tells) (O.taken out.old) (O.taken out.new) f }
         ensures later { (S.fault_count shelf.old ≤ S.fault_count shelf.new) × (O.fault_count out.old ≤ O.fault_count out.new) }
         ensures cause { IfErr result (λ e. IsFault e (S.fault_count shelf.old) (S.fault_count shelf.new) (O.fault_count out.old) (O.fault_count out.new)) }
-        ensures clock { C.tells clock.old → OnOk result (HasRead (length self.new.journal.items - length self.old.journal.items) (C.upcoming clock.old) (C.upcoming clock.new)) }
+        ensures clock { C.tells → OnOk result (HasRead (length self.new.journal.items - length self.old.journal.items) (C.upcoming clock.old) (C.upcoming clock.new)) }
     {
         let mut number = 0u32;
         for line in lines {

@@ -74,7 +74,7 @@ fn words_behind(words: &[String]) -> &[String]
 /// are answered on standard error too.
 fn serve<O: Sink>(rt: HostRuntime, out: &mut O, shelf: Folder, words: &[String]) -> u8
     ensures usage { is_run (map string_bytes words.now) ≡ false → (result ≡ 1) ⊎ (result ≡ 7) }
-    ensures usage_output { is_run (map string_bytes words.now) ≡ false → O.tells out.old → Prints 1 usage_text result (O.taken out.old) (O.taken out.new) }
+    ensures usage_output { is_run (map string_bytes words.now) ≡ false → O.tells → Prints 1 usage_text result (O.taken out.old) (O.taken out.new) }
     ensures usage_only { result ≡ 1 → is_run (map string_bytes words.now) ≡ false }
     ensures sink { result ≡ 7 → Rose (O.fault_count out.old) (O.fault_count out.new) }
     ensures small { result ≤ 7 }
@@ -97,12 +97,12 @@ fn serve<O: Sink>(rt: HostRuntime, out: &mut O, shelf: Folder, words: &[String])
 /// where they aren't `--help` or `--version`. The first word is the folder's path; where there is
 /// none, there are no words behind it either.
 pub fn obey<O: Sink>(rt: HostRuntime, out: &mut O, words: &[String]) -> u8
-    ensures help { asks_for HELP_WORD.now (map string_bytes words.now) ≡ true → O.tells out.old → Prints 0 HELP.now result (O.taken out.old) (O.taken out.new) }
-    ensures version { asks_for HELP_WORD.now (map string_bytes words.now) ≡ false → asks_for VERSION_WORD.now (map string_bytes words.now) ≡ true → O.tells out.old → Prints 0 VERSION.now result (O.taken out.old) (O.taken out.new) }
+    ensures help { asks_for HELP_WORD.now (map string_bytes words.now) ≡ true → O.tells → Prints 0 HELP.now result (O.taken out.old) (O.taken out.new) }
+    ensures version { asks_for HELP_WORD.now (map string_bytes words.now) ≡ false → asks_for VERSION_WORD.now (map string_bytes words.now) ≡ true → O.tells → Prints 0 VERSION.now result (O.taken out.old) (O.taken out.new) }
     ensures usage { asks_for HELP_WORD.now (map string_bytes words.now) ≡ false → asks_for VERSION_WORD.now (map string_bytes words.now) ≡ false →
         is_run (run_words (map string_bytes words.now)) ≡ false → (result ≡ 1) ⊎ (result ≡ 4) ⊎ (result ≡ 7) }
     ensures usage_output { asks_for HELP_WORD.now (map string_bytes words.now) ≡ false → asks_for VERSION_WORD.now (map string_bytes words.now) ≡ false →
-        is_run (run_words (map string_bytes words.now)) ≡ false → O.tells out.old → Prints 1 usage_text result (O.taken out.old) (O.taken out.new) ⊎ Prints 4 memory_text result (O.taken out.old) (O.taken out.new) }
+        is_run (run_words (map string_bytes words.now)) ≡ false → O.tells → Prints 1 usage_text result (O.taken out.old) (O.taken out.new) ⊎ Prints 4 memory_text result (O.taken out.old) (O.taken out.new) }
     ensures usage_only { result ≡ 1 → is_run (run_words (map string_bytes words.now)) ≡ false }
     ensures sink { result ≡ 7 → Rose (O.fault_count out.old) (O.fault_count out.new) }
     ensures small { result ≤ 7 }

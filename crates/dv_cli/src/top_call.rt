@@ -46,11 +46,10 @@ fn is_run_word(words: &[String]) -> bool
 
 /// The lines of the script.
 fn script_lines<I: Source>(alloc: Global, script: &mut I) -> Result<List<Line>, End>
-    ensures lines { I.tells script.old → IfOk result (λ lines. parsed (I.left script.old) ≡ Ok lines) }
+    ensures lines { I.tells → IfOk result (λ lines. parsed (I.left script.old) ≡ Ok lines) }
     ensures served { IfOk result (λ lines. All (λ line. IsServed line.command) lines) }
-    ensures err { I.tells script.old → IfErr result (λ e. IsScriptEnd e (I.left script.old) (I.fault_count script.old) (I.fault_count script.new)) }
-    ensures told { I.tells script.old → I.tells script.new }
-    ensures bound { I.tells script.old → (taken : List ℕ) × (I.left script.old ≡ taken ++ I.left script.new) × (length taken ≤ read_limit) }
+    ensures err { I.tells → IfErr result (λ e. IsScriptEnd e (I.left script.old) (I.fault_count script.old) (I.fault_count script.new)) }
+    ensures bound { I.tells → (taken : List ℕ) × (I.left script.old ≡ taken ++ I.left script.new) × (length taken ≤ read_limit) }
     ensures later { I.fault_count script.old ≤ I.fault_count script.new }
     ensures cause { IfErr result (λ e. IsReadEnd e (I.fault_count script.old) (I.fault_count script.new)) }
 {
@@ -81,17 +80,15 @@ fn serve_folder<S: Shelf, C: Clock, O: Sink, G: Gate>(
     gate: &G,
 ) -> Outcome
     requires { All (λ line. IsServed line.command) lines.now }
-    ensures run { C.tells clock.old → FolderRun (C.upcoming clock.old) lines.now result.end result.journal (O.tells out.old) (S.tells shelf.old) (O.taken out.old) (O.taken out.new) (S.files shelf.old) (S.files shelf.new) }
-    ensures cause { EndCause result.end (S.fault_count shelf.old) (S.fault_count shelf.new) (O.fault_count out.old) (O.fault_count out.new) (S.tells shelf.old → IsNew (S.files shelf.old)) (S.tells shelf.old → IsNew (S.files shelf.old) → ⊥) }
-    ensures crash { C.tells clock.old → S.tells shelf.old → Only (S.files shelf.old) (S.may_leave shelf.old) → LeavesOnly S.moment S.left_since shelf.old shelf.new
+    ensures run { C.tells → FolderRun (C.upcoming clock.old) lines.now result.end result.journal (O.tells) (S.tells) (O.taken out.old) (O.taken out.new) (S.files shelf.old) (S.files shelf.new) }
+    ensures cause { EndCause result.end (S.fault_count shelf.old) (S.fault_count shelf.new) (O.fault_count out.old) (O.fault_count out.new) (S.tells → IsNew (S.files shelf.old)) (S.tells → IsNew (S.files shelf.old) → ⊥) }
+    ensures crash { C.tells → S.tells → Only (S.files shelf.old) (S.may_leave shelf.old) → LeavesOnly S.moment S.left_since shelf.old shelf.new
         (MayLeave (C.upcoming clock.old) lines.now (Rose (S.fault_count shelf.old) (S.fault_count shelf.new)) result.journal (S.files shelf.old)) }
-    ensures after { C.tells clock.old → S.tells shelf.old → Only (S.files shelf.old) (S.may_leave shelf.old) → (c : Folder) → S.may_leave shelf.new c →
+    ensures after { C.tells → S.tells → Only (S.files shelf.old) (S.may_leave shelf.old) → (c : Folder) → S.may_leave shelf.new c →
         MayLeaveAfter (C.upcoming clock.old) lines.now (Rose (S.fault_count shelf.old) (S.fault_count shelf.new)) result.journal (S.files shelf.old) c }
-    ensures durable { C.tells clock.old → S.tells shelf.old → IsAnswered result.end → (c : Folder) → S.may_leave shelf.new c → FindsAt (log_of (C.upcoming clock.old) result.journal) (length result.journal) c }
-    ensures told { S.tells shelf.old → S.tells shelf.new }
-    ensures out_told { O.tells out.old → O.tells out.new }
+    ensures durable { C.tells → S.tells → IsAnswered result.end → (c : Folder) → S.may_leave shelf.new c → FindsAt (log_of (C.upcoming clock.old) result.journal) (length result.journal) c }
     ensures later { (S.fault_count shelf.old ≤ S.fault_count shelf.new) × (O.fault_count out.old ≤ O.fault_count out.new) }
-    ensures clock { C.tells clock.old → IsAnswered result.end → HasRead (1 + length result.journal) (C.upcoming clock.old) (C.upcoming clock.new) }
+    ensures clock { C.tells → IsAnswered result.end → HasRead (1 + length result.journal) (C.upcoming clock.old) (C.upcoming clock.new) }
 {
     let mut serving = match create_folder(alloc, shelf, clock) {
         Ok(serving) => serving,
@@ -149,22 +146,21 @@ fn whole<S: Shelf, I: Source, O: Sink, C: Clock, G: Gate>(
     gate: &G,
 ) -> Outcome
     ensures usage { is_run (map string_bytes words.now) ≡ false → (result.end ≡ how.Usage) × Untouched shelf.old shelf.new out.old out.new clock.old clock.new result.journal }
-    ensures refused { is_run (map string_bytes words.now) ≡ true → I.tells script.old → (fault : ScriptEnd) → parsed (I.left script.old) ≡ Err fault →
+    ensures refused { is_run (map string_bytes words.now) ≡ true → I.tells → (fault : ScriptEnd) → parsed (I.left script.old) ≡ Err fault →
         IsScriptEnd result.end (I.left script.old) (I.fault_count script.old) (I.fault_count script.new) × Untouched shelf.old shelf.new out.old out.new clock.old clock.new result.journal }
-    ensures run { is_run (map string_bytes words.now) ≡ true → I.tells script.old → C.tells clock.old → (lines : List Line) → parsed (I.left script.old) ≡ Ok lines →
+    ensures run { is_run (map string_bytes words.now) ≡ true → I.tells → C.tells → (lines : List Line) → parsed (I.left script.old) ≡ Ok lines →
         (IsScriptEnd result.end (I.left script.old) (I.fault_count script.old) (I.fault_count script.new) × Untouched shelf.old shelf.new out.old out.new clock.old clock.new result.journal)
-        ⊎ FolderRun (C.upcoming clock.old) lines result.end result.journal (O.tells out.old) (S.tells shelf.old) (O.taken out.old) (O.taken out.new) (S.files shelf.old) (S.files shelf.new) }
-    ensures crash { is_run (map string_bytes words.now) ≡ true → I.tells script.old → C.tells clock.old → S.tells shelf.old → Only (S.files shelf.old) (S.may_leave shelf.old) → (lines : List Line) → parsed (I.left script.old) ≡ Ok lines →
+        ⊎ FolderRun (C.upcoming clock.old) lines result.end result.journal (O.tells) (S.tells) (O.taken out.old) (O.taken out.new) (S.files shelf.old) (S.files shelf.new) }
+    ensures crash { is_run (map string_bytes words.now) ≡ true → I.tells → C.tells → S.tells → Only (S.files shelf.old) (S.may_leave shelf.old) → (lines : List Line) → parsed (I.left script.old) ≡ Ok lines →
         LeavesOnly S.moment S.left_since shelf.old shelf.new (MayLeave (C.upcoming clock.old) lines (Rose (S.fault_count shelf.old) (S.fault_count shelf.new)) result.journal (S.files shelf.old)) }
-    ensures after { is_run (map string_bytes words.now) ≡ true → I.tells script.old → C.tells clock.old → S.tells shelf.old → Only (S.files shelf.old) (S.may_leave shelf.old) → (lines : List Line) → parsed (I.left script.old) ≡ Ok lines →
+    ensures after { is_run (map string_bytes words.now) ≡ true → I.tells → C.tells → S.tells → Only (S.files shelf.old) (S.may_leave shelf.old) → (lines : List Line) → parsed (I.left script.old) ≡ Ok lines →
         (c : Folder) → S.may_leave shelf.new c → MayLeaveAfter (C.upcoming clock.old) lines (Rose (S.fault_count shelf.old) (S.fault_count shelf.new)) result.journal (S.files shelf.old) c }
-    ensures durable { C.tells clock.old → S.tells shelf.old → IsAnswered result.end → (c : Folder) → S.may_leave shelf.new c → FindsAt (log_of (C.upcoming clock.old) result.journal) (length result.journal) c }
+    ensures durable { C.tells → S.tells → IsAnswered result.end → (c : Folder) → S.may_leave shelf.new c → FindsAt (log_of (C.upcoming clock.old) result.journal) (length result.journal) c }
     ensures cause { Cause result.end (counts_of (S.fault_count shelf.old) (S.fault_count shelf.new) (I.fault_count script.old) (I.fault_count script.new)) (O.fault_count out.old) (O.fault_count out.new) (map string_bytes words.now)
-        (λ e. I.tells script.old → (e ≡ script_end.NoMemory) ⊎ (parsed (I.left script.old) ≡ Err e)) (S.tells shelf.old → IsNew (S.files shelf.old)) (S.tells shelf.old → IsNew (S.files shelf.old) → ⊥) }
-    ensures out_told { O.tells out.old → O.tells out.new }
+        (λ e. I.tells → (e ≡ script_end.NoMemory) ⊎ (parsed (I.left script.old) ≡ Err e)) (S.tells → IsNew (S.files shelf.old)) (S.tells → IsNew (S.files shelf.old) → ⊥) }
     ensures later { (S.fault_count shelf.old ≤ S.fault_count shelf.new) × (O.fault_count out.old ≤ O.fault_count out.new) × (I.fault_count script.old ≤ I.fault_count script.new) }
-    ensures bound { I.tells script.old → (taken : List ℕ) × (I.left script.old ≡ taken ++ I.left script.new) × (length taken ≤ read_limit) }
-    ensures clock { C.tells clock.old → IsAnswered result.end → HasRead (1 + length result.journal) (C.upcoming clock.old) (C.upcoming clock.new) }
+    ensures bound { I.tells → (taken : List ℕ) × (I.left script.old ≡ taken ++ I.left script.new) × (length taken ≤ read_limit) }
+    ensures clock { C.tells → IsAnswered result.end → HasRead (1 + length result.journal) (C.upcoming clock.old) (C.upcoming clock.new) }
 {
     if !is_run_word(words) {
         return Outcome {
@@ -196,56 +192,56 @@ pub fn run<S: Shelf + Send, I: Source, O: Sink, C: Clock + Send, G: Gate + Sync>
 ) -> Ran<S, C>
     // Each reply is the session rules' answer over a prefix of the one log that the journal is, line after line; the
     // bytes written are these replies and the last line.
-    ensures serial { is_run (map string_bytes words.now) ≡ true → I.tells script.old → C.tells clock → O.tells out.old → (lines : List Line) → parsed (I.left script.old) ≡ Ok lines →
-        IsSerialRun result.status (S.fault_count shelf) (counts_of (S.fault_count shelf) (S.fault_count result.shelf) (I.fault_count script.old) (I.fault_count script.new)) (S.tells shelf → IsNew (S.files shelf) → ⊥)
+    ensures serial { is_run (map string_bytes words.now) ≡ true → I.tells → C.tells → O.tells → (lines : List Line) → parsed (I.left script.old) ≡ Ok lines →
+        IsSerialRun result.status (S.fault_count shelf) (counts_of (S.fault_count shelf) (S.fault_count result.shelf) (I.fault_count script.old) (I.fault_count script.new)) (S.tells → IsNew (S.files shelf) → ⊥)
         (C.upcoming clock) lines result.journal (O.taken out.old) (O.taken out.new) }
 
     // The folder left is found as the log behind its last entry; where the run ended early, as before or so, or with the
     // group of the command that the disk cut short.
-    ensures found { C.tells clock → S.tells shelf → I.tells script.old → result.status ≡ 0 → FindsAt (log_of (C.upcoming clock) result.journal) (length result.journal) (S.files result.shelf) }
-    ensures folder { is_run (map string_bytes words.now) ≡ true → I.tells script.old → C.tells clock → S.tells shelf → (lines : List Line) → parsed (I.left script.old) ≡ Ok lines →
+    ensures found { C.tells → S.tells → I.tells → result.status ≡ 0 → FindsAt (log_of (C.upcoming clock) result.journal) (length result.journal) (S.files result.shelf) }
+    ensures folder { is_run (map string_bytes words.now) ≡ true → I.tells → C.tells → S.tells → (lines : List Line) → parsed (I.left script.old) ≡ Ok lines →
         Leaves (C.upcoming clock) lines result.status result.journal (S.files shelf) (S.files result.shelf) }
 
     // Of a folder that was settled before: after a crash at any moment of the run it is as before or found as the log behind
     // some of the journal's first entries; after a crash behind the run, as that behind all of them. Where the disk failed
     // there is perhaps the group of the line behind the answered ones too; where every line was answered never.
-    ensures crash { is_run (map string_bytes words.now) ≡ true → I.tells script.old → C.tells clock → S.tells shelf → Only (S.files shelf) (S.may_leave shelf) → (lines : List Line) → parsed (I.left script.old) ≡ Ok lines →
+    ensures crash { is_run (map string_bytes words.now) ≡ true → I.tells → C.tells → S.tells → Only (S.files shelf) (S.may_leave shelf) → (lines : List Line) → parsed (I.left script.old) ≡ Ok lines →
         LeavesOnly S.moment S.left_since shelf result.shelf (MayLeave (C.upcoming clock) lines (Rose (S.fault_count shelf) (S.fault_count result.shelf)) result.journal (S.files shelf)) }
-    ensures after { is_run (map string_bytes words.now) ≡ true → I.tells script.old → C.tells clock → S.tells shelf → Only (S.files shelf) (S.may_leave shelf) → (lines : List Line) → parsed (I.left script.old) ≡ Ok lines →
+    ensures after { is_run (map string_bytes words.now) ≡ true → I.tells → C.tells → S.tells → Only (S.files shelf) (S.may_leave shelf) → (lines : List Line) → parsed (I.left script.old) ≡ Ok lines →
         (c : Folder) → S.may_leave result.shelf c → MayLeaveAfter (C.upcoming clock) lines (Rose (S.fault_count shelf) (S.fault_count result.shelf)) result.journal (S.files shelf) c }
-    ensures durable { C.tells clock → S.tells shelf → result.status ≡ 0 → (c : Folder) → S.may_leave result.shelf c → FindsAt (log_of (C.upcoming clock) result.journal) (length result.journal) c }
+    ensures durable { C.tells → S.tells → result.status ≡ 0 → (c : Folder) → S.may_leave result.shelf c → FindsAt (log_of (C.upcoming clock) result.journal) (length result.journal) c }
 
     // Words that aren't those of a run, and a script that is refused, leave the folder untouched.
     ensures usage { is_run (map string_bytes words.now) ≡ false → ((result.status ≡ 1) ⊎ (result.status ≡ 7)) × (result.journal ≡ []) × (result.shelf ≡ shelf) }
-    ensures usage_output { is_run (map string_bytes words.now) ≡ false → O.tells out.old →
+    ensures usage_output { is_run (map string_bytes words.now) ≡ false → O.tells →
         ((result.status ≡ 1) × Appends (O.taken out.old) (O.taken out.new) usage_text) ⊎ ((result.status ≡ 7) × AppendsFront (O.taken out.old) (O.taken out.new) usage_text) }
-    ensures refused { is_run (map string_bytes words.now) ≡ true → I.tells script.old → (fault : ScriptEnd) → parsed (I.left script.old) ≡ Err fault →
+    ensures refused { is_run (map string_bytes words.now) ≡ true → I.tells → (fault : ScriptEnd) → parsed (I.left script.old) ≡ Err fault →
         (result.journal ≡ []) × (result.shelf ≡ shelf) × ((result.status ≡ 5) ⊎ (result.status ≡ 4) ⊎ Rose (I.fault_count script.old) (I.fault_count script.new) ⊎ Rose (O.fault_count out.old) (O.fault_count out.new)) }
-    ensures refused_output { is_run (map string_bytes words.now) ≡ true → I.tells script.old → O.tells out.old → (fault : ScriptEnd) → parsed (I.left script.old) ≡ Err fault →
+    ensures refused_output { is_run (map string_bytes words.now) ≡ true → I.tells → O.tells → (fault : ScriptEnd) → parsed (I.left script.old) ≡ Err fault →
         Refuses result.status fault (I.fault_count script.old) (I.fault_count script.new) (O.taken out.old) (O.taken out.new) }
 
     // What each status comes from.
     ensures usage_only { result.status ≡ 1 → is_run (map string_bytes words.now) ≡ false }
     ensures disk { result.status ≡ 2 → Rose (S.fault_count shelf) (S.fault_count result.shelf) }
-    ensures later_only { result.status ≡ 3 → S.tells shelf → IsNew (S.files shelf) → ⊥ }
-    ensures refused_only { result.status ≡ 5 → I.tells script.old → (fault : ScriptEnd) × (parsed (I.left script.old) ≡ Err fault) }
+    ensures later_only { result.status ≡ 3 → S.tells → IsNew (S.files shelf) → ⊥ }
+    ensures refused_only { result.status ≡ 5 → I.tells → (fault : ScriptEnd) × (parsed (I.left script.old) ≡ Err fault) }
     ensures source { result.status ≡ 6 → Rose (I.fault_count script.old) (I.fault_count script.new) }
     ensures sink { result.status ≡ 7 → Rose (O.fault_count out.old) (O.fault_count out.new) }
-    ensures later { is_run (map string_bytes words.now) ≡ true → I.tells script.old → S.tells shelf → (lines : List Line) → parsed (I.left script.old) ≡ Ok lines → (IsNew (S.files shelf) → ⊥) →
+    ensures later { is_run (map string_bytes words.now) ≡ true → I.tells → S.tells → (lines : List Line) → parsed (I.left script.old) ≡ Ok lines → (IsNew (S.files shelf) → ⊥) →
         (result.status ≡ 3) ⊎ (result.status ≡ 4) ⊎ Rose (S.fault_count shelf) (S.fault_count result.shelf) ⊎ Rose (I.fault_count script.old) (I.fault_count script.new) ⊎ Rose (O.fault_count out.old) (O.fault_count out.new) }
 
     // Of a good script over a new folder each line is answered, unless memory runs out or something outside fails.
-    ensures complete { is_run (map string_bytes words.now) ≡ true → I.tells script.old → S.tells shelf → (lines : List Line) → parsed (I.left script.old) ≡ Ok lines → IsNew (S.files shelf) →
+    ensures complete { is_run (map string_bytes words.now) ≡ true → I.tells → S.tells → (lines : List Line) → parsed (I.left script.old) ≡ Ok lines → IsNew (S.files shelf) →
         (result.status ≡ 0) ⊎ (result.status ≡ 4) ⊎ Rose (S.fault_count shelf) (S.fault_count result.shelf) ⊎ Rose (I.fault_count script.old) (I.fault_count script.new) ⊎ Rose (O.fault_count out.old) (O.fault_count out.new) }
 
     // Without want of memory and with nothing failed the output is a function of the folder, the script and the clock.
-    ensures output { I.tells script.old → S.tells shelf → C.tells clock → O.tells out.old → (new : Bool) → MatchBool new (IsNew (S.files shelf)) (IsNew (S.files shelf) → ⊥) → result.status ≢ 4 →
+    ensures output { I.tells → S.tells → C.tells → O.tells → (new : Bool) → MatchBool new (IsNew (S.files shelf)) (IsNew (S.files shelf) → ⊥) → result.status ≢ 4 →
         Stayed (S.fault_count shelf) (S.fault_count result.shelf) → Stayed (I.fault_count script.old) (I.fault_count script.new) → Stayed (O.fault_count out.old) (O.fault_count out.new) →
         Appends (O.taken out.old) (O.taken out.new) (output_of (map string_bytes words.now) new (I.left script.old) (C.upcoming clock)) }
 
     // At most one byte more than the longest script is read; the clock is read once for the folder and once for each message.
-    ensures bound { I.tells script.old → (taken : List ℕ) × (I.left script.old ≡ taken ++ I.left script.new) × (length taken ≤ read_limit) }
-    ensures readings { C.tells clock → result.status ≡ 0 → HasRead (1 + length result.journal) (C.upcoming clock) (C.upcoming result.clock) }
+    ensures bound { I.tells → (taken : List ℕ) × (I.left script.old ≡ taken ++ I.left script.new) × (length taken ≤ read_limit) }
+    ensures readings { C.tells → result.status ≡ 0 → HasRead (1 + length result.journal) (C.upcoming clock) (C.upcoming result.clock) }
     ensures small { result.status ≤ 7 }
 {
     let mut shelf = shelf;

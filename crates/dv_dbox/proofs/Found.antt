@@ -11,12 +11,13 @@ use Rattle.std.proofs.lemmas.List.Splits.{join_with_byte-slice_split}
 use Rattle.std.proofs.lemmas.List.Sums.{AllPass-from_list_all, fails_before_first, list_all-from_AllPass, passes_at_first, split_at_first}
 use Rattle.std.proofs.lemmas.Slice.Eq.{bytes_eq-Decides}
 use Rattle.dv_fields.proofs.FirstLines.{position-some}
-use Rattle.dv_model.specs.BoxTexts.{◌>>=◌, are_hex, AreEntries, AreFields, BadEnd, BadHeader, BadMessageHeader, BadMetadata, BadSize, before_empty, box_content, BoxContent, BoxFault, BoxText, content_from, end_at, entries_of, entries_text, fields_of, fields_text, first_line, guid_number, header_at, header_size, hex_number, is_entry, is_feed, is_field, is_header_size, is_item, is_other, is_space, IsMessageHeader, line_stamp, message_at, size_at, size_text, stamp_of, trailer, value_at, value_of}
+use Rattle.dv_dbox.specs.BoxTexts.{◌>>=◌, are_hex, AreEntries, AreFields, BadEnd, BadHeader, BadMessageHeader, BadMetadata, BadSize, before_empty, box_content, BoxContent, BoxFault, BoxText, content_from, end_at, entries_of, entries_text, fields_of, fields_text, first_line, guid_number, header_at, header_size, hex_number, is_entry, is_feed, is_field, is_header_size, is_item, is_other, is_space, IsMessageHeader, line_stamp, message_at, size_at, size_text, stamp_of, trailer, value_at, value_of}
 use Rattle.dv_dbox.proofs.Again.{ended, is_plain, is_unended, regrouped, spaced}
 
 -- ---- steps that did not fail
 
-bind_ok : {A B : Type 0} (r : Result A BoxFault) (f : A → Result B BoxFault) (y : B) → (r >>= f) ≡ Ok y → (x : A) × (r ≡ Ok x) × (f x ≡ Ok y)
+bind_ok : {A B : Type 0} (r : Result A BoxFault) (f : A → Result B BoxFault) (y : B)
+    → (r >>= f) ≡ Ok y → (x : A) × (r ≡ Ok x) × (f x ≡ Ok y)
 bind_ok (Ok x) f y e = (x, refl, e)
 bind_ok (Err d) f y e = absurd cc
 
@@ -24,21 +25,25 @@ ok_some : {A : Type 0} (o : Option A) (d : BoxFault) (x : A) → ok_or o d ≡ O
 ok_some None d x e = absurd cc
 ok_some {A = A} (Some y) d x e = let same : y ≡ x = cc in ap (λ (z : A). Some z) same
 
-then_some : {A B : Type 0} (f : A → Option B) (o : Option A) (y : B) → option_and_then f o ≡ Some y → (x : A) × (o ≡ Some x) × (f x ≡ Some y)
+then_some : {A B : Type 0} (f : A → Option B) (o : Option A) (y : B) → option_and_then f o ≡ Some y
+    → (x : A) × (o ≡ Some x) × (f x ≡ Some y)
 then_some f None y e = absurd cc
 then_some f (Some x) y e = (x, refl, e)
 
-map_some : {A B : Type 0} (f : A → B) (o : Option A) (y : B) → option_map f o ≡ Some y → (x : A) × (o ≡ Some x) × (f x ≡ y)
+map_some : {A B : Type 0} (f : A → B) (o : Option A) (y : B) → option_map f o ≡ Some y
+    → (x : A) × (o ≡ Some x) × (f x ≡ y)
 map_some f None y e = absurd cc
 map_some f (Some x) y e = let same : f x ≡ y = cc in (x, refl, same)
 
-guard_some : {A : Type 0} (b : Bool) (o : Option A) (y : A) → cond b o None ≡ Some y → (b ≡ true) × (o ≡ Some y)
+guard_some : {A : Type 0} (b : Bool) (o : Option A) (y : A) → cond b o None ≡ Some y
+    → (b ≡ true) × (o ≡ Some y)
 guard_some true o y e = (refl, e)
 guard_some false o y e = absurd cc
 
 -- ---- the first line
 
-first_parts : (text line rest : List ℕ) → first_line text ≡ Some (line, rest) → (text ≡ line ++ 10 ∷ rest) × (list_all is_unended line ≡ true)
+first_parts : (text line rest : List ℕ) → first_line text ≡ Some (line, rest)
+    → (text ≡ line ++ 10 ∷ rest) × (list_all is_unended line ≡ true)
 first_parts text line rest e = by_place (position is_feed text) refl e
   where
     by_place : (o : Option ℕ) → position is_feed text ≡ o → option_map {U = List ℕ × List ℕ} (λ i. (take i text, drop (i + 1) text)) o ≡ Some (line, rest) → (text ≡ line ++ 10 ∷ rest) × (list_all is_unended line ≡ true)
@@ -60,7 +65,8 @@ first_parts text line rest e = by_place (position is_feed text) refl e
 abbrev is_free : (ℕ → Bool) → List ℕ → Bool
 is_free p part = list_all (λ b. not (p b)) part
 
-onto_free : (p : ℕ → Bool) (b : ℕ) (parts : List (List ℕ)) → p b ≡ false → list_all (is_free p) parts ≡ true → list_all (is_free p) (onto_first b parts) ≡ true
+onto_free : (p : ℕ → Bool) (b : ℕ) (parts : List (List ℕ)) → p b ≡ false
+    → list_all (is_free p) parts ≡ true → list_all (is_free p) (onto_first b parts) ≡ true
 onto_free p b [] e h = rw e refl
 onto_free p b (part ∷ parts) e h = rw e h
 
@@ -68,22 +74,27 @@ parts_free : (p : ℕ → Bool) (text : List ℕ) → list_all (is_free p) (slic
 parts_free p [] = refl
 parts_free p (b ∷ text) = by_byte (p b) refl (parts_free p text)
   where
-    by_byte : (t : Bool) → p b ≡ t → list_all (is_free p) (slice_split p text) ≡ true → list_all (is_free p) (cond t ([] ∷ slice_split p text) (onto_first b (slice_split p text))) ≡ true
+    by_byte : (t : Bool) → p b ≡ t → list_all (is_free p) (slice_split p text) ≡ true
+        → list_all (is_free p) (cond t ([] ∷ slice_split p text) (onto_first b (slice_split p text))) ≡ true
     by_byte true e h = h
     by_byte false e h = onto_free p b (slice_split p text) e h
 
-joined : (word : List ℕ) (fields : List (List ℕ)) → join_with_byte 32 (word ∷ fields) ≡ word ++ spaced fields
+joined : (word : List ℕ) (fields : List (List ℕ))
+    → join_with_byte 32 (word ∷ fields) ≡ word ++ spaced fields
 joined word [] = sym (append-nil word)
 joined word (field ∷ fields) = ap (λ (text : List ℕ). word ++ 32 ∷ text) (joined field fields)
 
-plain_of : (text : List ℕ) → is_free is_space text ≡ true → list_all is_unended text ≡ true → list_all is_plain text ≡ true
+plain_of : (text : List ℕ) → is_free is_space text ≡ true → list_all is_unended text ≡ true
+    → list_all is_plain text ≡ true
 plain_of [] a b = refl
 plain_of (c ∷ text) a b =
     let first = and_parts (not (is_space c)) (is_free is_space text) a in
     let second = and_parts (is_unended c) (list_all is_unended text) b in
     rw (first.0, second.0, plain_of text first.1 second.1) refl
 
-fields_of_parts : (fields : List (List ℕ)) → list_all is_item fields ≡ true → list_all (is_free is_space) fields ≡ true → list_all is_unended (spaced fields) ≡ true → list_all is_field fields ≡ true
+fields_of_parts : (fields : List (List ℕ)) → list_all is_item fields ≡ true
+    → list_all (is_free is_space) fields ≡ true → list_all is_unended (spaced fields) ≡ true
+    → list_all is_field fields ≡ true
 fields_of_parts [] items free unended = refl
 fields_of_parts (field ∷ fields) items free unended =
     let first = and_parts (is_item field) (list_all is_item fields) items in
@@ -96,7 +107,8 @@ record HasFields (stamp : ℕ) (line : List ℕ) : Type 0 where
   pub spelled : line ≡ 50 ∷ spaced fields
   pub are : AreFields stamp fields
 
-fields_found : (stamp : ℕ) (line : List ℕ) → list_all is_unended line ≡ true → line_stamp line ≡ Some stamp → HasFields stamp line
+fields_found : (stamp : ℕ) (line : List ℕ) → list_all is_unended line ≡ true
+    → line_stamp line ≡ Some stamp → HasFields stamp line
 fields_found stamp line unended e = by_parts (slice_split is_space line) refl
   where
     by_parts : (parts : List (List ℕ)) → slice_split is_space line ≡ parts → HasFields stamp line
@@ -139,7 +151,9 @@ header_found b x e =
 
 -- ---- the message header
 
-head_is : (head : List ℕ) → length head ≡ 30 → take 4 head ≡ 1 ∷ 2 ∷ 78 ∷ 32 ∷ [] → slice_index head 12 ≡ 32 → slice_index head 29 ≡ 10 → head ≡ size_text (take 8 (drop 4 head)) (take 16 (drop 13 head))
+head_is : (head : List ℕ) → length head ≡ 30 → take 4 head ≡ 1 ∷ 2 ∷ 78 ∷ 32 ∷ []
+    → slice_index head 12 ≡ 32 → slice_index head 29 ≡ 10
+    → head ≡ size_text (take 8 (drop 4 head)) (take 16 (drop 13 head))
 head_is head long mark space feed =
     let nothing : drop 30 head ≡ [] = drop_all 30 head (omega arith) in
     let last : drop 29 head ≡ 10 ∷ [] = drop_more head 29 0 (omega arith) ∙ ap (λ (b : ℕ). b ∷ drop 30 head) feed ∙ ap (λ (text : List ℕ). 10 ∷ text) nothing in
@@ -154,7 +168,8 @@ record HasSize (size : ℕ) (b rest : List ℕ) : Type 0 where
   pub spelled : b ≡ size_text filler sized ++ rest
   pub is : IsMessageHeader size filler sized
 
-size_of_head : (head : List ℕ) (size : ℕ) (rest : List ℕ) → header_size head ≡ Some size → HasSize size (head ++ rest) rest
+size_of_head : (head : List ℕ) (size : ℕ) (rest : List ℕ) → header_size head ≡ Some size
+    → HasSize size (head ++ rest) rest
 size_of_head head size rest e =
     let tests = guard_some (eqb (length head) 30 && bytes_eq (take 4 head) (1 ∷ 2 ∷ 78 ∷ 32 ∷ []) && eqb (slice_index head 12) 32 && eqb (slice_index head 29) 10) (hex_number 16 (take 16 (drop 13 head))) size e in
     let three = and_parts (eqb (length head) 30 && bytes_eq (take 4 head) (1 ∷ 2 ∷ 78 ∷ 32 ∷ []) && eqb (slice_index head 12) 32) (eqb (slice_index head 29) 10) tests.0 in
@@ -182,7 +197,8 @@ size_found b x e =
 
 -- ---- the message
 
-message_found : (size : ℕ) (b : List ℕ) (x : List ℕ × List ℕ) → message_at size b ≡ Ok x → (b ≡ x.0 ++ x.1) × (length x.0 ≡ size)
+message_found : (size : ℕ) (b : List ℕ) (x : List ℕ × List ℕ) → message_at size b ≡ Ok x
+    → (b ≡ x.0 ++ x.1) × (length x.0 ≡ size)
 message_found size b x e = by_length (ltb (length b) size) refl e
   where
     by_length : (t : Bool) → ltb (length b) size ≡ t → cond {A = Result (List ℕ × List ℕ) BoxFault} t (Err BadSize) (Ok (take size b, drop size b)) ≡ Ok x → (b ≡ x.0 ++ x.1) × (length x.0 ≡ size)
@@ -208,13 +224,16 @@ record IsBefore (entries parts : List (List ℕ)) : Type 0 where
   pub more : List (List ℕ)
   pub spelled : parts ≡ entries ++ [] ∷ part ∷ more
 
-before_parts : (parts entries : List (List ℕ)) → before_empty parts ≡ Some entries → IsBefore entries parts
+before_parts : (parts entries : List (List ℕ)) → before_empty parts ≡ Some entries
+    → IsBefore entries parts
 before_parts [] entries e = absurd cc
 before_parts (part ∷ []) entries e = absurd cc
 before_parts (part ∷ next ∷ parts) entries e = by_part (eqb (length part) 0) refl e (λ others. before_parts (next ∷ parts) others)
   where
-    by_part : (t : Bool) → eqb (length part) 0 ≡ t → cond t (Some []) (option_map (λ others. part ∷ others) (before_empty (next ∷ parts))) ≡ Some entries
-        → ((others : List (List ℕ)) → before_empty (next ∷ parts) ≡ Some others → IsBefore others (next ∷ parts)) → IsBefore entries (part ∷ next ∷ parts)
+    by_part : (t : Bool) → eqb (length part) 0 ≡ t
+        → cond t (Some []) (option_map (λ others. part ∷ others) (before_empty (next ∷ parts))) ≡ Some entries
+        → ((others : List (List ℕ)) → before_empty (next ∷ parts) ≡ Some others → IsBefore others (next ∷ parts))
+        → IsBefore entries (part ∷ next ∷ parts)
     by_part true h f more =
         let none : part ≡ [] = nil_from_length part (eqb-true _ _ h) in
         let nothing : [] ≡ entries = cc in
@@ -224,18 +243,21 @@ before_parts (part ∷ next ∷ parts) entries e = by_part (eqb (length part) 0)
         let is = more others.0 others.1 in
         record { part = is.part; more = is.more; spelled = ap (λ (ps : List (List ℕ)). part ∷ ps) is.spelled ∙ ap (λ (es : List (List ℕ)). es ++ [] ∷ is.part ∷ is.more) others.2 }
 
-joined_more : (part : List ℕ) (parts : List (List ℕ)) → 0 < length parts → join_with_byte 10 (part ∷ parts) ≡ part ++ 10 ∷ join_with_byte 10 parts
+joined_more : (part : List ℕ) (parts : List (List ℕ)) → 0 < length parts
+    → join_with_byte 10 (part ∷ parts) ≡ part ++ 10 ∷ join_with_byte 10 parts
 joined_more part [] some = absurd (omega arith)
 joined_more part (next ∷ parts) some = refl
 
-joined_lines : (entries : List (List ℕ)) (part : List ℕ) (more : List (List ℕ)) → join_with_byte 10 (entries ++ [] ∷ part ∷ more) ≡ entries_text entries ++ join_with_byte 10 (part ∷ more)
+joined_lines : (entries : List (List ℕ)) (part : List ℕ) (more : List (List ℕ))
+    → join_with_byte 10 (entries ++ [] ∷ part ∷ more) ≡ entries_text entries ++ join_with_byte 10 (part ∷ more)
 joined_lines [] part more = refl
 joined_lines (entry ∷ entries) part more =
     joined_more entry (entries ++ [] ∷ part ∷ more) (omega (arith, length-append entries ([] ∷ part ∷ more)))
     ∙ ap (λ (text : List ℕ). entry ++ 10 ∷ text) (joined_lines entries part more)
     ∙ sym (regrouped entry (ended entries) (join_with_byte 10 (part ∷ more)))
 
-entries_of_parts : (entries : List (List ℕ)) → list_all is_item entries ≡ true → list_all (is_free is_feed) entries ≡ true → list_all is_entry entries ≡ true
+entries_of_parts : (entries : List (List ℕ)) → list_all is_item entries ≡ true
+    → list_all (is_free is_feed) entries ≡ true → list_all is_entry entries ≡ true
 entries_of_parts [] items free = refl
 entries_of_parts (entry ∷ entries) items free =
     let first = and_parts (is_item entry) (list_all is_item entries) items in
@@ -247,7 +269,8 @@ record HasEntries (entries : List (List ℕ)) (b : List ℕ) : Type 0 where
   pub spelled : b ≡ entries_text entries ++ rest
   pub each : list_all is_entry entries ≡ true
 
-entries_found : (b : List ℕ) (entries : List (List ℕ)) → entries_of b ≡ Some entries → HasEntries entries b
+entries_found : (b : List ℕ) (entries : List (List ℕ)) → entries_of b ≡ Some entries
+    → HasEntries entries b
 entries_found b entries e =
     let lines = then_some (λ lines. cond (list_all is_item lines) (Some lines) None) (before_empty (slice_split is_feed b)) entries e in
     let items = guard_some (list_all is_item lines.0) (Some lines.0) entries lines.2 in
@@ -258,7 +281,8 @@ entries_found b entries e =
     let front = and_parts (list_all (is_free is_feed) lines.0) (list_all (is_free is_feed) ([] ∷ is.part ∷ is.more)) (sym (list_all-append (is_free is_feed) lines.0 ([] ∷ is.part ∷ is.more)) ∙ free) in
     subst (λ (es : List (List ℕ)). HasEntries es b) same (record { rest = join_with_byte 10 (is.part ∷ is.more); spelled = whole; each = entries_of_parts lines.0 items.0 front.0 })
 
-abbrev content_with : ℕ → List ℕ → List (List ℕ) → Option (List ℕ) → Option ℕ → Option ℕ → Option ℕ → BoxContent
+abbrev content_with : ℕ → List ℕ → List (List ℕ) → Option (List ℕ) → Option ℕ → Option ℕ → Option ℕ
+    → BoxContent
 content_with stamp bytes entries guid received physical as_sent =
     record { stamp = stamp; bytes = bytes; guid = guid; received = received; physical = physical; virtual_size = as_sent; others = filter is_other entries }
 
@@ -267,7 +291,9 @@ record HasContent (stamp : ℕ) (bytes : List ℕ) (entries : List (List ℕ)) (
   pub held : m.bytes ≡ bytes
   pub are : AreEntries m entries
 
-content_found : (stamp : ℕ) (bytes : List ℕ) (entries : List (List ℕ)) (m : BoxContent) → list_all is_entry entries ≡ true → content_from stamp bytes entries ≡ Ok m → HasContent stamp bytes entries m
+content_found : (stamp : ℕ) (bytes : List ℕ) (entries : List (List ℕ)) (m : BoxContent)
+    → list_all is_entry entries ≡ true → content_from stamp bytes entries ≡ Ok m
+    → HasContent stamp bytes entries m
 content_found stamp bytes entries m each e =
     let guid = bind_ok (value_at guid_number 71 entries) (λ guid. value_at (hex_number 16) 82 entries >>= λ received. value_at (hex_number 16) 90 entries >>= λ physical. value_at (hex_number 16) 86 entries >>= λ as_sent. Ok (content_with stamp bytes entries guid received physical as_sent)) m e in
     let received = bind_ok (value_at (hex_number 16) 82 entries) (λ received. value_at (hex_number 16) 90 entries >>= λ physical. value_at (hex_number 16) 86 entries >>= λ as_sent. Ok (content_with stamp bytes entries guid.0 received physical as_sent)) m guid.2 in

@@ -9,23 +9,26 @@ use Rattle.hex.specs.declared.error.FromHexError.{FromHexError}
 use Rattle.std.specs.Char.{digit_char}
 use Rattle.std.specs.Prelude.{slice_index}
 use Rattle.hex.specs.Hex.{IsBytes, encode_lower, encode_with, lower_digits, decode_pairs, decode_sized, hex_digit_value, pair_value, ◌>>=◌}
-use Rattle.dv_model.specs.BoxTexts.{are_hex, guid_number, is_hex, paired, pairs_text}
+use Rattle.dv_dbox.specs.BoxTexts.{are_hex, guid_number, is_hex, paired, pairs_text}
 
 digit_is : (c : ℕ) → hex_digit_value c ≡ cond (is_hex c) (Some (digit_value c)) None
 digit_is c = grind (arith, nat_tests)
 
-first_of_more : (byte : ℕ) (read : Result (List ℕ) FromHexError) → result_ok (read >>= λ bytes. Ok (byte ∷ bytes)) ≡ option_map (λ bytes. byte ∷ bytes) (result_ok read)
+first_of_more : (byte : ℕ) (read : Result (List ℕ) FromHexError)
+    → result_ok (read >>= λ bytes. Ok (byte ∷ bytes)) ≡ option_map (λ bytes. byte ∷ bytes) (result_ok read)
 first_of_more byte (Ok bytes) = refl
 first_of_more byte (Err e) = refl
 
-step : (i h l : ℕ) (rest : List ℕ) (read : Result (List ℕ) FromHexError) (a b r : Bool) → is_hex h ≡ a → is_hex l ≡ b → result_ok read ≡ cond r (Some (paired rest)) None
+step : (i h l : ℕ) (rest : List ℕ) (read : Result (List ℕ) FromHexError) (a b r : Bool)
+    → is_hex h ≡ a → is_hex l ≡ b → result_ok read ≡ cond r (Some (paired rest)) None
     → result_ok (pair_value h l i >>= λ byte. read >>= λ bytes. Ok (byte ∷ bytes)) ≡ cond (a && (b && r)) (Some (paired (h ∷ l ∷ rest))) None
 step i h l rest read false b r e f g = rw (digit_is h, e) refl
 step i h l rest read true false r e f g = rw (digit_is h, digit_is l, e, f) refl
 step i h l rest read true true false e f g = rw (digit_is h, digit_is l, e, f) (first_of_more (digit_value h * 16 + digit_value l) read ∙ rw g refl)
 step i h l rest read true true true e f g = rw (digit_is h, digit_is l, e, f) (first_of_more (digit_value h * 16 + digit_value l) read ∙ rw g refl)
 
-pairs : (i : ℕ) (text : List ℕ) → length text % 2 ≡ 0 → result_ok (decode_pairs i text) ≡ cond (are_hex text) (Some (paired text)) None
+pairs : (i : ℕ) (text : List ℕ) → length text % 2 ≡ 0
+    → result_ok (decode_pairs i text) ≡ cond (are_hex text) (Some (paired text)) None
 unfolding decode_pairs
 pairs i [] even = refl
 pairs i (h ∷ []) even = absurd (omega arith)
@@ -35,13 +38,15 @@ pairs i (h ∷ l ∷ rest) even = step i h l rest (decode_pairs (i + 2) rest) (i
 pub guid_is : (text : List ℕ) → result_ok (decode_sized text 16) ≡ guid_number text
 guid_is text = by_length (eqb (length text) 32) refl
   where
-    by_length : (t : Bool) → eqb (length text) 32 ≡ t → result_ok (decode_sized text 16) ≡ guid_number text
+    by_length : (t : Bool) → eqb (length text) 32 ≡ t
+        → result_ok (decode_sized text 16) ≡ guid_number text
     by_length true e =
         let long : length text ≡ 32 = eqb-true _ _ e in
         rw long (pairs 0 text (rw long refl))
     by_length false e = wrong (eqb (length text % 2) 1) (eqb (length text / 2) 16) refl refl
       where
-        wrong : (u v : Bool) → eqb (length text % 2) 1 ≡ u → eqb (length text / 2) 16 ≡ v → result_ok (decode_sized text 16) ≡ guid_number text
+        wrong : (u v : Bool) → eqb (length text % 2) 1 ≡ u → eqb (length text / 2) 16 ≡ v
+            → result_ok (decode_sized text 16) ≡ guid_number text
         wrong true v f g = rw (f, e) refl
         wrong false false f g = rw (f, g, e) refl
         wrong false true f g = absurd (omega (arith, eqb-true _ _ g, eqb-false _ _ f, eqb-false _ _ e))

@@ -12,7 +12,7 @@ use Rattle.std.proofs.lemmas.List.{append-nil, length-append, length-replicate}
 use Rattle.std.proofs.lemmas.List.Sums.{AllPass-from_list_all, count_by-le-length}
 use Rattle.std.proofs.Math.Nat.{pow-suc}
 use Rattle.dv_model.specs.Fields.{is_bare_feed, virtual_size, with_previous}
-use Rattle.dv_model.specs.BoxTexts.{are_hex, AreEntries, AreFields, BoxText, entries_text, fields_text, first_line_text, guid_number, hex_number, hex_text, is_entry, is_field, is_hex, IsMessageHeader, message_header_text, metadata_text, paired, pairs_text, trailer, wide_hex_text, written}
+use Rattle.dv_dbox.specs.BoxTexts.{are_hex, AreEntries, AreFields, BoxText, entries_text, fields_text, first_line_text, guid_number, hex_number, hex_text, is_entry, is_field, is_hex, IsMessageHeader, message_header_text, metadata_text, paired, pairs_text, trailer, wide_hex_text, written}
 use Rattle.dv_dbox.specs.Reading.{written_content}
 use Rattle.dv_dbox.proofs.Again.{is_plain, is_unended}
 
@@ -46,12 +46,14 @@ positive zero m lt some = absurd (omega arith)
 positive (suc j) m lt some = omega arith
 
 -- a number below 16 ^ j has at most j digits
-few_digits : (k n j : ℕ) (after : List ℕ) → 0 < j → n < 16 ^ j → length (digits_onto k 16 false n after) ≤ length after + j
+few_digits : (k n j : ℕ) (after : List ℕ) → 0 < j → n < 16 ^ j
+    → length (digits_onto k 16 false n after) ≤ length after + j
 few_digits zero n j after some lt = omega arith
 few_digits (suc k) n zero after some lt = absurd (omega arith)
 few_digits (suc k) n (suc j) after some lt = by_rest (eqb (n / 16) 0) refl (λ less more. few_digits k (n / 16) j (digit_glyph false (n % 16) ∷ after) more less)
   where
-    by_rest : (t : Bool) → eqb (n / 16) 0 ≡ t → (n / 16 < 16 ^ j → 0 < j → length (digits_onto k 16 false (n / 16) (digit_glyph false (n % 16) ∷ after)) ≤ suc (length after) + j)
+    by_rest : (t : Bool) → eqb (n / 16) 0 ≡ t
+        → (n / 16 < 16 ^ j → 0 < j → length (digits_onto k 16 false (n / 16) (digit_glyph false (n % 16) ∷ after)) ≤ suc (length after) + j)
         → length (cond t (digit_glyph false (n % 16) ∷ after) (digits_onto k 16 false (n / 16) (digit_glyph false (n % 16) ∷ after))) ≤ length after + suc j
     by_rest true e more = omega arith
     by_rest false e more =
@@ -80,7 +82,8 @@ number n lt =
     let is = digits_is_IsNumeral 16 false (omega arith) (omega arith) n far in
     record { some = is.0.0; digits = is.0.1; value = is.1 }
 
-number_is : (j n : ℕ) → 0 < j → j ≤ 16 → n < 16 ^ j → n < 2 ^ 64 → hex_number j (hex_text n) ≡ Some n
+number_is : (j n : ℕ) → 0 < j → j ≤ 16 → n < 16 ^ j → n < 2 ^ 64
+    → hex_number j (hex_text n) ≡ Some n
 number_is j n some most below lt =
     let is = number n lt in
     let fits = wide_enough j n some below in
@@ -118,7 +121,8 @@ pairs_back (b ∷ bytes) h =
     let whole : b / 16 * 16 + b % 16 ≡ b = omega arith in
     record { hex = rw (first_hex, second_hex, more.hex) refl; back = rw (high, low, whole, more.back) refl }
 
-guid_is : (guid : List ℕ) → length guid ≡ 16 → ((i : ℕ) → get_or guid i 0 < 256) → guid_number (pairs_text guid) ≡ Some guid
+guid_is : (guid : List ℕ) → length guid ≡ 16 → ((i : ℕ) → get_or guid i 0 < 256)
+    → guid_number (pairs_text guid) ≡ Some guid
 guid_is guid long fits =
     let are = pairs_back guid fits in
     let wide : length (pairs_text guid) ≡ 32 = omega (arith, pairs_long guid) in
@@ -130,7 +134,8 @@ zeros_hex : (k : ℕ) (text : List ℕ) → are_hex text ≡ true → are_hex (r
 zeros_hex zero text h = h
 zeros_hex (suc k) text h = zeros_hex k text h
 
-zeros_value : (k : ℕ) (text : List ℕ) → digits_value 16 (replicate k 48 ++ text) ≡ digits_value 16 text
+zeros_value : (k : ℕ) (text : List ℕ)
+    → digits_value 16 (replicate k 48 ++ text) ≡ digits_value 16 text
 zeros_value zero text = refl
 zeros_value (suc k) text = zeros_value k text
 
@@ -160,14 +165,17 @@ written_entries guid received physical as_sent =
 first_line_is_written : (stamp : ℕ) → first_line_text stamp ≡ fields_text (written_fields stamp)
 first_line_is_written stamp = ap (λ (text : List ℕ). codes "2 M1e C" ++ (text ++ 10 ∷ [])) (sym (append-nil (hex_text stamp)))
 
-four_lines : (a b c d : List ℕ) → a ++ (b ++ (c ++ (d ++ 10 ∷ []))) ≡ (a ++ (b ++ (c ++ (d ++ [])))) ++ 10 ∷ []
+four_lines : (a b c d : List ℕ)
+    → a ++ (b ++ (c ++ (d ++ 10 ∷ []))) ≡ (a ++ (b ++ (c ++ (d ++ [])))) ++ 10 ∷ []
 four_lines a b c d = rw append-nil (simp append_assoc)
 
-entries_are_written : (guid : List ℕ) (received physical as_sent : ℕ) → metadata_text guid received physical as_sent ≡ entries_text (written_entries guid received physical as_sent)
+entries_are_written : (guid : List ℕ) (received physical as_sent : ℕ)
+    → metadata_text guid received physical as_sent ≡ entries_text (written_entries guid received physical as_sent)
 entries_are_written guid received physical as_sent =
     four_lines (71 ∷ (pairs_text guid ++ 10 ∷ [])) (82 ∷ (hex_text received ++ 10 ∷ [])) (90 ∷ (hex_text physical ++ 10 ∷ [])) (86 ∷ (hex_text as_sent ++ 10 ∷ []))
 
-regrouped : (a b c d e rest : List ℕ) → (a ++ (b ++ (c ++ (d ++ e)))) ++ rest ≡ a ++ (b ++ (c ++ (d ++ (e ++ rest))))
+regrouped : (a b c d e rest : List ℕ)
+    → (a ++ (b ++ (c ++ (d ++ e)))) ++ rest ≡ a ++ (b ++ (c ++ (d ++ (e ++ rest))))
 regrouped a b c d e rest = simp append_assoc
 
 fields_fit : (stamp : ℕ) → stamp < 2 ^ 32 → AreFields stamp (written_fields stamp)
@@ -180,7 +188,8 @@ fields_fit stamp lt =
       made = number_is 8 stamp (omega arith) (omega arith) lt (omega arith);
     }
 
-with_previous_long : (previous : ℕ) (bytes : List ℕ) → length (with_previous previous bytes) ≡ length bytes
+with_previous_long : (previous : ℕ) (bytes : List ℕ)
+    → length (with_previous previous bytes) ≡ length bytes
 with_previous_long previous [] = refl
 with_previous_long previous (b ∷ bytes) = ap suc (with_previous_long b bytes)
 
@@ -188,7 +197,8 @@ with_previous_long previous (b ∷ bytes) = ap suc (with_previous_long b bytes)
 virtual_size_fits : (message : List ℕ) → length message < 2 ^ 63 → virtual_size message < 2 ^ 64
 virtual_size_fits message lt = omega (arith, count_by-le-length is_bare_feed (with_previous 0 message), with_previous_long 0 message)
 
-entries_fit : (stamp : ℕ) (guid : List ℕ) (received : ℕ) (message : List ℕ) → received < 2 ^ 32 → length guid ≡ 16 → ((i : ℕ) → get_or guid i 0 < 256) → length message < 2 ^ 63
+entries_fit : (stamp : ℕ) (guid : List ℕ) (received : ℕ) (message : List ℕ) → received < 2 ^ 32
+    → length guid ≡ 16 → ((i : ℕ) → get_or guid i 0 < 256) → length message < 2 ^ 63
     → AreEntries (written_content stamp guid received message) (written_entries guid received (length message) (virtual_size message))
 entries_fit stamp guid received message below long fits short =
     let entries = written_entries guid received (length message) (virtual_size message) in
@@ -207,7 +217,9 @@ entries_fit stamp guid received message below long fits short =
     }
 
 -- what is written is of the format, whatever follows it
-pub written_is_text : (stamp : ℕ) (guid : List ℕ) (received : ℕ) (message rest : List ℕ) → stamp < 2 ^ 32 → received < 2 ^ 32 → length guid ≡ 16 → ((i : ℕ) → get_or guid i 0 < 256) → length message < 2 ^ 63
+pub written_is_text : (stamp : ℕ) (guid : List ℕ) (received : ℕ) (message rest : List ℕ)
+    → stamp < 2 ^ 32 → received < 2 ^ 32 → length guid ≡ 16 → ((i : ℕ) → get_or guid i 0 < 256)
+    → length message < 2 ^ 63
     → BoxText (written_content stamp guid received message) (written stamp guid received message ++ rest)
 written_is_text stamp guid received message rest made below long fits short =
     let size = length message in

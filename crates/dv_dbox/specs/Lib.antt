@@ -1,1 +1,3 @@
+pub mod BoxTexts
 pub mod Reading
+pub mod Mails

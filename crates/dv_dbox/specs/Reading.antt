@@ -1,9 +1,9 @@
 -- What a reader of a message file answers.
-use Rattle.std.specs.Prelude.{◌≡◌, ℕ, List, [], map, Some, Result, Ok, Err}
+use Rattle.std.specs.Prelude.{◌≡◌, ◌^◌, ◌<◌, ℕ, List, [], length, slice_index, map, Some, Result, Ok, Err}
 use Rattle.std.specs.Borrow.{Bor}
 use Rattle.dv_model.specs.Fields.{physical_size, virtual_size}
-use Rattle.dv_model.specs.BoxTexts.{BoxContent}
-use Rattle.dv_model.specs.BoxTexts.{BoxFault as Broken, BadHeader as HeaderBroken, BadMessageHeader as MessageHeaderBroken, BadSize as SizeBroken, BadEnd as EndBroken, BadMetadata as MetadataBroken}
+use Rattle.dv_dbox.specs.BoxTexts.{BoxContent}
+use Rattle.dv_dbox.specs.BoxTexts.{BoxFault as Broken, BadHeader as HeaderBroken, BadMessageHeader as MessageHeaderBroken, BadSize as SizeBroken, BadEnd as EndBroken, BadMetadata as MetadataBroken}
 use Rattle.dv_dbox.specs.declared.fault.BoxEnd.{BoxEnd}
 use Rattle.dv_dbox.specs.declared.fault.BoxEnd.TheVariants as ends
 use Rattle.dv_dbox.specs.declared.fault.BoxFault.{BoxFault}
@@ -22,6 +22,14 @@ content_of m = record { stamp = m.stamp; bytes = m.bytes; guid = m.guid; receive
 abbrev pub written_content : ℕ → List ℕ → ℕ → List ℕ → BoxContent
 written_content stamp guid received message =
     record { stamp = stamp; bytes = message; guid = Some guid; received = Some received; physical = Some (physical_size message); virtual_size = Some (virtual_size message); others = [] }
+
+-- what a file is written of: times of 32 bits, a GUID of sixteen bytes, and a message that a slice can hold
+pub record IsWritable (stamp : ℕ) (guid : List ℕ) (received : ℕ) (message : List ℕ) : Type 0 where
+  pub made : stamp < 2 ^ 32
+  pub came : received < 2 ^ 32
+  pub sixteen : length guid ≡ 16
+  pub bytes : (i : ℕ) → slice_index guid i < 256
+  pub short : length message < 2 ^ 63
 
 -- the fault as the format names it
 abbrev pub broken : BoxFault → Broken

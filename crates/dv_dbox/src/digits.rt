@@ -1,6 +1,6 @@
 ghost use Rattle.std.specs.Prelude.{◌≡◌, ◌≤◌, ◌<◌, ◌^◌, IfSome, MatchOption};
 ghost use Rattle.std.specs.Char.{digit_value};
-ghost use Rattle.dv_model.specs.BoxTexts.{guid_number, hex_number};
+ghost use Rattle.dv_dbox.specs.BoxTexts.{guid_number, hex_number};
 
 use hex::FromHex;
 

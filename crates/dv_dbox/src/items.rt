@@ -1,7 +1,7 @@
 ghost use Rattle.std.specs.Prelude.{◌≡◌, ◌<◌, length, position, IfSome};
 ghost use Rattle.std.specs.List.{list_all};
 ghost use Rattle.std.specs.Option.{option_map};
-ghost use Rattle.dv_model.specs.BoxTexts.{first_line, is_feed, is_item};
+ghost use Rattle.dv_dbox.specs.BoxTexts.{first_line, is_feed, is_item};
 ghost use Rattle.dv_dbox.specs.Reading.{texts};
 
 /// The place of the first line feed.

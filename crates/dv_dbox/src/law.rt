@@ -1,15 +1,17 @@
-ghost use Rattle.std.specs.Prelude.{◌≡◌, ◌^◌, ◌<◌, ◌++◌, ℕ, List, length, slice_index};
-ghost use Rattle.dv_model.specs.BoxTexts.{box_content, BoxContent, BoxText, written};
-ghost use Rattle.dv_dbox.specs.Reading.{written_content};
+ghost use Rattle.std.specs.Prelude.{◌≡◌, ◌++◌, ℕ, List};
+ghost use Rattle.dv_dbox.specs.BoxTexts.{box_content, BoxContent, BoxText, written};
+ghost use Rattle.dv_dbox.specs.Reading.{written_content, IsWritable};
 
 /// What is written is of the format, and is read back, whatever follows it.
 pub fn written_is_read()
-    ensures spelled { (stamp received : ℕ) (guid message rest : List ℕ) → stamp < 2 ^ 32 → received < 2 ^ 32
-        → length guid ≡ 16 → ((i : ℕ) → slice_index guid i < 256) → length message < 2 ^ 63
-        → BoxText (written_content stamp guid received message) (written stamp guid received message ++ rest) }
-    ensures read { (stamp received : ℕ) (guid message rest : List ℕ) → stamp < 2 ^ 32 → received < 2 ^ 32
-        → length guid ≡ 16 → ((i : ℕ) → slice_index guid i < 256) → length message < 2 ^ 63
-        → box_content (written stamp guid received message ++ rest) ≡ Ok (written_content stamp guid received message) }
+    ensures spelled { (stamp received : ℕ) (guid message rest : List ℕ)
+        → IsWritable stamp guid received message
+        → BoxText (written_content stamp guid received message)
+        (written stamp guid received message ++ rest) }
+    ensures read { (stamp received : ℕ) (guid message rest : List ℕ)
+        → IsWritable stamp guid received message
+        → box_content (written stamp guid received message ++ rest)
+        ≡ Ok (written_content stamp guid received message) }
 {}
 
 /// A file is of the format in at most one way.

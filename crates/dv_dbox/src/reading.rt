@@ -1,8 +1,8 @@
 ghost use Rattle.std.specs.Prelude.{◌≡◌, filter, IfOk};
 ghost use Rattle.std.specs.List.{slice_split};
 ghost use Rattle.std.specs.Option.{option_and_then, option_copied, ok_or};
-ghost use Rattle.dv_model.specs.BoxTexts.{before_empty, box_content, BoxContent, BoxText, content_from, end_at, entries_of, fields_of, guid_number, header_at, header_size, hex_number, is_feed, is_header_size, is_other, is_space, message_at, read_at, size_at, stamp_of};
-ghost use Rattle.dv_model.specs.BoxTexts.{BadMetadata as MetadataBroken};
+ghost use Rattle.dv_dbox.specs.BoxTexts.{before_empty, box_content, BoxContent, BoxText, content_from, end_at, entries_of, fields_of, guid_number, header_at, header_size, hex_number, is_feed, is_header_size, is_other, is_space, message_at, read_at, size_at, stamp_of};
+ghost use Rattle.dv_dbox.specs.BoxTexts.{BadMetadata as MetadataBroken};
 ghost use Rattle.dv_dbox.specs.Reading.{content_of, texts, Gives, Reads};
 
 use crate::digits::{guid_of, hex_number};
@@ -118,7 +118,8 @@ fn end_of(b: &[u8]) -> Result<&[u8], BoxFault>
 
 /// The lines before the first empty one.
 fn lines_of(alloc: Global, b: &[u8]) -> Result<Vec<&[u8]>, BoxEnd>
-    ensures { Gives (λ lines. texts lines.items) result (ok_or (before_empty (slice_split is_feed b.now)) MetadataBroken) }
+    ensures { Gives (λ lines. texts lines.items) result
+        (ok_or (before_empty (slice_split is_feed b.now)) MetadataBroken) }
 {
     let mut lines = Vec::new(alloc);
     let mut rest = b;
@@ -134,7 +135,8 @@ fn lines_of(alloc: Global, b: &[u8]) -> Result<Vec<&[u8]>, BoxEnd>
 
 /// The lines of the metadata.
 fn entries_of(alloc: Global, b: &[u8]) -> Result<Vec<&[u8]>, BoxEnd>
-    ensures { Gives (λ entries. texts entries.items) result (ok_or (entries_of b.now) MetadataBroken) }
+    ensures { Gives (λ entries. texts entries.items) result
+        (ok_or (entries_of b.now) MetadataBroken) }
 {
     let lines = lines_of(alloc, b)?;
     if !are_items(&lines) {

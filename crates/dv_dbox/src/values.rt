@@ -1,6 +1,6 @@
 ghost use Rattle.std.specs.Prelude.{◌≡◌};
 ghost use Rattle.std.specs.Option.{option_copied};
-ghost use Rattle.dv_model.specs.BoxTexts.{value_of};
+ghost use Rattle.dv_dbox.specs.BoxTexts.{value_of};
 ghost use Rattle.dv_dbox.specs.Reading.{texts};
 
 /// The value of the first item of this key.

@@ -1,5 +1,5 @@
 ghost use Rattle.std.specs.Prelude.{◌≡◌, ◌++◌, IfOk, string_bytes};
-ghost use Rattle.dv_model.specs.BoxTexts.{first_line_text, message_header_text, metadata_text, trailer, written};
+ghost use Rattle.dv_dbox.specs.BoxTexts.{first_line_text, message_header_text, metadata_text, trailer, written};
 
 use dv_fields::{physical, virtual_size};
 use dv_model::{Bytes, NoMemory};
@@ -7,7 +7,8 @@ use std::alloc::{AllocError, Global};
 
 /// The first line and the message header.
 fn head_of(alloc: Global, stamp: u32, size: u64) -> Result<String, AllocError>
-    ensures { IfOk result (λ head. string_bytes head ≡ first_line_text stamp ++ message_header_text size) }
+    ensures { IfOk result
+        (λ head. string_bytes head ≡ first_line_text stamp ++ message_header_text size) }
 {
     format!(in alloc; "2 M1e C{stamp:x}\n\x01\x02N          {size:016x}\n")
 }
@@ -20,7 +21,8 @@ fn tail_of(
     size: u64,
     as_sent: u64,
 ) -> Result<String, AllocError>
-    ensures { IfOk result (λ tail. string_bytes tail ≡ trailer ++ metadata_text guid.now received size as_sent) }
+    ensures { IfOk result
+        (λ tail. string_bytes tail ≡ trailer ++ metadata_text guid.now received size as_sent) }
 {
     let guid = hex::encode(alloc, guid)?;
     format!(in alloc; "\n\x01\x03\nG{guid}\nR{received:x}\nZ{size:x}\nV{as_sent:x}\n\n")

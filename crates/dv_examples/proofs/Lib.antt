@@ -6,3 +6,5 @@ pub mod OpeningRows
 pub mod RunRows
 pub mod TextRows
 pub mod RebuildRows
+pub mod GeneratorRows
+pub mod MailRows

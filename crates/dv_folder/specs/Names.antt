@@ -1,4 +1,5 @@
--- The names of a mailbox folder's files (Dovecot's mail-index-private.h, mail-transaction-log-private.h and sdbox-storage.h).
+-- The names of a mailbox folder's files (Dovecot's mail-index-private.h,
+-- mail-transaction-log-private.h and sdbox-storage.h).
 use Rattle.std.specs.Prelude.{ℕ, ◌^◌, ◌<◌, List, ◌++◌, codes, decimal}
 use Rattle.dv_shelf.specs.declared.shelf.Name.{Name}
 use Rattle.dv_shelf.specs.declared.shelf.Name.TheVariants as name

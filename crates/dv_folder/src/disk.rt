@@ -130,7 +130,8 @@ impl Disk {
 
     /// Sets the path of the file of this name.
     fn set_path(&mut self, name: Name) -> Result<(), AllocError>
-        ensures path { OnOk result (string_bytes self.new.path ≡ string_bytes self.old.folder ++ file_name name) }
+        ensures path { OnOk result
+            (string_bytes self.new.path ≡ string_bytes self.old.folder ++ file_name name) }
         ensures folder { self.new.folder ≡ self.old.folder }
     {
         self.path.clear();

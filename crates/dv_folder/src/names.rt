@@ -25,7 +25,8 @@ pub(crate) fn push_name(text: &mut String, name: Name) -> Result<(), AllocError>
 
 /// The name that a file of the folder has, or `None` for another file.
 pub(crate) fn name_of(text: &str) -> Option<Name>
-    ensures { MatchOption result ((n : Name) → IsName n → file_name n ≢ text.now) (λ n. file_name n ≡ text.now) }
+    ensures { MatchOption result ((n : Name) → IsName n → file_name n ≢ text.now)
+        (λ n. file_name n ≡ text.now) }
 {
     match text {
         "dovecot.index" => Some(Name::Index),
@@ -37,21 +38,24 @@ pub(crate) fn name_of(text: &str) -> Option<Name>
 }
 
 fn mail_of(text: &str) -> Option<Name>
-    ensures { MatchOption result ((n : ℕ) → n < 2 ^ 32 → file_name (Mail n) ≢ text.now) (λ name. file_name name ≡ text.now) }
+    ensures { MatchOption result ((n : ℕ) → n < 2 ^ 32 → file_name (Mail n) ≢ text.now)
+        (λ name. file_name name ≡ text.now) }
 {
     let n = number_of(behind_letter(text)?)?;
     Some(Name::Mail(n))
 }
 
 fn behind_letter(text: &str) -> Option<&str>
-    ensures { MatchOption result ((rest : List ℕ) → text.now ≢ codes "u." ++ rest) (λ rest. text.now ≡ codes "u." ++ rest.now) }
+    ensures { MatchOption result ((rest : List ℕ) → text.now ≢ codes "u." ++ rest)
+        (λ rest. text.now ≡ codes "u." ++ rest.now) }
 {
     text.strip_prefix('u')?.strip_prefix('.')
 }
 
 // The number whose decimal digits these are: without a sign and leading zeros.
 fn number_of(digits: &str) -> Option<u32>
-    ensures { MatchOption result ((n : ℕ) → n < 2 ^ 32 → decimal n ≢ digits.now) (λ n. decimal n ≡ digits.now) }
+    ensures { MatchOption result ((n : ℕ) → n < 2 ^ 32 → decimal n ≢ digits.now)
+        (λ n. decimal n ≡ digits.now) }
 {
     let n: u32 = digits.parse().ok()?;
     if Buffer::new().format(n) != digits {

@@ -17,7 +17,8 @@ Rise n (k ∷ ks) = (n ≤ k) × Rise (k + 1) ks
 abbrev pub bit_of : ℕ → ℕ → ℕ
 bit_of word k = cond (nat_eq (k / 32) word) (2 ^ (k % 32)) 0
 
-pub word_cons : (word k : ℕ) (ks : List ℕ) → keyword_word (k ∷ ks) word ≡ bit_of word k + keyword_word ks word
+pub word_cons : (word k : ℕ) (ks : List ℕ)
+    → keyword_word (k ∷ ks) word ≡ bit_of word k + keyword_word ks word
 word_cons word k ks = sum_by-cons (bit_of word) k ks
 
 abbrev IsIn : ℕ → ℕ → Type 0
@@ -53,7 +54,9 @@ where_is word k =
 abbrev lowest : ℕ → ℕ → ℕ
 lowest word n = min (n - 32 * word) 32
 
-fits_step : (word n k : ℕ) (sum : ℕ) → n ≤ k → sum + 2 ^ lowest word (k + 1) ≤ 2 ^ 32 → IsIn word k ⊎ ((k < 32 * word) ⊎ (32 * word + 32 ≤ k)) → bit_of word k + sum + 2 ^ lowest word n ≤ 2 ^ 32
+fits_step : (word n k : ℕ) (sum : ℕ) → n ≤ k → sum + 2 ^ lowest word (k + 1) ≤ 2 ^ 32
+    → IsIn word k ⊎ ((k < 32 * word) ⊎ (32 * word + 32 ≤ k))
+    → bit_of word k + sum + 2 ^ lowest word n ≤ 2 ^ 32
 fits_step word n k sum le others (inl inside) =
     let bit = bit_in word k inside in
     let next : lowest word (k + 1) ≡ (k - 32 * word) + 1 = omega (arith, inside.0, inside.1) in
@@ -75,7 +78,8 @@ fits_step word n k sum le others (inr (inr above)) =
     let room : sum + 2 ^ 32 ≤ 2 ^ 32 = subst (λ j. sum + 2 ^ j ≤ 2 ^ 32) next others in
     omega (arith, bit, low, room)
 
-fits_from : (word n : ℕ) (ks : List ℕ) → Rise n ks → keyword_word ks word + 2 ^ lowest word n ≤ 2 ^ 32
+fits_from : (word n : ℕ) (ks : List ℕ) → Rise n ks
+    → keyword_word ks word + 2 ^ lowest word n ≤ 2 ^ 32
 fits_from word n [] rise = let most : lowest word n ≤ 32 = omega arith in let low : 2 ^ lowest word n ≤ 2 ^ 32 = pow_mono most in omega (arith, low)
 fits_from word n (k ∷ ks) rise =
     subst (λ sum. sum + 2 ^ lowest word n ≤ 2 ^ 32) (sym (word_cons word k ks)) (fits_step word n k (keyword_word ks word) rise.0 (fits_from word (k + 1) ks rise.1) (where_is word k))
@@ -89,7 +93,9 @@ word_fits word ks rise = let fits = fits_from word 0 ks rise in let some = pow_p
 abbrev IsMultiple : ℕ → ℕ → Type 0
 IsMultiple p sum = (c : ℕ) × (sum ≡ p * c)
 
-multiple_step : (word n k sum : ℕ) → 32 * word ≤ n → n ≤ k → IsMultiple (2 ^ (n - 32 * word)) sum → IsIn word k ⊎ ((k < 32 * word) ⊎ (32 * word + 32 ≤ k)) → IsMultiple (2 ^ (n - 32 * word)) (bit_of word k + sum)
+multiple_step : (word n k sum : ℕ) → 32 * word ≤ n → n ≤ k → IsMultiple (2 ^ (n - 32 * word)) sum
+    → IsIn word k ⊎ ((k < 32 * word) ⊎ (32 * word + 32 ≤ k))
+    → IsMultiple (2 ^ (n - 32 * word)) (bit_of word k + sum)
 multiple_step word n k sum from le multiple (inl inside) =
     let bit = bit_in word k inside in
     let split : k - 32 * word ≡ (n - 32 * word) + (k - n) = omega (arith, from, le) in
@@ -98,7 +104,8 @@ multiple_step word n k sum from le multiple (inl inside) =
     (2 ^ (k - n) + multiple.0, ap (λ b. b + sum) (bit ∙ power) ∙ ap (λ s. 2 ^ (n - 32 * word) * 2 ^ (k - n) + s) multiple.1 ∙ omega arith)
 multiple_step word n k sum from le multiple (inr out) = let none : 0 + sum ≡ sum = omega arith in (multiple.0, ap (λ b. b + sum) (bit_out word k out) ∙ none ∙ multiple.1)
 
-multiple_from : (word n m : ℕ) (ks : List ℕ) → 32 * word ≤ n → n ≤ m → Rise m ks → IsMultiple (2 ^ (n - 32 * word)) (keyword_word ks word)
+multiple_from : (word n m : ℕ) (ks : List ℕ) → 32 * word ≤ n → n ≤ m → Rise m ks
+    → IsMultiple (2 ^ (n - 32 * word)) (keyword_word ks word)
 multiple_from word n m [] from le rise = (0, omega arith)
 multiple_from word n m (k ∷ ks) from le rise =
     subst (IsMultiple (2 ^ (n - 32 * word))) (sym (word_cons word k ks))
@@ -119,7 +126,8 @@ no_multiple p c d some e = by_order (cases_lt c d)
         omega (arith, e, more, some)
 
 -- the first keyword of one list is in no list that begins above it
-first_differs : (k : ℕ) (ks others : List ℕ) → Rise (k + 1) ks → Rise (k + 1) others → keyword_word (k ∷ ks) (k / 32) ≡ keyword_word others (k / 32) → ⊥
+first_differs : (k : ℕ) (ks others : List ℕ) → Rise (k + 1) ks → Rise (k + 1) others
+    → keyword_word (k ∷ ks) (k / 32) ≡ keyword_word others (k / 32) → ⊥
 first_differs k ks others rise rise' same =
     let word = k / 32 in
     let inside : IsIn (k / 32) k = (omega arith, omega arith) in
@@ -133,7 +141,9 @@ first_differs k ks others rise rise' same =
     let right : keyword_word others (k / 32) ≡ 2 ^ (k - 32 * (k / 32)) * 2 * other.0 = other.1 ∙ ap (λ p. p * other.0) double in
     no_multiple (2 ^ (k - 32 * (k / 32))) one.0 other.0 (pow_pos (k - 32 * (k / 32))) (sym left ∙ same ∙ right)
 
-same_tail : (k : ℕ) (ks ks' : List ℕ) (word : ℕ) → keyword_word (k ∷ ks) word ≡ keyword_word (k ∷ ks') word → keyword_word ks word ≡ keyword_word ks' word
+same_tail : (k : ℕ) (ks ks' : List ℕ) (word : ℕ)
+    → keyword_word (k ∷ ks) word ≡ keyword_word (k ∷ ks') word
+    → keyword_word ks word ≡ keyword_word ks' word
 same_tail k ks ks' word same = let one = word_cons word k ks in let other = word_cons word k ks' in omega (arith, one, other, same)
 
 -- numbers below a bound
@@ -142,7 +152,9 @@ Below n [] = Unit {0}
 Below n (k ∷ ks) = (k < n) × Below n ks
 
 -- keywords whose words are equal are equal; words stands for all words that they have
-pub bits_one : (words n : ℕ) (ks ks' : List ℕ) → Rise n ks → Rise n ks' → Below (32 * words) ks → Below (32 * words) ks' → ((word : ℕ) → word < words → keyword_word ks word ≡ keyword_word ks' word) → ks ≡ ks'
+pub bits_one : (words n : ℕ) (ks ks' : List ℕ) → Rise n ks → Rise n ks' → Below (32 * words) ks
+    → Below (32 * words) ks'
+    → ((word : ℕ) → word < words → keyword_word ks word ≡ keyword_word ks' word) → ks ≡ ks'
 bits_one words n [] [] rise rise' below below' same = refl
 bits_one words n [] (k ∷ ks') rise rise' below below' same =
     let word_below : k / 32 < words = omega (arith, below'.0) in

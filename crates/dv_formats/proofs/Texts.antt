@@ -39,7 +39,8 @@ length_filled : (a : List ℕ) → length (filled a) ≡ length a + padding (len
 length_filled a = length-append a (replicate (padding (length a)) 0) ∙ ap (λ n. length a + n) (length-replicate (padding (length a)) 0)
 
 -- texts of one length that are filled up
-pub filled_one : (a c b d : List ℕ) → length a ≡ length c → filled a ++ b ≡ filled c ++ d → (a ≡ c) × (b ≡ d)
+pub filled_one : (a c b d : List ℕ) → length a ≡ length c → filled a ++ b ≡ filled c ++ d
+    → (a ≡ c) × (b ≡ d)
 filled_one a c b d same e =
     let lengths : length (filled a) ≡ length (filled c) = length_filled a ∙ ap (λ n. n + padding n) same ∙ sym (length_filled c) in
     let outer = parts_one (filled a) (filled c) b d lengths e in
@@ -50,14 +51,17 @@ filled_one a c b d same e =
 abbrev pub AreShort : List (List ℕ) → Type 0
 AreShort names = AllByRecursion (λ name. length name < 2 ^ 16) names
 
-name_one : (n n' b b' : List ℕ) → length n < 2 ^ 16 → length n' < 2 ^ 16 → keyword_text n ++ b ≡ keyword_text n' ++ b' → (n ≡ n') × (b ≡ b')
+name_one : (n n' b b' : List ℕ) → length n < 2 ^ 16 → length n' < 2 ^ 16
+    → keyword_text n ++ b ≡ keyword_text n' ++ b' → (n ≡ n') × (b ≡ b')
 name_one n n' b b' p q e =
     let sizes : length n ≡ length n' = half_one (length n) (length n') p q (ap (take 2) e) in
     let lengths : length (to_le_bytes w16 (length n) ++ n) ≡ length (to_le_bytes w16 (length n') ++ n') = omega (arith, sizes) in
     let both = filled_one (to_le_bytes w16 (length n) ++ n) (to_le_bytes w16 (length n') ++ n') b b' lengths e in
     (ap (drop 2) both.0, both.1)
 
-pub names_one : (ns ns' : List (List ℕ)) (b b' : List ℕ) → length ns ≡ length ns' → AreShort ns → AreShort ns' → flat_map keyword_text ns ++ b ≡ flat_map keyword_text ns' ++ b' → (ns ≡ ns') × (b ≡ b')
+pub names_one : (ns ns' : List (List ℕ)) (b b' : List ℕ) → length ns ≡ length ns' → AreShort ns
+    → AreShort ns' → flat_map keyword_text ns ++ b ≡ flat_map keyword_text ns' ++ b'
+    → (ns ≡ ns') × (b ≡ b')
 names_one [] [] b b' same p q e = (refl, e)
 names_one [] (n' ∷ ns') b b' same p q e = absurd (omega (arith, same))
 names_one (n ∷ ns) [] b b' same p q e = absurd (omega (arith, same))
@@ -71,7 +75,8 @@ pub record IsShortExtension (e : Extension) : Type 0 where
   pub numbers : (e.reset_id < 2 ^ 32) × (e.record_size < 2 ^ 16) × (e.record_align < 2 ^ 16) × (e.flags < 2 ^ 16)
   pub texts : (length e.name < 2 ^ 16) × (length e.header < 2 ^ 32)
 
-extension_one : (x y : Extension) (b b' : List ℕ) → IsShortExtension x → IsShortExtension y → extension_text x ++ b ≡ extension_text y ++ b' → (x ≡ y) × (b ≡ b')
+extension_one : (x y : Extension) (b b' : List ℕ) → IsShortExtension x → IsShortExtension y
+    → extension_text x ++ b ≡ extension_text y ++ b' → (x ≡ y) × (b ≡ b')
 extension_one x y b b' p q e =
     let reset = word_one x.reset_id y.reset_id p.numbers.0 q.numbers.0 (ap (take 4) e) in
     let header_size = word_one (length x.header) (length y.header) p.texts.1 q.texts.1 (ap (λ t. take 4 (drop 4 t)) e) in
@@ -85,10 +90,13 @@ extension_one x y b b' p q e =
     let headers = filled_one x.header y.header b b' header_size names.1 in
     (same_extension x y reset header_size record_size align flags names.0 headers.0, headers.1)
   where
-    same_extension : (x y : Extension) → x.reset_id ≡ y.reset_id → length x.header ≡ length y.header → x.record_size ≡ y.record_size → x.record_align ≡ y.record_align → x.flags ≡ y.flags → x.name ≡ y.name → x.header ≡ y.header → x ≡ y
+    same_extension : (x y : Extension) → x.reset_id ≡ y.reset_id → length x.header ≡ length y.header
+        → x.record_size ≡ y.record_size → x.record_align ≡ y.record_align → x.flags ≡ y.flags
+        → x.name ≡ y.name → x.header ≡ y.header → x ≡ y
     same_extension x y reset sizes record_size align flags name header = λ i. record { name = name i; reset_id = reset i; header = header i; record_size = record_size i; record_align = align i; flags = flags i }
 
-pub extensions_one : (xs ys : List Extension) (b b' : List ℕ) → length xs ≡ length ys → AllByRecursion IsShortExtension xs → AllByRecursion IsShortExtension ys
+pub extensions_one : (xs ys : List Extension) (b b' : List ℕ) → length xs ≡ length ys
+    → AllByRecursion IsShortExtension xs → AllByRecursion IsShortExtension ys
     → flat_map extension_text xs ++ b ≡ flat_map extension_text ys ++ b' → (xs ≡ ys) × (b ≡ b')
 extensions_one [] [] b b' same p q e = (refl, e)
 extensions_one [] (y ∷ ys) b b' same p q e = absurd (omega (arith, same))
@@ -104,7 +112,8 @@ extensions_one (x ∷ xs) (y ∷ ys) b b' same p q e =
 abbrev bits_from : ℕ → ℕ → List ℕ → List ℕ
 bits_from from n places = flat_map (λ word. to_le_bytes w32 (keyword_word places word)) (range_with_len from n)
 
-pub words_one : (from n : ℕ) (ks ks' : List ℕ) (b b' : List ℕ) → Rise 0 ks → Rise 0 ks' → bits_from from n ks ++ b ≡ bits_from from n ks' ++ b'
+pub words_one : (from n : ℕ) (ks ks' : List ℕ) (b b' : List ℕ) → Rise 0 ks → Rise 0 ks'
+    → bits_from from n ks ++ b ≡ bits_from from n ks' ++ b'
     → ((word : ℕ) → from ≤ word → word < from + n → keyword_word ks word ≡ keyword_word ks' word) × (b ≡ b')
 words_one from zero ks ks' b b' rise rise' e = (λ word low high. absurd (omega (arith, low, high)), e)
 words_one from (suc n) ks ks' b b' rise rise' e =
@@ -112,6 +121,9 @@ words_one from (suc n) ks ks' b b' rise rise' e =
     let rest = words_one (from + 1) n ks ks' b b' rise rise' (ap (drop 4) e) in
     (λ word low high. by_place word low high first rest.0 (cases_lt from word), rest.1)
   where
-    by_place : (word : ℕ) → from ≤ word → word < from + suc n → keyword_word ks from ≡ keyword_word ks' from → ((w : ℕ) → from + 1 ≤ w → w < from + 1 + n → keyword_word ks w ≡ keyword_word ks' w) → (from < word) ⊎ (word ≤ from) → keyword_word ks word ≡ keyword_word ks' word
+    by_place : (word : ℕ) → from ≤ word → word < from + suc n
+        → keyword_word ks from ≡ keyword_word ks' from
+        → ((w : ℕ) → from + 1 ≤ w → w < from + 1 + n → keyword_word ks w ≡ keyword_word ks' w)
+        → (from < word) ⊎ (word ≤ from) → keyword_word ks word ≡ keyword_word ks' word
     by_place word low high first rest (inl above) = rest word (omega (arith, above)) (omega (arith, high))
     by_place word low high first rest (inr le) = let same : from ≡ word = omega (arith, low, le) in subst (λ w. keyword_word ks w ≡ keyword_word ks' w) same first

@@ -20,7 +20,8 @@ use Rattle.dv_formats.proofs.Texts.{AreShort, IsShortExtension, extensions_one, 
 
 -- ---- a row
 
-filled_parts_one : (ps ps' : List (List ℕ)) (b b' : List ℕ) → map length ps ≡ map length ps' → flat_map filled ps ++ b ≡ flat_map filled ps' ++ b' → (ps ≡ ps') × (b ≡ b')
+filled_parts_one : (ps ps' : List (List ℕ)) (b b' : List ℕ) → map length ps ≡ map length ps'
+    → flat_map filled ps ++ b ≡ flat_map filled ps' ++ b' → (ps ≡ ps') × (b ≡ b')
 filled_parts_one [] [] b b' same e = (refl, e)
 filled_parts_one [] (p' ∷ ps') b b' same e = absurd cc
 filled_parts_one (p ∷ ps) [] b b' same e = absurd cc
@@ -44,11 +45,14 @@ below_words : (n : ℕ) (ks : List ℕ) → Below n ks → Below (32 * keyword_w
 below_words n [] below = tt
 below_words n (k ∷ ks) below = let low = below.0 in (omega (arith, low), below_words n ks below.1)
 
-same_row_of : (x y : Row) → x.uid ≡ y.uid → x.flags ≡ y.flags → x.keywords ≡ y.keywords → x.parts ≡ y.parts → x.modseq ≡ y.modseq → x ≡ y
+same_row_of : (x y : Row) → x.uid ≡ y.uid → x.flags ≡ y.flags → x.keywords ≡ y.keywords
+    → x.parts ≡ y.parts → x.modseq ≡ y.modseq → x ≡ y
 same_row_of x y uid flags keywords parts modseq = λ i. record { uid = uid i; flags = flags i; keywords = keywords i; parts = parts i; modseq = modseq i }
 
 -- the keywords and the parts behind a row's numbers
-behind_one : (n : ℕ) (sizes : List ℕ) (x y : Row) (b b' : List ℕ) → IsShortRow n sizes x → IsShortRow n sizes y → keyword_bits n x.keywords ++ flat_map filled x.parts ++ b ≡ keyword_bits n y.keywords ++ flat_map filled y.parts ++ b'
+behind_one : (n : ℕ) (sizes : List ℕ) (x y : Row) (b b' : List ℕ) → IsShortRow n sizes x
+    → IsShortRow n sizes y
+    → keyword_bits n x.keywords ++ flat_map filled x.parts ++ b ≡ keyword_bits n y.keywords ++ flat_map filled y.parts ++ b'
     → (x.keywords ≡ y.keywords) × (x.parts ≡ y.parts) × (b ≡ b')
 behind_one n sizes x y b b' p q e =
     let joined = sym (append_assoc (keyword_bits n x.keywords) (flat_map filled x.parts) b) ∙ e ∙ append_assoc (keyword_bits n y.keywords) (flat_map filled y.parts) b' in
@@ -62,7 +66,8 @@ abbrev row_of : ℕ → ℕ → Row → List ℕ
 row_of version n row = to_le_bytes w32 row.uid ++ row.flags ∷ 0 ∷ 0 ∷ 0 ∷ modseq_text version row ++ keyword_bits n row.keywords ++ flat_map filled row.parts
 
 -- rows of version 2
-row_one : (n : ℕ) (sizes : List ℕ) (x y : Row) (b b' : List ℕ) → IsShortRow n sizes x → IsShortRow n sizes y → row_of 2 n x ++ b ≡ row_of 2 n y ++ b' → (x ≡ y) × (b ≡ b')
+row_one : (n : ℕ) (sizes : List ℕ) (x y : Row) (b b' : List ℕ) → IsShortRow n sizes x
+    → IsShortRow n sizes y → row_of 2 n x ++ b ≡ row_of 2 n y ++ b' → (x ≡ y) × (b ≡ b')
 row_one n sizes x y b b' p q e =
     let uid = word_one x.uid y.uid p.uid q.uid (ap (take 4) e) in
     let flags : x.flags ≡ y.flags = ap (λ t. slice_index t 4) e in
@@ -71,14 +76,17 @@ row_one n sizes x y b b' p q e =
     (same_row_of x y uid flags behind.0 behind.1 modseq, behind.2)
 
 -- rows of version 1, all of whose numbers are 1
-old_row_one : (n : ℕ) (sizes : List ℕ) (x y : Row) (b b' : List ℕ) → IsShortRow n sizes x → IsShortRow n sizes y → x.modseq ≡ y.modseq → row_of 1 n x ++ b ≡ row_of 1 n y ++ b' → (x ≡ y) × (b ≡ b')
+old_row_one : (n : ℕ) (sizes : List ℕ) (x y : Row) (b b' : List ℕ) → IsShortRow n sizes x
+    → IsShortRow n sizes y → x.modseq ≡ y.modseq → row_of 1 n x ++ b ≡ row_of 1 n y ++ b'
+    → (x ≡ y) × (b ≡ b')
 old_row_one n sizes x y b b' p q modseq e =
     let uid = word_one x.uid y.uid p.uid q.uid (ap (take 4) e) in
     let flags : x.flags ≡ y.flags = ap (λ t. slice_index t 4) e in
     let behind = behind_one n sizes x y b b' p q (ap (drop 8) e) in
     (same_row_of x y uid flags behind.0 behind.1 modseq, behind.2)
 
-rows_one : (n : ℕ) (sizes : List ℕ) (xs ys : List Row) (b b' : List ℕ) → length xs ≡ length ys → AllByRecursion (IsShortRow n sizes) xs → AllByRecursion (IsShortRow n sizes) ys
+rows_one : (n : ℕ) (sizes : List ℕ) (xs ys : List Row) (b b' : List ℕ) → length xs ≡ length ys
+    → AllByRecursion (IsShortRow n sizes) xs → AllByRecursion (IsShortRow n sizes) ys
     → flat_map (row_of 2 n) xs ++ b ≡ flat_map (row_of 2 n) ys ++ b' → xs ≡ ys
 rows_one n sizes [] [] b b' same p q e = refl
 rows_one n sizes [] (y ∷ ys) b b' same p q e = absurd (omega (arith, same))
@@ -88,8 +96,10 @@ rows_one n sizes (x ∷ xs) (y ∷ ys) b b' same p q e =
     let first = row_one n sizes x y (flat_map (row_of 2 n) xs ++ b) (flat_map (row_of 2 n) ys ++ b') p.0 q.0 joined in
     ap (λ z. z ∷ xs) first.0 ∙ ap (λ zs. y ∷ zs) (rows_one n sizes xs ys b b' (omega (arith, same)) p.1 q.1 first.1)
 
-old_rows_one : (n : ℕ) (sizes : List ℕ) (xs ys : List Row) (b b' : List ℕ) → length xs ≡ length ys → AllByRecursion (IsShortRow n sizes) xs → AllByRecursion (IsShortRow n sizes) ys
-    → AllByRecursion (λ row. row.modseq ≡ 1) xs → AllByRecursion (λ row. row.modseq ≡ 1) ys → flat_map (row_of 1 n) xs ++ b ≡ flat_map (row_of 1 n) ys ++ b' → xs ≡ ys
+old_rows_one : (n : ℕ) (sizes : List ℕ) (xs ys : List Row) (b b' : List ℕ) → length xs ≡ length ys
+    → AllByRecursion (IsShortRow n sizes) xs → AllByRecursion (IsShortRow n sizes) ys
+    → AllByRecursion (λ row. row.modseq ≡ 1) xs → AllByRecursion (λ row. row.modseq ≡ 1) ys
+    → flat_map (row_of 1 n) xs ++ b ≡ flat_map (row_of 1 n) ys ++ b' → xs ≡ ys
 old_rows_one n sizes [] [] b b' same p q r s e = refl
 old_rows_one n sizes [] (y ∷ ys) b b' same p q r s e = absurd (omega (arith, same))
 old_rows_one n sizes (x ∷ xs) [] b b' same p q r s e = absurd (omega (arith, same))
@@ -146,7 +156,9 @@ record AreAlike (f g : Fields) (c d : Option Current) (behind other : List ℕ) 
   rest : behind ≡ other
 
 module _ (v : ℕ) (f g : Fields) (hi hi' ts ts' rs rs' : List ℕ) (p : AreWords f) (q : AreWords g) where
-  currents_one : (c d : Option Current) → IsShortCurrent c → IsShortCurrent d → whole v f c hi ts rs ≡ whole v g d hi' ts' rs' → (c ≡ d) × (hi ++ ts ++ rs ≡ hi' ++ ts' ++ rs')
+  currents_one : (c d : Option Current) → IsShortCurrent c → IsShortCurrent d
+      → whole v f c hi ts rs ≡ whole v g d hi' ts' rs'
+      → (c ≡ d) × (hi ++ ts ++ rs ≡ hi' ++ ts' ++ rs')
   currents_one None None r s e = (refl, ap (drop 68) e)
   currents_one None (Some y) r s e = let one : 0 ≡ y.extension + 1 = word_one 0 (y.extension + 1) (omega arith) s.0 (ap (λ t. take 4 (drop 52 t)) e) in absurd (omega (arith, one))
   currents_one (Some x) None r s e = let one : x.extension + 1 ≡ 0 = word_one (x.extension + 1) 0 r.0 (omega arith) (ap (λ t. take 4 (drop 52 t)) e) in absurd (omega (arith, one))
@@ -156,7 +168,9 @@ module _ (v : ℕ) (f g : Fields) (hi hi' ts ts' rs rs' : List ℕ) (p : AreWord
       let size = word_one x.size y.size r.1 s.1 (ap (λ t. take 4 (drop 56 t)) e) in
       (λ i. Some (record { extension = extension i; size = size i }), ap (drop 68) e)
 
-  headers_one : (c d : Option Current) → IsShortCurrent c → IsShortCurrent d → whole v f c hi ts rs ≡ whole v g d hi' ts' rs' → AreAlike f g c d (hi ++ ts ++ rs) (hi' ++ ts' ++ rs')
+  headers_one : (c d : Option Current) → IsShortCurrent c → IsShortCurrent d
+      → whole v f c hi ts rs ≡ whole v g d hi' ts' rs'
+      → AreAlike f g c d (hi ++ ts ++ rs) (hi' ++ ts' ++ rs')
   headers_one c d r s e =
       let both = currents_one c d r s e in
       record {
@@ -174,16 +188,17 @@ module _ (v : ℕ) (f g : Fields) (hi hi' ts ts' rs rs' : List ℕ) (p : AreWord
 
 -- ---- what is known of a snapshot
 
-pub each_of_all : {X : Type 0} (P Q : X → Type 0) → ((x : X) → P x → Q x) → (xs : List X) → All P xs → AllByRecursion Q xs
+pub each_of_all : {X : Type 0} (P Q : X → Type 0) → ((x : X) → P x → Q x) → (xs : List X) → All P xs
+    → AllByRecursion Q xs
 each_of_all P Q weaker [] all = tt
 each_of_all P Q weaker (x ∷ xs) all = (weaker x (All-head P x xs all), each_of_all P Q weaker xs (All-tail P x xs all))
 
-rising_tail : (n : ℕ) (ns : List ℕ) → IsStrictlyIncreasing (n ∷ ns) → IsStrictlyIncreasing ns
+pub rising_tail : (n : ℕ) (ns : List ℕ) → IsStrictlyIncreasing (n ∷ ns) → IsStrictlyIncreasing ns
 rising_tail n ns up k below =
     let next : suc k + 1 ≡ suc (k + 1) = omega arith in
     subst (λ j. slice_index ns k < slice_index (n ∷ ns) j) next (up (suc k) (omega (arith, below)))
 
-rise_behind : (n : ℕ) (ns : List ℕ) → IsStrictlyIncreasing (n ∷ ns) → Rise (n + 1) ns
+pub rise_behind : (n : ℕ) (ns : List ℕ) → IsStrictlyIncreasing (n ∷ ns) → Rise (n + 1) ns
 rise_behind n [] up = tt
 rise_behind n (m ∷ ns) up = let step = up 0 (omega arith) in (omega (arith, step), rise_behind m ns (rising_tail n (m ∷ ns) up))
 
@@ -196,7 +211,8 @@ below_of n [] all = tt
 below_of n (k ∷ ks) all = (All-head (λ j. j < n) k ks all, below_of n ks (All-tail (λ j. j < n) k ks all))
 
 -- rising numbers below a bound are no more than the bound
-pub few : (n bound : ℕ) (rows : List Row) → n ≤ bound → Rise n (map (λ row. row.uid) rows) → AllByRecursion (λ row. row.uid < bound) rows → n + length rows ≤ bound
+pub few : (n bound : ℕ) (rows : List Row) → n ≤ bound → Rise n (map (λ row. row.uid) rows)
+    → AllByRecursion (λ row. row.uid < bound) rows → n + length rows ≤ bound
 few n bound [] le rise below = omega arith
 few n bound (row ∷ rows) le rise below = let low = below.0 in let rest = few (row.uid + 1) bound rows (omega arith) rise.1 below.1 in omega (arith, rest, rise.0)
 
@@ -207,16 +223,22 @@ names_in_tables (n ∷ ns) =
     let rest = names_in_tables ns in
     omega (arith, rest, length-append (keyword_text n) (flat_map keyword_text ns), length-append (to_le_bytes w16 (length n) ++ n) (replicate (padding (length (to_le_bytes w16 (length n) ++ n))) 0))
 
-short_current : (es : List Extension) (k size : ℕ) → AllByRecursion (λ e. e.record_size < 2 ^ 16) es → IsSomeAnd (slice_get es k) (λ e. size ≤ e.record_size) → (k < length es) × (size < 2 ^ 16)
+short_current : (es : List Extension) (k size : ℕ) → AllByRecursion (λ e. e.record_size < 2 ^ 16) es
+    → IsSomeAnd (slice_get es k) (λ e. size ≤ e.record_size) → (k < length es) × (size < 2 ^ 16)
 short_current [] k size short there = absurd there
 short_current (e ∷ es) zero size short there = let low = short.0 in (omega arith, omega (arith, low, there))
 short_current (e ∷ es) (suc k) size short there = let rest = short_current es k size short.1 there in (omega (arith, rest.0), rest.1)
 
-current_of : (es : List Extension) (c : Option Current) → length es ≤ 16 → AllByRecursion (λ e. e.record_size < 2 ^ 16) es → IfSome c (λ c. IsSomeAnd (slice_get es c.extension) (λ e. c.size ≤ e.record_size)) → IsShortCurrent c
+current_of : (es : List Extension) (c : Option Current) → length es ≤ 16
+    → AllByRecursion (λ e. e.record_size < 2 ^ 16) es
+    → IfSome c (λ c. IsSomeAnd (slice_get es c.extension) (λ e. c.size ≤ e.record_size))
+    → IsShortCurrent c
 current_of es None le short there = tt
 current_of es (Some c) le short there = let both = short_current es c.extension c.size short there in (omega (arith, both.0, le), omega (arith, both.1))
 
-extensions_of : (es : List Extension) → All HasFieldsOf es → All (λ e. (1 ≤ length e.name) × (length e.name ≤ 255) × (e.name ≡ codes "keywords" → ⊥)) es → All (λ e. length e.header ≤ 65536) es → AllByRecursion IsShortExtension es
+extensions_of : (es : List Extension) → All HasFieldsOf es
+    → All (λ e. (1 ≤ length e.name) × (length e.name ≤ 255) × (e.name ≡ codes "keywords" → ⊥)) es
+    → All (λ e. length e.header ≤ 65536) es → AllByRecursion IsShortExtension es
 extensions_of [] fields names headers = tt
 extensions_of (e ∷ es) fields names headers =
     let field = All-head HasFieldsOf e es fields in
@@ -229,7 +251,8 @@ extensions_of (e ∷ es) fields names headers =
 abbrev sizes_of : Mailbox → List ℕ
 sizes_of m = map (λ e. e.record_size) m.extensions
 
-row_of_valid : (m : Mailbox) → IsValid m → (row : Row) → IsRowOf m row → IsShortRow (length m.keywords) (sizes_of m) row
+row_of_valid : (m : Mailbox) → IsValid m → (row : Row) → IsRowOf m row
+    → IsShortRow (length m.keywords) (sizes_of m) row
 row_of_valid m valid row is = record {
   uid = omega (arith, is.uid.1, valid.next_uid.1);
   modseq = omega (arith, is.modseq.1, valid.highest.1);
@@ -280,12 +303,17 @@ module _ (version : ℕ) (m : Mailbox) (indexid : ℕ) (mark : Mark) (b : List �
 
 -- ---- the whole text
 
-same_mailbox : (m m' : Mailbox) → m.uid_validity ≡ m'.uid_validity → m.next_uid ≡ m'.next_uid → m.rows ≡ m'.rows → m.keywords ≡ m'.keywords → m.extensions ≡ m'.extensions → m.current ≡ m'.current → m.highest ≡ m'.highest → m ≡ m'
+same_mailbox : (m m' : Mailbox) → m.uid_validity ≡ m'.uid_validity → m.next_uid ≡ m'.next_uid
+    → m.rows ≡ m'.rows → m.keywords ≡ m'.keywords → m.extensions ≡ m'.extensions
+    → m.current ≡ m'.current → m.highest ≡ m'.highest → m ≡ m'
 same_mailbox m m' validity next_uid rows keywords extensions current highest =
     λ i. record { uid_validity = validity i; next_uid = next_uid i; rows = rows i; keywords = keywords i; extensions = extensions i; current = current i; highest = highest i }
 
-tables_one : (m m' : Mailbox) (r r' : List ℕ) → length m.keywords ≡ length m'.keywords → length m.extensions ≡ length m'.extensions → AreShort m.keywords → AreShort m'.keywords
-    → AllByRecursion IsShortExtension m.extensions → AllByRecursion IsShortExtension m'.extensions → tables_text m ++ r ≡ tables_text m' ++ r' → (m.keywords ≡ m'.keywords) × (m.extensions ≡ m'.extensions) × (r ≡ r')
+tables_one : (m m' : Mailbox) (r r' : List ℕ) → length m.keywords ≡ length m'.keywords
+    → length m.extensions ≡ length m'.extensions → AreShort m.keywords → AreShort m'.keywords
+    → AllByRecursion IsShortExtension m.extensions → AllByRecursion IsShortExtension m'.extensions
+    → tables_text m ++ r ≡ tables_text m' ++ r'
+    → (m.keywords ≡ m'.keywords) × (m.extensions ≡ m'.extensions) × (r ≡ r')
 tables_one m m' r r' names extensions p q s t e =
     let joined = sym (append_assoc (flat_map keyword_text m.keywords) (flat_map extension_text m.extensions) r) ∙ e ∙ append_assoc (flat_map keyword_text m'.keywords) (flat_map extension_text m'.extensions) r' in
     let first = names_one m.keywords m'.keywords (flat_map extension_text m.extensions ++ r) (flat_map extension_text m'.extensions ++ r') names p q joined in
@@ -296,11 +324,14 @@ abbrev Same : Mailbox → Mailbox → ℕ → ℕ → Mark → Mark → Type 0
 Same m m' indexid indexid' mark mark' = (m ≡ m') × (indexid ≡ indexid') × (mark ≡ mark')
 
 module _ (m m' : Mailbox) (indexid indexid' : ℕ) (mark mark' : Mark) (b : List ℕ) where
-  moved_rows : length m.keywords ≡ length m'.keywords → m.extensions ≡ m'.extensions → AllByRecursion (IsShortRow (length m'.keywords) (sizes_of m')) m'.rows → AllByRecursion (IsShortRow (length m.keywords) (sizes_of m)) m'.rows
+  moved_rows : length m.keywords ≡ length m'.keywords → m.extensions ≡ m'.extensions
+      → AllByRecursion (IsShortRow (length m'.keywords) (sizes_of m')) m'.rows
+      → AllByRecursion (IsShortRow (length m.keywords) (sizes_of m)) m'.rows
   moved_rows names extensions short =
       subst (λ n. AllByRecursion (IsShortRow n (sizes_of m)) m'.rows) (sym names) (subst (λ es. AllByRecursion (IsShortRow (length m'.keywords) (map (λ e. e.record_size) es)) m'.rows) (sym extensions) short)
 
-  new_one : IsSnapshot 2 m indexid mark b → IsSnapshot 2 m' indexid' mark' b → Same m m' indexid indexid' mark mark'
+  new_one : IsSnapshot 2 m indexid mark b → IsSnapshot 2 m' indexid' mark' b
+      → Same m m' indexid indexid' mark mark'
   new_one p q =
       let alike = headers_one 2 (fields_of 2 m indexid mark) (fields_of 2 m' indexid' mark') (highest_text 2 m) (highest_text 2 m') (tables_text m) (tables_text m') (flat_map (row_text 2 m) m.rows) (flat_map (row_text 2 m') m'.rows)
       (are_words 2 m indexid mark b p) (are_words 2 m' indexid' mark' b q) m.current m'.current (small_current 2 m indexid mark b p) (small_current 2 m' indexid' mark' b q) (sym p.text ∙ q.text) in
@@ -312,7 +343,8 @@ module _ (m m' : Mailbox) (indexid indexid' : ℕ) (mark mark' : Mark) (b : List
       let rows = rows_one (length m.keywords) (sizes_of m) m.rows m'.rows [] [] alike.rows (short_rows 2 m indexid mark b p) (moved_rows alike.names tables.1 (short_rows 2 m' indexid' mark' b q)) texts in
       (same_mailbox m m' alike.validity alike.next_uid rows tables.0 tables.1 alike.current highest, alike.indexid, λ i. record { file_seq = alike.file_seq i; offset = alike.offset i })
 
-  old_one : IsSnapshot 1 m indexid mark b → IsSnapshot 1 m' indexid' mark' b → Same m m' indexid indexid' mark mark'
+  old_one : IsSnapshot 1 m indexid mark b → IsSnapshot 1 m' indexid' mark' b
+      → Same m m' indexid indexid' mark mark'
   old_one p q =
       let alike = headers_one 1 (fields_of 1 m indexid mark) (fields_of 1 m' indexid' mark') (highest_text 1 m) (highest_text 1 m') (tables_text m) (tables_text m') (flat_map (row_text 1 m) m.rows) (flat_map (row_text 1 m') m'.rows)
       (are_words 1 m indexid mark b p) (are_words 1 m' indexid' mark' b q) m.current m'.current (small_current 1 m indexid mark b p) (small_current 1 m' indexid' mark' b q) (sym p.text ∙ q.text) in
@@ -326,13 +358,16 @@ module _ (m m' : Mailbox) (indexid indexid' : ℕ) (mark mark' : Mark) (b : List
       (each_of_all (λ row. row.modseq ≡ 1) (λ row. row.modseq ≡ 1) (λ row h. h) m.rows ones.1) (each_of_all (λ row. row.modseq ≡ 1) (λ row. row.modseq ≡ 1) (λ row h. h) m'.rows others.1) texts in
       (same_mailbox m m' alike.validity alike.next_uid rows tables.0 tables.1 alike.current (ones.0 ∙ sym others.0), alike.indexid, λ i. record { file_seq = alike.file_seq i; offset = alike.offset i })
 
-  of_version : (v : ℕ) → IsSnapshot v m indexid mark b → IsSnapshot v m' indexid' mark' b → Same m m' indexid indexid' mark mark'
+  of_version : (v : ℕ) → IsSnapshot v m indexid mark b → IsSnapshot v m' indexid' mark' b
+      → Same m m' indexid indexid' mark mark'
   of_version zero p q = absurd (omega (arith, p.known.0))
   of_version (suc zero) p q = old_one p q
   of_version (suc (suc zero)) p q = new_one p q
   of_version (suc (suc (suc v))) p q = absurd (omega (arith, p.known.1))
 
-pub snapshot_is_one : (version version' : ℕ) (m m' : Mailbox) (indexid indexid' : ℕ) (mark mark' : Mark) (b : List ℕ) → IsSnapshot version m indexid mark b → IsSnapshot version' m' indexid' mark' b
+pub snapshot_is_one : (version version' : ℕ) (m m' : Mailbox) (indexid indexid' : ℕ)
+    (mark mark' : Mark) (b : List ℕ)
+    → IsSnapshot version m indexid mark b → IsSnapshot version' m' indexid' mark' b
     → (version ≡ version') × (m ≡ m') × (indexid ≡ indexid') × (mark ≡ mark')
 snapshot_is_one version version' m m' indexid indexid' mark mark' b p q =
     let same : version ≡ version' = ap (λ t. slice_index t 1) (sym p.text ∙ q.text) in

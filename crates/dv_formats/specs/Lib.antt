@@ -1,5 +1,7 @@
 pub mod Scripts
 pub mod Printing
+pub mod Generators
+pub mod Replies
 pub mod Snapshots
 pub mod Feeds
 pub mod Laws

@@ -137,16 +137,22 @@ IsWord key b = ⊥
 mutual
   pub data IsKey : Key → ℕ → List ℕ → Type 0 where
     word : {key : Key} {levels : ℕ} {b : List ℕ} → IsWord (out-Key key) b → IsKey key (suc levels) b
-    negated : {key inner : Key} {levels : ℕ} {b text : List ℕ} → out-Key key ≡ Key-F.Not inner → IsKey inner levels text → b ≡ codes "NOT " ++ text → IsKey key (suc levels) b
+    negated : {key inner : Key} {levels : ℕ} {b text : List ℕ} → out-Key key ≡ Key-F.Not inner
+        → IsKey inner levels text → b ≡ codes "NOT " ++ text → IsKey key (suc levels) b
     either : {key one other : Key} {levels : ℕ} {b first second : List ℕ}
-        → out-Key key ≡ Key-F.Or one other → IsKey one levels first → IsKey other levels second → b ≡ codes "OR " ++ first ++ codes " " ++ second → IsKey key (suc levels) b
+        → out-Key key ≡ Key-F.Or one other → IsKey one levels first → IsKey other levels second
+        → b ≡ codes "OR " ++ first ++ codes " " ++ second → IsKey key (suc levels) b
     several : {key : Key} {keys : List Key} {levels : ℕ} {b : List ℕ} {texts : List (List ℕ)}
-        → out-Key key ≡ Key-F.And keys → 2 ≤ length keys → AreKeys keys levels texts → b ≡ codes "(" ++ spaced texts ++ codes ")" → IsKey key (suc levels) b
-    within : {key : Key} {levels : ℕ} {b text : List ℕ} → IsKey key levels text → b ≡ codes "(" ++ text ++ codes ")" → IsKey key (suc levels) b
+        → out-Key key ≡ Key-F.And keys → 2 ≤ length keys → AreKeys keys levels texts
+        → b ≡ codes "(" ++ spaced texts ++ codes ")" → IsKey key (suc levels) b
+    within : {key : Key} {levels : ℕ} {b text : List ℕ} → IsKey key levels text
+        → b ≡ codes "(" ++ text ++ codes ")" → IsKey key (suc levels) b
 
   pub data AreKeys : List Key → ℕ → List (List ℕ) → Type 0 where
     none : {levels : ℕ} → AreKeys [] levels []
-    more : {key : Key} {keys : List Key} {levels : ℕ} {text : List ℕ} {texts : List (List ℕ)} → IsKey key levels text → AreKeys keys levels texts → AreKeys (key ∷ keys) levels (text ∷ texts)
+    more : {key : Key} {keys : List Key} {levels : ℕ} {text : List ℕ} {texts : List (List ℕ)}
+        → IsKey key levels text → AreKeys keys levels texts
+        → AreKeys (key ∷ keys) levels (text ∷ texts)
 
 -- keys nest at most so deep
 abbrev pub key_levels : ℕ

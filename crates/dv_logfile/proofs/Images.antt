@@ -3,10 +3,9 @@ use Rattle.std.proofs.Common.{◌≡◌, inl, inr, ℕ, ◌+◌, ◌<◌, ◌≤
 use Rattle.dv_shelf.specs.declared.shelf.Name.TheVariants.{Log}
 use Rattle.dv_shelf.specs.Crashes.{Only, Follows, LeavesOnly}
 use Rattle.dv_shelf.specs.Folders.{Folder, contents, patched, with_file}
-use Rattle.dv_shelf.proofs.Torn.{patched_changes}
 use Rattle.dv_logfile.specs.Gates.{IsShut, IsStaged, IsOpen, IsBeforeOrAfter, AreLong, FromOneOf}
-use Rattle.dv_logfile.proofs.Moments.{weaker, joined}
-use Rattle.dv_logfile.proofs.Gate.{First, Second, shut_torn, staged_first, staged_torn, staged_log, opened_second, contents_of}
+use Rattle.dv_shelf.proofs.Moments.{weaker, joined}
+use Rattle.dv_logfile.proofs.Gate.{First, Second, written_torn, shut_torn, staged_first, staged_torn, staged_log, opened_second, contents_of}
 
 -- where a crash leaves the files alone, each outcome is long
 pub only_long : (F : Folder) (e : ℕ) (outcomes : Folder → Type 0) → Only F outcomes → e < length (contents F Log) → AreLong e outcomes
@@ -63,7 +62,7 @@ module _ (e : ℕ) (text behind : List ℕ) (some_text : 1 ≤ length text) (is 
 
   pub staged_files : (F4 : Folder) → e < length (contents F0 Log) → Second e F2 F4 → IsStaged F0 e text F4
   staged_files F4 long second =
-      let first : First e behind F0 F2 = subst (λ (F : Folder). First e behind F0 F) (sym wrote) (patched_changes F0 Log (e + 1) behind) in
+      let first : First e behind F0 F2 = written_torn F0 F2 (e + 1) behind wrote in
       staged_torn e text behind some_text is F0 F2 F4 long (staged_first e text behind some_text is F0 F2 (contents F0 Log) long first wrote_there) second
 
   pub opened_there : (F4 : Folder) → F4 ≡ with_file F2 Log (Some (patched (contents F2 Log) e (128 ∷ []))) → F4 Log ≡ Some (patched (patched (contents F0 Log) (e + 1) behind) e (128 ∷ []))
@@ -72,7 +71,7 @@ module _ (e : ℕ) (text behind : List ℕ) (some_text : 1 ≤ length text) (is 
 -- ---- every moment
 
 module _ {S : Type 0} (moment : S → ℕ) (left_since : S → ℕ → Folder → Type 0) (may_leave : S → Folder → Type 0) (e : ℕ) (text : List ℕ) (old new : S) where
-  abbrev Since : Type 0
+  abbrev pub Since : Type 0
   Since = LeavesOnly moment left_since old new (FromOneOf (may_leave old) (λ d f. IsBeforeOrAfter d e text f))
 
   -- where the files alone could be left

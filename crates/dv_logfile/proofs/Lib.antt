@@ -1,8 +1,9 @@
 mod Counted
-mod Moments
 mod Gate
 pub mod Groups
 mod Images
+mod Commits
+mod Heals
 pub mod Logs
 pub mod Patches
 pub mod Reading

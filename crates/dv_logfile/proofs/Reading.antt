@@ -76,27 +76,28 @@ module _ (d c : Folder) (e most : ℕ) (kept : KeepsFront d e most c) (fits : mo
 
 -- ---- after the writes of a commit
 
-module _ (d c : Folder) (e : ℕ) (text : List ℕ) (room : e + length text ≤ longest_log) where
+module _ (d c : Folder) (e : ℕ) (text : List ℕ) where
   pub shut_stays : IsShut d e text c → HasShutGate e (contents d Log) → HasShutGate e (contents c Log)
   shut_stays step shut =
       let is = contents_of c step.kept.log step.kept.is in
       let same : slice_index (contents c Log) e ≡ slice_index (contents d Log) e = ap (λ (l : List ℕ). slice_index l e) is ∙ byte_same e step.kept.log (contents d Log) step.gate in
       (omega (arith, ap length is, step.kept.no_shorter, shut.0), λ open'. shut.1 (sym same ∙ open'))
 
-  pub reads_shut : IsShut d e text c → HasShutGate e (contents d Log) → ReadsAs e d c
-  reads_shut step shut = reads_as d c e (e + length text) step.kept room (shut_stays step shut)
-
   pub group_stays : IsStaged d e text c → e < length (contents d Log) → HasGroup e text (contents c Log)
   group_stays step long =
       let is = contents_of c step.kept.log step.kept.is in
       (omega (arith, ap length is, step.kept.no_shorter, long), ap (λ (l : List ℕ). bytes_at (e + 1) (length text - 1) l) is ∙ step.group)
+
+module _ (d c : Folder) (e : ℕ) (text : List ℕ) (room : e + length text ≤ longest_log) where
+  pub reads_shut : IsShut d e text c → HasShutGate e (contents d Log) → ReadsAs e d c
+  reads_shut step shut = reads_as d c e (e + length text) step.kept room (shut_stays d c e text step shut)
 
   -- whatever the gate is, the group is read or it isn't
   pub reads_staged : text ≡ 128 ∷ drop 1 text → IsStaged d e text c → e < length (contents d Log) → ReadsEither e text d c
   reads_staged first step long = ⊎_elim opened shut (cases_eq (slice_index (contents c Log) e) 128)
     where
       group : HasGroup e text (contents c Log)
-      group = group_stays step long
+      group = group_stays d c e text step long
 
       opened : slice_index (contents c Log) e ≡ 128 → ReadsEither e text d c
       opened is = inr (reads_with d c e (e + length text) step.kept room text room

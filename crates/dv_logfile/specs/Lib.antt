@@ -1,4 +1,5 @@
 pub mod Layout
 pub mod Gates
 pub mod Reading
+pub mod Commits
 pub mod Scans

@@ -12,7 +12,8 @@ pub const CLOSING: usize = 4;
 pub fn record_count(text: &[u8]) -> u32
     requires group { IsGroupText text.now }
     requires short { length text.now ≤ 1073741824 }
-    ensures { (records : List Record) → Spelled records text.now closing → result ≡ length records }
+    ensures { (records : List Record) →
+        Spelled records text.now closing → result ≡ length records }
 {
     let mut rest = text;
     let mut count = 0;
@@ -27,7 +28,8 @@ pub fn record_count(text: &[u8]) -> u32
 /// The size that stands at the front of a record's bytes.
 fn record_size(text: &[u8]) -> usize
     requires { 4 ≤ length text.now }
-    ensures { (n : ℕ) → n < 2 ^ 30 → n % 4 ≡ 0 → take 4 text.now ≡ size_code n → result ≡ n }
+    ensures { (n : ℕ) → n < 2 ^ 30 → n % 4 ≡ 0 →
+        take 4 text.now ≡ size_code n → result ≡ n }
 {
     match size_value([text[0], text[1], text[2], text[3]]) {
         Some(size) => size as usize,

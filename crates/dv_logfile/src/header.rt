@@ -87,7 +87,8 @@ fn fields_of(b: &[u8]) -> LogHeader
 /// The modification sequence, where the header's size has it.
 fn initial_modseq(b: &[u8], hdr_size: u16) -> u64
     requires { hdr_size ≤ length b.now }
-    ensures { result ≡ (if nat_le 32 hdr_size then from_le_bytes w64 (bytes_at 24 8 b.now) else 0) }
+    ensures { result ≡
+        (if nat_le 32 hdr_size then from_le_bytes w64 (bytes_at 24 8 b.now) else 0) }
 {
     if hdr_size >= 32 { u64_at(b, 24) } else { 0 }
 }

@@ -35,7 +35,8 @@ pub fn scan(alloc: Global, b: &[u8]) -> Result<Scan, ScanEnd>
     // It is a log of these records.
     ensures log { IfOk result (λ scan. IsLog scan.header scan.records scan.end b.now) }
     // A log is read as that log.
-    ensures read { (h : LogHeader) (rs : List Record) (e : ℕ) → IsLog h rs e b.now → IsLogScan result h rs e }
+    ensures read { (h : LogHeader) (rs : List Record) (e : ℕ) →
+        IsLog h rs e b.now → IsLogScan result h rs e }
 {
     let header = match read_header(b) {
         Some(header) => header,
@@ -61,10 +62,12 @@ pub fn scan(alloc: Global, b: &[u8]) -> Result<Scan, ScanEnd>
 fn next_record(alloc: Global, b: &[u8], at: usize) -> Result<Option<(Record, usize)>, ScanEnd>
     requires inside { at ≤ length b.now }
     requires fits { at ≤ last_end }
-    ensures record_at { IfOk result (λ next. IfSome next (λ x. (at ≤ x.1) × (x.1 ≤ last_end) × IsRecordAt x.0 (x.1 - at) (drop at b.now))) }
+    ensures record_at { IfOk result (λ next. IfSome next (λ x.
+        (at ≤ x.1) × (x.1 ≤ last_end) × IsRecordAt x.0 (x.1 - at) (drop at b.now))) }
     ensures valid { IfOk result (λ next. IfSome next (λ x. IsRecord x.0)) }
     ensures closed { IfOk result (λ next. IsNone next → is_closed (drop at b.now) ≡ true) }
-    ensures fault { IfErr result (λ e. (e ≡ end.NoMemory) ⊎ ((e ≡ end.BadRecord at) × IsFaulty at (drop at b.now))) }
+    ensures fault { IfErr result (λ e.
+        (e ≡ end.NoMemory) ⊎ ((e ≡ end.BadRecord at) × IsFaulty at (drop at b.now))) }
 {
     match decode(alloc, b, at) {
         Ok(found) if found.1 <= LAST_END => Ok(Some(found)),
@@ -79,13 +82,18 @@ fn next_record(alloc: Global, b: &[u8], at: usize) -> Result<Option<(Record, usi
 
 /// A file holds one thing: nothing, a header that isn't taken, a fault at one place, or one log.
 pub fn one_scan()
-    ensures { (file : Option (List ℕ)) (s t : Scanned) → IsScanned file s → IsScanned file t → s ≡ t }
+    ensures { (file : Option (List ℕ)) (s t : Scanned) →
+        IsScanned file s → IsScanned file t → s ≡ t }
 {}
 
 /// A log is a good file of its records, each at a place of its own, and so is what `create` writes.
 pub fn log_is_good()
     ensures log { (h : LogHeader) (rs : List Record) (e : ℕ) (b : List ℕ) → IsLog h rs e b
-        → (places : List ℕ) × (length places ≡ length rs) × IsScanned (Some b) (Good (record { header = h; spots = spots_of places rs; end = e })) }
-    ensures written { (h : LogHeader) (rs : List Record) → IsGoodHeader h → All IsRecord rs → log_end rs ≤ last_end
-        → (places : List ℕ) × (length places ≡ length rs) × IsScanned (Some (log_text h rs)) (Good (record { header = h; spots = spots_of places rs; end = log_end rs })) }
+        → (places : List ℕ) × (length places ≡ length rs)
+        × IsScanned (Some b) (Good (record { header = h; spots = spots_of places rs; end = e })) }
+    ensures written { (h : LogHeader) (rs : List Record) → IsGoodHeader h → All IsRecord rs
+        → log_end rs ≤ last_end
+        → (places : List ℕ) × (length places ≡ length rs)
+        × IsScanned (Some (log_text h rs))
+        (Good (record { header = h; spots = spots_of places rs; end = log_end rs })) }
 {}

@@ -16,7 +16,8 @@ pub fn create(alloc: Global, header: &LogHeader, records: &List<Record>) -> Resu
     requires size { header.now.hdr_size ≡ 40 }
     requires valid { All IsRecord records.now }
     ensures text { IfOk result (λ text. text ≡ log_text header.now records.now) }
-    ensures log { IsGoodHeader header.now → log_end records.now ≤ last_end → IfOk result (λ text. IsLog header.now records.now (log_end records.now) text) }
+    ensures log { IsGoodHeader header.now → log_end records.now ≤ last_end →
+        IfOk result (λ text. IsLog header.now records.now (log_end records.now) text) }
 {
     let mut text = List::new(alloc);
     write_header(header, &mut text)?;
@@ -41,7 +42,8 @@ pub fn group_text(alloc: Global, group: &Group) -> Result<Bytes, NoMemory>
 
 /// A file is one log at most: its header, its records and their end.
 pub fn one_log()
-    ensures { (h k : LogHeader) (rs ss : List Record) (e f : ℕ) (b : List ℕ) → IsLog h rs e b → IsLog k ss f b → IsOneLog h k rs ss e f }
+    ensures { (h k : LogHeader) (rs ss : List Record) (e f : ℕ) (b : List ℕ) →
+        IsLog h rs e b → IsLog k ss f b → IsOneLog h k rs ss e f }
 {}
 
 fn write_header(header: &LogHeader, out: &mut Bytes) -> Result<(), NoMemory>

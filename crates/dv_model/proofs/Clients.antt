@@ -1,4 +1,4 @@
--- A client that hears what is said of a move has the view.
+-- A client that hears what is said of a move has the view, and what a move keeps of each row.
 use Rattle.std.proofs.Common.{◌≡◌, ◌⊎◌, inl, inr, ℕ, zero, suc, ◌+◌, ◌-◌, ◌<◌, ◌≤◌, Bool, true, false, cond, not, ◌&&◌, ◌||◌, List, [], ◌∷◌, ◌++◌, length, Some, Option, refl, sym, ◌∙◌, ap, subst, arith, length-append}
 use Rattle.std.specs.Prelude.{All, map, reverse, filter, find, fold, take, drop, replicate, slice_set, slice_get, slice_index, nat_eq, nat_le, bytes_eq, unwrap_or, option_map}
 use Rattle.std.specs.List.{list_any, list_all, AllByRecursion}
@@ -32,7 +32,7 @@ not_not : (b : Bool) → not (not b) ≡ b
 not_not true = refl
 not_not false = refl
 
-filter_same : {X : Type 0} (p q : X → Bool) (xs : List X) → AllByRecursion (λ x. p x ≡ q x) xs → filter p xs ≡ filter q xs
+pub filter_same : {X : Type 0} (p q : X → Bool) (xs : List X) → AllByRecursion (λ x. p x ≡ q x) xs → filter p xs ≡ filter q xs
 filter_same p q [] same = refl
 filter_same p q (x ∷ xs) same = ap (λ b. cond b (x ∷ filter p xs) (filter p xs)) same.0 ∙ ap (λ ys. cond (q x) (x ∷ ys) ys) (filter_same p q xs same.1)
 
@@ -40,11 +40,11 @@ filter_none : {X : Type 0} (xs : List X) → filter (λ x. false) xs ≡ []
 filter_none [] = refl
 filter_none (x ∷ xs) = filter_none xs
 
-each_of_all : {X : Type 0} (P : X → Type 0) (xs : List X) → All P xs → AllByRecursion P xs
+pub each_of_all : {X : Type 0} (P : X → Type 0) (xs : List X) → All P xs → AllByRecursion P xs
 each_of_all P [] all = tt
 each_of_all P (x ∷ xs) all = (All-head P x xs all, each_of_all P xs (All-tail P x xs all))
 
-each_weaker : {X : Type 0} (P Q : X → Type 0) → ((x : X) → P x → Q x) → (xs : List X) → AllByRecursion P xs → AllByRecursion Q xs
+pub each_weaker : {X : Type 0} (P Q : X → Type 0) → ((x : X) → P x → Q x) → (xs : List X) → AllByRecursion P xs → AllByRecursion Q xs
 each_weaker P Q weaker [] each = tt
 each_weaker P Q weaker (x ∷ xs) each = (weaker x each.0, each_weaker P Q weaker xs each.1)
 
@@ -141,11 +141,11 @@ module _ (m : Mailbox) (p : Shown → Bool) where
 -- ---- rows in rising order
 
 -- the UIDs rise, from n on
-abbrev Above : ℕ → List Shown → Type 0
+abbrev pub Above : ℕ → List Shown → Type 0
 Above n [] = Unit {0}
 Above n (s ∷ rows) = (n ≤ s.uid) × Above (s.uid + 1) rows
 
-above_lower : (k n : ℕ) (rows : List Shown) → k ≤ n → Above n rows → Above k rows
+pub above_lower : (k n : ℕ) (rows : List Shown) → k ≤ n → Above n rows → Above k rows
 above_lower k n [] le above = tt
 above_lower k n (s ∷ rows) le above = (omega (arith, above.0), above.1)
 
@@ -159,12 +159,12 @@ rising_behind first [] up = tt
 rising_behind first (next ∷ rest) up =
     let step = up 0 (omega arith) in (omega (arith, step), rising_behind next rest (rising_tail first.uid (map (λ t. t.uid) (next ∷ rest)) up))
 
-above_of_rising : (rows : List Shown) → IsStrictlyIncreasing (map (λ s. s.uid) rows) → Above 0 rows
+pub above_of_rising : (rows : List Shown) → IsStrictlyIncreasing (map (λ s. s.uid) rows) → Above 0 rows
 above_of_rising [] rising = tt
 above_of_rising (s ∷ rows) rising = (omega arith, rising_behind s rows rising)
 
 -- the row is one of these
-abbrev IsOne : Shown → List Shown → Type 0
+abbrev pub IsOne : Shown → List Shown → Type 0
 IsOne s [] = ⊥
 IsOne s (x ∷ rows) = (s ≡ x) ⊎ IsOne s rows
 
@@ -195,7 +195,7 @@ found_one test (x ∷ rows) e = found_here test x rows (found_one test rows) (te
 
 -- ---- which rows stay, and which are new
 
-abbrev shows : List Shown → ℕ → Bool
+abbrev pub shows : List Shown → ℕ → Bool
 shows rows uid = list_any (λ s. nat_eq s.uid uid) rows
 
 not_same : (a b : ℕ) → a < b → nat_eq a b ≡ false
@@ -213,17 +213,17 @@ none_past b uid [] below le = refl
 none_past b uid (s ∷ rows) below le = let low = below.0 in rw (not_same s.uid uid (omega arith)) (none_past b uid rows below.1 le)
 
 -- each row was shown or is new
-abbrev Comes : ℕ → List Shown → List Shown → Type 0
+abbrev pub Comes : ℕ → List Shown → List Shown → Type 0
 Comes b old new = AllByRecursion (λ s. (shows old s.uid ≡ true) ⊎ (b ≤ s.uid)) new
 
 -- the old rows that stay stand first, in their places, and only new ones follow
-abbrev Aligned : (Shown → Type 0) → ℕ → List Shown → List Shown → Type 0
+abbrev pub Aligned : (Shown → Type 0) → ℕ → List Shown → List Shown → Type 0
 Aligned In b [] [] = Unit {0}
 Aligned In b [] (s ∷ new) = (b ≤ s.uid) × Aligned In b [] new
 Aligned In b (k ∷ kept) [] = ⊥
 Aligned In b (k ∷ kept) (s ∷ new) = In k × (k.uid ≡ s.uid) × Aligned In b kept new
 
-abbrev staying : List Shown → List Shown → List Shown
+abbrev pub staying : List Shown → List Shown → List Shown
 staying old new = filter (λ s. shows new s.uid) old
 
 or_second : (a b : Bool) → a ≡ false → (a || b) ≡ true → b ≡ true
@@ -275,7 +275,7 @@ module _ (In : Shown → Type 0) (b : ℕ) where
         | inr le ↦ omega (arith, le)
       ]
 
-  aligned : (n : ℕ) (old new : List Shown) → Above n old → AllByRecursion (λ o. o.uid < b) old → AllByRecursion In old → Above n new → Comes b old new → Aligned In b (staying old new) new
+  pub aligned : (n : ℕ) (old new : List Shown) → Above n old → AllByRecursion (λ o. o.uid < b) old → AllByRecursion In old → Above n new → Comes b old new → Aligned In b (staying old new) new
   aligned n [] new above_old below in_old above comes = aligned_new n new comes
   aligned n (o ∷ old) [] above_old below in_old above comes = rw (filter_none old) tt
   aligned n (o ∷ old) (s ∷ new) above_old below in_old above comes =
@@ -308,7 +308,7 @@ and_first true b e = refl
 and_first false b e = false_is_not_true e
 
 module _ (In : Shown → Type 0) (b : ℕ) where
-  aligned_short : (kept new : List Shown) → Aligned In b kept new → length kept ≤ length new
+  pub aligned_short : (kept new : List Shown) → Aligned In b kept new → length kept ≤ length new
   aligned_short [] [] a = omega arith
   aligned_short [] (s ∷ new) a = omega arith
   aligned_short (k ∷ kept) [] a = absurd a
@@ -355,7 +355,7 @@ one_each P [] s each one = absurd one
 one_each P (x ∷ rows) s each (inl e) = subst P (sym e) each.0
 one_each P (x ∷ rows) s each (inr one) = one_each P rows s each.1 one
 
-each_is_one : (rows more : List Shown) → ((s : Shown) → IsOne s rows → IsOne s more) → AllByRecursion (λ s. IsOne s more) rows
+pub each_is_one : (rows more : List Shown) → ((s : Shown) → IsOne s rows → IsOne s more) → AllByRecursion (λ s. IsOne s more) rows
 each_is_one [] more inside = tt
 each_is_one (x ∷ rows) more inside = (inside x (inl refl), each_is_one rows more (λ s one. inside s (inr one)))
 
@@ -364,7 +364,7 @@ get_before [] more k below = absurd (omega (arith, below))
 get_before (x ∷ xs) more zero below = refl
 get_before (x ∷ xs) more (suc k) below = get_before xs more k (omega (arith, below))
 
-names_same : (before m : Mailbox) (more : List (List ℕ)) → m.keywords ≡ before.keywords ++ more → (places : List ℕ) → AllByRecursion (λ k. k < length before.keywords) places → names_of before places ≡ names_of m places
+pub names_same : (before m : Mailbox) (more : List (List ℕ)) → m.keywords ≡ before.keywords ++ more → (places : List ℕ) → AllByRecursion (λ k. k < length before.keywords) places → names_of before places ≡ names_of m places
 names_same before m more is [] each = refl
 names_same before m more is (k ∷ places) each =
     let name : slice_get m.keywords k ≡ slice_get before.keywords k = ap (λ names. slice_get names k) is ∙ get_before before.keywords more k each.0 in
@@ -398,7 +398,7 @@ module _ (before m : Mailbox) (view : View) (read : IsReadIn before view) (more 
   abbrev old : List Shown
   old = view.rows
 
-  abbrev In : Shown → Type 0
+  abbrev pub In : Shown → Type 0
   In s = IsOne s old
 
   old_above : Above 0 old
@@ -431,16 +431,16 @@ module _ (before m : Mailbox) (view : View) (read : IsReadIn before view) (more 
   new_told s le = ap not (none_same view.next_uid s old old_below le)
 
   module _ (new : List Shown) (next_uid : ℕ) (moves : Moves view new) where
-    abbrev kept_rows : List Shown
+    abbrev pub kept_rows : List Shown
     kept_rows = staying old new
 
-    lined_up : Aligned In view.next_uid kept_rows new
+    pub lined_up : Aligned In view.next_uid kept_rows new
     lined_up = aligned In view.next_uid 0 old new old_above old_below (each_is_one old old (λ s one. one)) moves.rising moves.comes
 
     abbrev later : View
     later = record { rows = new; next_uid = next_uid }
 
-    after_removals : fold heard (known_of before view) (removals view later) ≡ map (known_row before) kept_rows
+    pub after_removals : fold heard (known_of before view) (removals view later) ≡ map (known_row before) kept_rows
     after_removals =
         heard_expunges (known_row before) (λ s. not (shows new s.uid)) 1 [] old refl
         ∙ ap (map (known_row before)) (filter_same (λ s. not (not (shows new s.uid))) (λ s. shows new s.uid) old (each_not_not old))
@@ -470,24 +470,24 @@ shown_uids : (rows : List Row) → map (λ s. s.uid) (map shown rows) ≡ map (�
 shown_uids [] = refl
 shown_uids (row ∷ rows) = ap (λ uids. row.uid ∷ uids) (shown_uids rows)
 
-all_shown_rise : (m : Mailbox) → IsStrictlyIncreasing (map (λ row. row.uid) m.rows) → Above 0 (map shown m.rows)
+pub all_shown_rise : (m : Mailbox) → IsStrictlyIncreasing (map (λ row. row.uid) m.rows) → Above 0 (map shown m.rows)
 all_shown_rise m rising = above_of_rising (map shown m.rows) (subst IsStrictlyIncreasing (sym (shown_uids m.rows)) rising)
 
 shown_comes : (view : View) (rows : List Row) → AllByRecursion (λ row. (shows_uid view row.uid ≡ true) ⊎ (view.next_uid ≤ row.uid)) rows → Comes view.next_uid view.rows (map shown rows)
 shown_comes view [] each = tt
 shown_comes view (row ∷ rows) each = (each.0, shown_comes view rows each.1)
 
-full_moves : (before m : Mailbox) (view : View) → Follows before view m → Moves view (map shown m.rows)
+pub full_moves : (before m : Mailbox) (view : View) → Follows before view m → Moves view (map shown m.rows)
 full_moves before m view follows = record {
   rising = all_shown_rise m follows.valid.rising;
   comes = shown_comes view m.rows (each_of_all (λ (row : Row). (shows_uid view row.uid ≡ true) ⊎ (view.next_uid ≤ row.uid)) m.rows follows.rows);
 }
 
 -- a row of the view as the mailbox has it now, or as it was shown
-abbrev held_row : Mailbox → Shown → Shown
+abbrev pub held_row : Mailbox → Shown → Shown
 held_row m s = unwrap_or (option_map shown (row_of m s.uid)) s
 
-held_uid : (m : Mailbox) (s : Shown) → (held_row m s).uid ≡ s.uid
+pub held_uid : (m : Mailbox) (s : Shown) → (held_row m s).uid ≡ s.uid
 held_uid m s = by_rows m.rows
   where
     by_test : (row : Row) (rest : Option Row) → (unwrap_or (option_map shown rest) s).uid ≡ s.uid → (b : Bool) → nat_eq row.uid s.uid ≡ b → (unwrap_or (option_map shown (cond b (Some row) rest)) s).uid ≡ s.uid
@@ -507,7 +507,7 @@ held_above m n b (s ∷ rows) tail le above below behind =
     )
 
 -- the rows from a UID on
-abbrev from_uid : ℕ → List Row → List Row
+abbrev pub from_uid : ℕ → List Row → List Row
 from_uid b rows = filter (λ row. nat_le b row.uid) rows
 
 new_above : (n b : ℕ) (rows : List Row) → Above n (map shown rows) → Above n (map shown (from_uid b rows))
@@ -548,7 +548,7 @@ held_comes : (m : Mailbox) (b : ℕ) (rows old : List Shown) → AllByRecursion 
 held_comes m b [] shown_before each = tt
 held_comes m b (s ∷ rows) shown_before each = (inl (ap (shows shown_before) (held_uid m s) ∙ shows_own shown_before s each.0), held_comes m b rows shown_before each.1)
 
-held_moves : (before m : Mailbox) (view : View) → IsReadIn before view → Follows before view m → Moves view (map (held_row m) view.rows ++ map shown (from_uid view.next_uid m.rows))
+pub held_moves : (before m : Mailbox) (view : View) → IsReadIn before view → Follows before view m → Moves view (map (held_row m) view.rows ++ map shown (from_uid view.next_uid m.rows))
 held_moves before m view read follows =
     let tail = map shown (from_uid view.next_uid m.rows) in
     let behind = above_from 0 view.next_uid tail (new_above 0 view.next_uid m.rows (all_shown_rise m follows.valid.rising)) (new_from view.next_uid m.rows) in

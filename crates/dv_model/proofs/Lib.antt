@@ -4,3 +4,4 @@ pub mod Speaking
 pub mod Searching
 pub mod Clients
 pub mod Marks
+pub mod SerialSessions

@@ -3,7 +3,6 @@ pub mod Mailboxes
 pub mod Effects
 pub mod Spelling
 pub mod Fields
-pub mod BoxTexts
 pub mod Counts
 pub mod Journals
 pub mod Views

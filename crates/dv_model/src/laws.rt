@@ -1,4 +1,4 @@
-ghost use Rattle.dv_model.specs.Laws.{ClientHasView, MarksAreDistinct, MarksRise, RunsStay, RunsGoOn, SpokenStays, SpokenGoesOn, SpokenGoesOnWriting, SpokenWaits};
+ghost use Rattle.dv_model.specs.Laws.{ClientHasView, MarksAreDistinct, MarksRise, RunsStay, RunsGoOn, SerialIsSpoken, SpokenStays, SpokenGoesOn, SpokenGoesOnWriting, SpokenWaits};
 
 /// A client that has the view of a session has its next view after it hears what is said of the
 /// move (RFC 3501, section 7.4.1), by either step.
@@ -19,6 +19,11 @@ pub fn transcripts_go_on()
     ensures on { SpokenGoesOn }
     ensures writing { SpokenGoesOnWriting }
     ensures waits { SpokenWaits }
+{}
+
+/// A run of one command after another is a transcript of each of its sessions.
+pub fn serial_is_spoken()
+    ensures { SerialIsSpoken }
 {}
 
 /// The place behind more entries of a log lies behind, so a place names one number of entries.

@@ -7,9 +7,9 @@ mod list;
 mod memory;
 mod types;
 
-pub use laws::{client_has_view, marks_rise, runs_go_on, transcripts_go_on};
+pub use laws::{client_has_view, marks_rise, runs_go_on, serial_is_spoken, transcripts_go_on};
 pub use list::{Bytes, List};
-pub use memory::{Duplicate, NoMemory};
+pub use memory::{Duplicate, NoMemory, OutOfMemory};
 pub use sqlite_items::{Boxed, Items};
 pub use types::{
     Body, Change, Command, Current, End, Entry, Extension, Fresh, Group, GuidRow, How, Intro, Item,

@@ -19,12 +19,22 @@ impl<T: Drop> From<AllocFailed<T>> for NoMemory {
     }
 }
 
-impl From<NoMemory> for OpenFault {
+/// An error that says that memory ran out. Each error with a variant for it is made from all of them
+/// by one `From`.
+pub trait OutOfMemory: Drop {}
+
+impl OutOfMemory for NoMemory {}
+
+impl OutOfMemory for AllocError {}
+
+impl<T: Drop> OutOfMemory for AllocFailed<T> {}
+
+impl<E: OutOfMemory> From<E> for OpenFault {
     ghost use Rattle.dv_model.specs.declared.types.OpenFault.TheVariants as open_fault;
 
     ghost from_gives = { λ _ fault. fault ≡ open_fault.NoMemory };
 
-    fn from(_: NoMemory) -> OpenFault {
+    fn from(_: E) -> OpenFault {
         OpenFault::NoMemory
     }
 }

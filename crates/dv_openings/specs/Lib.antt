@@ -1,3 +1,5 @@
 pub mod Openings
 pub mod Salvages
+pub mod Rebuilds
+pub mod TrueCaches
 pub mod Laws

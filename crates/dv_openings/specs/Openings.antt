@@ -188,14 +188,19 @@ found_in BadHeader rotated index = BadLogHeader
 found_in (BadSpot place) rotated index = BadRecord place
 found_in (Good log) rotated index = from_either log (joining log rotated) (counted log index)
 
--- opening the folder finds this
+-- a fact that is asked for only where the log is good
+abbrev pub IfGood : Scanned → Type 0 → Type 0
+IfGood (Good log) P = P
+IfGood scanned P = Unit {0}
+
+-- opening the folder finds this; beside a log that isn't good the other files aren't read
 pub record IsFound (folder : Folder) (found : Found) : Type 0 where
   pub log : Scanned
   pub rotated : Scanned
   pub index : Option Snapshot
   pub log_file : IsScanned (folder name.Log) log
-  pub rotated_file : IsScanned (folder name.Log2) rotated
-  pub index_file : IsIndex (folder name.Index) index
+  pub rotated_file : IfGood log (IsScanned (folder name.Log2) rotated)
+  pub index_file : IfGood log (IsIndex (folder name.Index) index)
   pub is : found ≡ found_in log rotated index
 
 -- ---- what opening writes

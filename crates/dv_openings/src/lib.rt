@@ -1,4 +1,5 @@
-//! What opening finds in a mailbox folder, as a definition: the mailbox and its place in the log, or the fault.
+//! What opening finds in a mailbox folder, what a rebuild makes of it, and when its cache file is
+//! true, as definitions.
 #![tactic(auto)]
 
 ghost use Rattle.dv_openings.specs.Laws.{FoundIsOne};

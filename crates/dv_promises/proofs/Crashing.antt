@@ -1,5 +1,5 @@
 -- What a crash leaves.
-use Rattle.std.proofs.Common.{◌≡◌, ◌⊎◌, inl, inr, ℕ, zero, suc, ◌+◌, Bool, true, false, cond, not, List, [], ◌∷◌, ◌++◌, length, get_or, nat_eq, Option, Some, None, refl, sym, ◌∙◌, ap, subst, arith, length-append}
+use Rattle.std.proofs.Common.{◌≡◌, ◌⊎◌, inl, inr, ℕ, zero, suc, ◌+◌, ◌≤◌, Bool, true, false, cond, not, List, [], ◌∷◌, ◌++◌, length, get_or, nat_eq, Option, Some, None, refl, sym, ◌∙◌, ap, subst, arith, length-append}
 use Rattle.std.specs.Prelude.{All, Any, IfSome, filter, map, slice_get}
 use Rattle.std.specs.List.{list_any}
 use Rattle.std.proofs.lemmas.Bool.{or_left}
@@ -12,20 +12,19 @@ use Rattle.dv_model.specs.declared.types.Entry.{Entry}
 use Rattle.dv_model.specs.declared.types.Group.{Group}
 use Rattle.dv_model.specs.declared.types.Reply.{Reply}
 use Rattle.dv_model.specs.declared.types.Reply.TheVariants as reply
-use Rattle.dv_model.specs.Journals.{Log}
+use Rattle.dv_model.specs.Journals.{Log, IsSound}
 use Rattle.dv_model.specs.Sessions.{State, is_write, reads_mail}
-use Rattle.dv_model.specs.Transcripts.{AreWrittenBut, IsLeft, IsOwn, IsTurn, LeadsTo, Turn, WroteEntry}
+use Rattle.dv_model.specs.Transcripts.{AreWrittenBut, IsFailed, IsLeft, IsOwn, IsTurn, LeadsTo, Turn, WroteEntry}
 use Rattle.dv_model.proofs.Speaking.{one_or_last}
-use Rattle.dv_interleavings.specs.Promises.{CrashKeeps, IsSpokenAfterCrash, is_refusal, sent_of, was_refused}
+use Rattle.dv_interleavings.specs.Promises.{CrashKeeps, GoesOn, IsSpokenAfterCrash, is_refusal, pending_entries, sent_of, was_refused}
 use Rattle.dv_interleavings.specs.Worlds.{World, Session, Pending, Crash, happens, length_of, only_log, with_entry}
 use Rattle.dv_promises.specs.Standing.{begins_at, HasAuthor, IsLive, IsToldTurn, IsTried, Stands}
 use Rattle.dv_promises.proofs.Ending.{crash_all, crash_none, crash_some, tried_of}
 use Rattle.dv_promises.proofs.Going.{live_on, same_refusal, turns_on}
-use Rattle.dv_promises.proofs.Logs.{Extends, IsWhole, last_extends, last_group, with_entry_is, with_last}
+use Rattle.dv_promises.proofs.Logs.{Extends, last_extends, last_group, last_message, same_log, with_entry_is, with_last}
 use Rattle.dv_promises.proofs.Refusals.{told_unrefused}
-use Rattle.dv_promises.proofs.Syncing.{at_seam, own_back, value_of}
+use Rattle.dv_promises.proofs.Syncing.{at_seam, own_back, value_of, sound_more}
 use Rattle.dv_promises.proofs.Transcripts.{all_written, entries_live, pair_of, speaks_live, speaks_of, turns_answered}
-use Rattle.dv_promises.proofs.Writing.{whole_of}
 
 -- ---- refused answers are passed over
 
@@ -42,12 +41,13 @@ all_kept log s (t ∷ turns) each =
 
 -- ---- a session whose entries are all durable
 
-pub spoken_after : (log : Log) (published : ℕ) (pending : Option Pending) (s : ℕ) (session : Session) → IsLive log published pending s session → IsSpokenAfterCrash log s session
-spoken_after log published pending s session live = record {
+pub spoken_after : (log : Log) (published : ℕ) (pending : Option Pending) (s : ℕ) (session : Session) → IsSound log → IsLive log published pending s session → IsSpokenAfterCrash log s session
+spoken_after log published pending s session sound live = record {
   answers = session.answers;
   unanswered = sent_of session.wrote;
   kept = subst (λ answers. filter (λ a. not (was_refused a)) answers ≡ answers) live.answers (all_kept log s live.turns live.each);
   spoken = record {
+    sound = sound;
     speaks = speaks_live log published pending s session live;
     entries = elim (entries_live log published pending s session live) [ inl written ↦ inl written | inr left ↦ inr (left.0, inl left.1, left.2) ];
   };
@@ -89,7 +89,7 @@ pub all_back : {X : Type 0} (P : X → Type 0) (front back : List X) → All P (
 all_back P [] back all = all
 all_back P (x ∷ front) back all = all_back P front back (All-tail P x (front ++ back) all)
 
-module _ (log : Log) (whole : IsWhole log) (p : Pending) (published : ℕ) (pending : Option Pending) (session : Session) (live : IsLive log published pending p.author session)
+module _ (log : Log) (sound : IsSound log) (p : Pending) (published : ℕ) (pending : Option Pending) (session : Session) (live : IsLive log published pending p.author session)
     (tried : IsTried log live.start live.turns session.state session.wrote p) where
   abbrev more : Log
   more = with_last log p tried.mailbox
@@ -107,7 +107,7 @@ module _ (log : Log) (whole : IsWhole log) (p : Pending) (published : ℕ) (pend
   many = omega (arith, length_push log.entries entry)
 
   on : Extends log more
-  on = last_extends log p tried.mailbox whole tried.is_there
+  on = last_extends log p tried.mailbox sound tried.is_there
 
   split_each : All (IsToldTurn log p.author) (tried.front ++ tried.back)
   split_each = subst (All (IsToldTurn log p.author)) tried.split live.each
@@ -144,11 +144,21 @@ module _ (log : Log) (whole : IsWhole log) (p : Pending) (published : ℕ) (pend
       ∙ ap (map pair_of) (sym tried.split)
       ∙ live.answers
 
-  left : IsLeft more p.author (length log.entries) tried.state.view p.command
+  left : IsLeft more p.author (length log.entries) tried.state p.command
   left = record {
-    mailbox = tried.mailbox;
-    met = on.same_at (length log.entries) (omega arith) ∙ tried.is_there;
-    entry = at_seam log.entries entry ∙ ap (λ (g : Group). Some (record { author = p.author; group = g })) (tried.group ∙ last_group log p tried.mailbox tried.state.view);
+    left = record {
+      mailbox = tried.mailbox;
+      met = on.same_at (length log.entries) (omega arith) ∙ tried.is_there;
+      told = tried.told;
+      write = tried.write;
+      allowed = same_refusal log more on (length log.entries) tried.mailbox tried.state p.command None (omega arith) tried.is_there tried.allowed;
+      written = record {
+        behind = refl;
+        some = subst (λ (g : Group). 1 ≤ length g.records) (tried.group ∙ last_group log p tried.mailbox tried.state.view) tried.some;
+        entry = at_seam log.entries entry ∙ ap (λ (g : Group). Some (record { author = p.author; group = g })) (tried.group ∙ last_group log p tried.mailbox tried.state.view);
+        message = last_message log p tried.mailbox;
+      };
+    };
     last = λ j own.
         let within = slice_get_within (log.entries ++ entry ∷ []) j own.entry own.is in
         let from = own.later in
@@ -172,11 +182,12 @@ module _ (log : Log) (whole : IsWhole log) (p : Pending) (published : ℕ) (pend
     unanswered = [];
     kept = kept_is;
     spoken = record {
+      sound = sound_more log sound p live.start live.turns session.state session.wrote tried;
       speaks = speaks_of more p.author live.start turns session.state (map pair_of turns) [] (let all = many in let low = live.there in omega arith) turns_told
           (leads_through (begins_at live.start) tried.front tried.state (failed ∷ tried.back) session.state tried.leads (refl, tried.rest)) refl;
       entries = inr (
         length log.entries,
-        inr (any_middle (λ (t : Turn). ((n : ℕ) × (t.replies ≡ reply.Unavailable n ∷ [])) × IsLeft more p.author (length log.entries) t.before.view t.command) tried.front failed tried.back ((1, refl), left)),
+        inr (any_middle (λ (t : Turn). IsFailed t × (t.met ≡ length log.entries) × IsLeft more p.author (length log.entries) t.before t.command) tried.front failed tried.back ((1, refl), refl, left)),
         written_but,
       );
     };
@@ -189,22 +200,25 @@ crash_keeps w n stands = by_number (nat_eq n (length_of w)) refl
   where
     after : (s : ℕ) (o : Option Session) → w.sessions s ≡ o → IfSome o (IsSpokenAfterCrash w.log s)
     after s None is = tt
-    after s (Some session) is = spoken_after w.log w.published w.pending s session (stands.each s session is)
+    after s (Some session) is = spoken_after w.log w.published w.pending s session stands.sound (stands.each s session is)
 
-    same_log : (log : Log) → (happens w (Crash n)).log ≡ log → (more : List Entry) → log.entries ≡ w.log.entries ++ more → ((s : ℕ) → IfSome (w.sessions s) (IsSpokenAfterCrash log s)) → CrashKeeps w n
-    same_log log is more entries each = record {
-      more = more;
-      entries = ap (λ (l : Log). l.entries) is ∙ entries;
+    keeps_by : (log : Log) → (happens w (Crash n)).log ≡ log → (log.entries ≡ w.log.entries) ⊎ (log.entries ≡ w.log.entries ++ pending_entries w.pending) → GoesOn w.log log
+        → ((s : ℕ) → IfSome (w.sessions s) (IsSpokenAfterCrash log s)) → CrashKeeps w n
+    keeps_by log is entries goes_on each = record {
+      entries = subst (λ (l : Log). (l.entries ≡ w.log.entries) ⊎ (l.entries ≡ w.log.entries ++ pending_entries w.pending)) (sym is) entries;
+      goes_on = subst (GoesOn w.log) (sym is) goes_on;
       replies = λ s. subst (λ (l : Log). IfSome (w.sessions s) (IsSpokenAfterCrash l s)) (sym is) (each s);
     }
 
     stays : (happens w (Crash n)).log ≡ w.log → CrashKeeps w n
-    stays is = same_log w.log is [] (sym (append-nil w.log.entries)) (λ s. after s (w.sessions s) refl)
+    stays is = keeps_by w.log is (inl refl) (same_log w.log) (λ s. after s (w.sessions s) refl)
 
     with_more : (p : Pending) → w.pending ≡ Some p → HasAuthor w p → (happens w (Crash n)).log ≡ with_entry w.log p → CrashKeeps w n
     with_more p is author left =
         let tried = tried_of w stands p is author in
-        same_log (with_last w.log p tried.mailbox) (left ∙ with_entry_is w.log p tried.mailbox tried.is_there) (record { author = p.author; group = p.group } ∷ []) refl
+        keeps_by (with_last w.log p tried.mailbox) (left ∙ with_entry_is w.log p tried.mailbox tried.is_there)
+        (inr (ap (λ (o : Option Pending). w.log.entries ++ pending_entries o) (sym is)))
+        (last_extends w.log p tried.mailbox stands.sound tried.is_there).goes_on
         (λ s. by_session p is author s (w.sessions s) refl (nat_eq p.author s) refl)
       where
         by_session : (p : Pending) (is : w.pending ≡ Some p) (author : HasAuthor w p) (s : ℕ) (o : Option Session) → w.sessions s ≡ o → (b : Bool) → nat_eq p.author s ≡ b
@@ -216,14 +230,15 @@ crash_keeps w n stands = by_number (nat_eq n (length_of w)) refl
             let one : author.0 ≡ session = same_Some author.0 session (sym author.1 ∙ ap w.sessions e ∙ there) in
             subst (λ (t : ℕ). IsSpokenAfterCrash (with_last w.log p (tried_of w stands p is author).mailbox) t session) e
             (subst (λ (x : Session). IsSpokenAfterCrash (with_last w.log p (tried_of w stands p is author).mailbox) p.author x) one
-            (author_after w.log (whole_of w stands) p w.published w.pending author.0 live (tried_of w stands p is author)))
+            (author_after w.log stands.sound p w.published w.pending author.0 live (tried_of w stands p is author)))
         by_session p is author s (Some session) there false differs =
             let live = stands.each p.author author.0 author.1 in
             let tried = tried_of w stands p is author in
             let other : p.author ≡ s → ⊥ = λ e. let found : nat_eq p.author s ≡ true = grind (arith, nat_tests) in absurd cc in
             spoken_after (with_last w.log p tried.mailbox) w.published None s session
-            (live_on w.log (with_last w.log p tried.mailbox) (last_extends w.log p tried.mailbox (whole_of w stands) tried.is_there) s
-            (own_back w.log (whole_of w stands) p live.start live.turns author.0.state author.0.wrote tried s other) w.published w.pending session (stands.each s session there))
+            (sound_more w.log stands.sound p live.start live.turns author.0.state author.0.wrote tried)
+            (live_on w.log (with_last w.log p tried.mailbox) (last_extends w.log p tried.mailbox stands.sound tried.is_there) s
+            (own_back w.log stands.sound p live.start live.turns author.0.state author.0.wrote tried s other) w.published w.pending session (stands.each s session there))
 
     by_more : (p : Pending) → w.pending ≡ Some p → nat_eq n (length_of w) ≡ false → (b : Bool) → nat_eq n (length_of w + 1) ≡ b → CrashKeeps w n
     by_more p is less true more =

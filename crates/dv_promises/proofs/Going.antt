@@ -8,8 +8,8 @@ use Rattle.dv_model.specs.declared.types.Mailbox.{Mailbox}
 use Rattle.dv_model.specs.declared.types.Mark.{Mark}
 use Rattle.dv_model.specs.declared.types.Reply.{Reply}
 use Rattle.dv_model.specs.Journals.{Log, at, mark_of}
-use Rattle.dv_model.specs.Sessions.{State, answer, refusal_of}
-use Rattle.dv_model.specs.Transcripts.{IsOwn, IsTold, Turn, Wrote}
+use Rattle.dv_model.specs.Sessions.{State, answer}
+use Rattle.dv_model.specs.Transcripts.{IsOwn, IsTold, Turn, Wrote, refused_at}
 use Rattle.dv_model.specs.Views.{View}
 use Rattle.dv_interleavings.specs.Worlds.{Session, Pending, Wrote as Write}
 use Rattle.dv_promises.specs.Standing.{IsLive, IsToldTurn, IsWriting}
@@ -18,9 +18,8 @@ use Rattle.dv_promises.proofs.Small.{if_some}
 
 module _ (log more : Log) (on : Extends log more) where
   pub same_refusal : (k : ℕ) (m : Mailbox) (x : State) (c : Command) (r : Option Reply) → k ≤ length log.entries → at log k ≡ Some m
-      → refusal_of x c m (mark_of log k) log.guid ≡ r → refusal_of x c m (mark_of more k) more.guid ≡ r
-  same_refusal k m x c r le is e =
-      ap (λ (mark : Mark). refusal_of x c m mark more.guid) (on.same_mark k le) ∙ sym (on.refusal k m x c (mark_of log k) le is) ∙ e
+      → refused_at log k x c m ≡ r → refused_at more k x c m ≡ r
+  same_refusal k m x c r le is e = on.refusal k m x c le is ∙ e
 
   pub wrote_on : (s met q : ℕ) (v : View) (c : Command) (m : Mailbox) → met ≤ length log.entries → at log met ≡ Some m → Wrote log s met q v c m → Wrote more s met q v c m
   wrote_on s met q v c m le is (inl has) = inl (record {

@@ -21,7 +21,7 @@ use Rattle.dv_model.specs.Sessions.{data_of, damaged_uid, ending_of, fetch_lines
 use Rattle.dv_model.specs.Sets.{is_in_set, largest_uid, named, numbered}
 use Rattle.dv_model.specs.Views.{Known, View, all_heard, changes, empty_view, heard, known_of, known_row, names_of, unknown, with_number, with_values}
 use Rattle.dv_model.proofs.Appends.{all_fetches, changes_anew}
-use Rattle.dv_promises.proofs.Moves.{each_of_all, names_same}
+use Rattle.dv_model.proofs.Clients.{each_of_all, names_same}
 use Rattle.dv_model.proofs.Speaking.{one_of}
 
 -- ---- rows by their numbers

@@ -9,7 +9,7 @@ use Rattle.dv_model.specs.Mailboxes.{IsValid, empty_mailbox}
 use Rattle.dv_model.specs.Names.{IsName}
 use Rattle.dv_interleavings.specs.Promises.{CrashKeeps, Holds}
 use Rattle.dv_interleavings.specs.Worlds.{World, Session, Event, Open, Write, Sync, Publish, Load, Tell, all_happen, new_world, length_of}
-use Rattle.dv_promises.specs.Standing.{IsGoodEvent, Stands}
+use Rattle.dv_promises.specs.Standing.{IsGoodEvent, IsStart, Stands}
 use Rattle.dv_promises.proofs.Crashing.{crash_keeps}
 use Rattle.dv_promises.proofs.Ending.{all_keep, begins}
 use Rattle.dv_promises.proofs.Holding.{holds}
@@ -41,13 +41,16 @@ events =
     ∷ Write 2 append 1000 ∷ []
 
 are_good : All IsGoodEvent events
-are_good = All-from_recursion IsGoodEvent events (tt, (tt, (All-nil IsName, (tt, (tt, (tt, (tt, (tt, (tt, (tt, (tt, (tt, (tt, (tt, (tt, (tt, (All-nil IsName, tt)))))))))))))))))
+are_good = All-from_recursion IsGoodEvent events (tt, (tt, ((omega arith, (omega arith, All-nil IsName)), (tt, (tt, (tt, (tt, (tt, (tt, ((omega arith, tt), (tt, (tt, (tt, (tt, (tt, (tt, ((omega arith, (omega arith, All-nil IsName)), tt)))))))))))))))))
+
+is_start : IsStart start 1000 (record { file_seq = 1; offset = 56 }) []
+is_start = record { mailbox = (start_is_valid, All-nil _); numbers = (omega arith, omega arith, omega arith); guids = All-nil _ }
 
 abbrev first : World
 first = new_world start 1000 (record { file_seq = 1; offset = 56 }) []
 
 stands : Stands (all_happen first events)
-stands = all_keep first events (begins start 1000 (record { file_seq = 1; offset = 56 }) [] start_is_valid) are_good
+stands = all_keep first events (begins start 1000 (record { file_seq = 1; offset = 56 }) [] is_start) are_good
 
 promises : Holds (all_happen first events)
 promises = holds (all_happen first events) stands

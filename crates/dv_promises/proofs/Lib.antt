@@ -1,8 +1,6 @@
-pub mod Moves
 pub mod Small
-pub mod Agreeing
-pub mod Groups
 pub mod Logs
+pub mod Guids
 pub mod Writing
 pub mod Going
 pub mod Syncing
@@ -16,6 +14,7 @@ pub mod Views
 pub mod Hearing
 pub mod Knowing
 pub mod Numbering
+pub mod Staying
 pub mod Holding
 pub mod Seeing
 pub mod Instances

@@ -1,11 +1,12 @@
--- Until an EXPUNGE is told, each message number keeps its UID.
-use Rattle.std.proofs.Common.{◌≡◌, ◌⊎◌, inl, inr, ℕ, zero, suc, ◌+◌, ◌-◌, ◌<◌, ◌≤◌, Bool, true, false, cond, not, List, [], ◌∷◌, ◌++◌, length, Option, Some, None, refl, sym, ◌∙◌, ap, subst, arith}
-use Rattle.std.specs.Prelude.{All, filter, flat_map, map, option_map, replicate, reverse, slice_get, slice_set, take}
-use Rattle.std.specs.List.{AllByRecursion, enumerate_from, list_all, list_any}
-use Rattle.std.proofs.lemmas.Bool.{not-false, or_parts}
-use Rattle.std.proofs.lemmas.List.{length-map, reverse-reverse}
+-- Each message number keeps its UID until an EXPUNGE is heard or a SELECT begins.
+use Rattle.std.proofs.Common.{◌≡◌, ◌≢◌, ℕ, zero, suc, ◌+◌, ◌-◌, ◌<◌, ◌≤◌, Bool, true, false, cond, not, List, [], ◌∷◌, ◌++◌, length, Option, Some, None, refl, sym, ◌∙◌, ap, subst, arith}
+use Rattle.std.specs.Prelude.{All, filter, flat_map, fold, map, replicate, reverse, slice_get, slice_set}
+use Rattle.std.specs.List.{enumerate_from, list_all, list_any}
+use Rattle.std.proofs.lemmas.Bool.{and_parts}
+use Rattle.std.proofs.lemmas.List.{append_assoc, length-map, take_all}
 use Rattle.std.proofs.lemmas.List.Elements.{All-filter, All-head, All-tail}
-use Rattle.std.proofs.lemmas.Option.{same_Some, slice_get-map}
+use Rattle.std.proofs.lemmas.List.Sums.{fold-append}
+use Rattle.std.proofs.lemmas.Option.{none-some, same_Some}
 use Rattle.dv_model.specs.declared.types.Command.{Command}
 use Rattle.dv_model.specs.declared.types.Command.TheVariants as command
 use Rattle.dv_model.specs.declared.types.Item.{Item}
@@ -22,204 +23,278 @@ use Rattle.dv_model.specs.Journals.{Mail}
 use Rattle.dv_model.specs.Laws.{Follows, IsReadIn}
 use Rattle.dv_model.specs.Sessions.{data_of, ending_of, fetch_lines, message_in, reads_message, value_of}
 use Rattle.dv_model.specs.Sets.{named}
-use Rattle.dv_model.specs.Views.{Known, View, all_heard, changes, growth, heard, known_of, known_row, moved, names_of, numbers, said, same_row, shows_uid, unknown, with_number}
-use Rattle.dv_promises.proofs.Moves.{Aligned, Moves, aligned, aligned_short, above_of_rising, each_of_all, full_moves, held_moves}
-use Rattle.dv_interleavings.specs.Promises.{KeepsNumbers, is_expunge}
-use Rattle.dv_promises.proofs.Hearing.{StandsAt, ending_heard, named_stand, numbered_stand}
+use Rattle.dv_model.specs.Views.{Known, View, all_heard, changes, empty_view, growth, heard, known_of, known_row, moved, names_of, numbers, removals, said, same_row, shows_uid, unknown, with_number}
+use Rattle.dv_model.proofs.Clients.{Aligned, In, Moves, after_removals, aligned_short, full_moves, held_moves, kept_rows, lined_up}
+use Rattle.dv_interleavings.specs.Promises.{Heard, Selects, Hears, all_known, keeps_numbers, knows}
+use Rattle.dv_promises.proofs.Hearing.{StandsAt, data_known, ending_heard, named_stand, numbered_stand}
 
--- ---- rows that have these UIDs first
+-- ---- numbers that keep their UIDs
 
-abbrev pub HasUids : List ℕ → List Known → Type 0
-HasUids [] rows = Unit {0}
-HasUids (u ∷ us) [] = ⊥
-HasUids (u ∷ us) (row ∷ rows) = (row.uid ≡ u) × HasUids us rows
+-- each number keeps its UID
+abbrev pub KeepsUids : List Known → List Known → Type 0
+KeepsUids rows later = (k : ℕ) (row : Known) → slice_get rows k ≡ Some row → row.uid ≢ 0 → (after : Known) × (slice_get later k ≡ Some after) × (after.uid ≡ row.uid)
 
--- the reply leaves them
-abbrev pub IsMild : List ℕ → Reply → Type 0
-IsMild us r = (rows : List Known) → HasUids us rows → HasUids us (heard rows r)
+keeps_itself : (rows : List Known) → KeepsUids rows rows
+keeps_itself rows k row is some = (row, is, refl)
 
--- each reply before an EXPUNGE leaves them
-abbrev pub AreSafe : List ℕ → List Reply → Type 0
-AreSafe us [] = Unit {0}
-AreSafe us (r ∷ replies) = (is_expunge r ≡ true) ⊎ (IsMild us r × AreSafe us replies)
+keeps_on : (rows between later : List Known) → KeepsUids rows between → KeepsUids between later → KeepsUids rows later
+keeps_on rows between later first second k row is some =
+    let one = first k row is some in
+    let other = second k one.0 one.1 (λ none. some (sym one.2 ∙ none)) in
+    (other.0, other.1, other.2 ∙ one.2)
 
-safe_heard : (us : List ℕ) (rows : List Known) (front rest : List Reply) → AreSafe us (front ++ rest) → list_any is_expunge front ≡ false → HasUids us rows → HasUids us (all_heard rows front)
-safe_heard us rows [] rest safe none has = has
-safe_heard us rows (r ∷ front) rest (inl expunge) none has = let first = (or_parts (is_expunge r) (list_any is_expunge front) none).0 in absurd cc
-safe_heard us rows (r ∷ front) rest (inr mild) none has = safe_heard us (heard rows r) front rest mild.1 (or_parts (is_expunge r) (list_any is_expunge front) none).1 (mild.0 rows has)
+-- ---- step by step
 
-uid_there : (us : List ℕ) (rows : List Known) (k u : ℕ) → HasUids us rows → slice_get us k ≡ Some u → (after : Known) × (slice_get rows k ≡ Some after) × (after.uid ≡ u)
-uid_there [] rows zero u has is = absurd cc
-uid_there [] rows (suc k) u has is = absurd cc
-uid_there (v ∷ us) [] k u has is = absurd has
-uid_there (v ∷ us) (row ∷ rows) zero u has is = (row, refl, has.0 ∙ same_Some v u is)
-uid_there (v ∷ us) (row ∷ rows) (suc k) u has is = uid_there us rows k u has.1 is
+-- each of these that isn't a SELECT or an EXPUNGE keeps the numbers where it comes
+abbrev pub AreSteady : List Known → List Heard → Type 0
+AreSteady rows [] = Unit {0}
+AreSteady rows (h ∷ hs) = (keeps_numbers h ≡ true → KeepsUids rows (knows rows h)) × AreSteady (knows rows h) hs
 
-has_own : (rows : List Known) → HasUids (map (λ row. row.uid) rows) rows
-has_own [] = tt
-has_own (row ∷ rows) = (refl, has_own rows)
+pub steady_then : (rows : List Known) (one other : List Heard) → AreSteady rows one → AreSteady (fold knows rows one) other → AreSteady rows (one ++ other)
+steady_then rows [] other first then = then
+steady_then rows (h ∷ one) other first then = (first.0, steady_then (knows rows h) one other first.1 then)
 
-pub safe_keeps : (rows : List Known) (replies : List Reply) → AreSafe (map (λ row. row.uid) rows) replies → KeepsNumbers rows replies
-safe_keeps rows replies safe front rest is none k row there some =
-    uid_there (map (λ (row : Known). row.uid) rows) (all_heard rows front) k row.uid
-    (safe_heard (map (λ (row : Known). row.uid) rows) rows front rest (subst (AreSafe (map (λ (row : Known). row.uid) rows)) is safe) none (has_own rows))
-    (slice_get-map (λ (row : Known). row.uid) rows k ∙ ap (option_map (λ (row : Known). row.uid)) there)
+steady_behind : (rows : List Known) (before hs : List Heard) → AreSteady rows (before ++ hs) → AreSteady (fold knows rows before) hs
+steady_behind rows [] hs steady = steady
+steady_behind rows (h ∷ before) hs steady = steady_behind (knows rows h) before hs steady.1
 
--- ---- replies that leave them
+steady_keeps : (rows : List Known) (between behind : List Heard) → AreSteady rows (between ++ behind) → list_all keeps_numbers between ≡ true → KeepsUids rows (fold knows rows between)
+steady_keeps rows [] behind steady all = keeps_itself rows
+steady_keeps rows (h ∷ between) behind steady all =
+    let both = and_parts (keeps_numbers h) (list_all keeps_numbers between) all in
+    keeps_on rows (knows rows h) (fold knows (knows rows h) between) (steady.0 both.0) (steady_keeps (knows rows h) between behind steady.1 both.1)
 
-safe_then : (us : List ℕ) (one other : List Reply) → AreSafe us one → AreSafe us other → AreSafe us (one ++ other)
-safe_then us [] other first then = then
-safe_then us (r ∷ one) other (inl expunge) then = inl expunge
-safe_then us (r ∷ one) other (inr mild) then = inr (mild.0, safe_then us one other mild.1 then)
+-- from any moment on
+pub steady_stay : (all before between behind : List Heard) → AreSteady [] all → all ≡ before ++ between ++ behind → list_all keeps_numbers between ≡ true
+    → KeepsUids (all_known before) (all_known (before ++ between))
+steady_stay all before between behind steady is keeps =
+    subst (KeepsUids (all_known before)) (sym (fold-append knows [] before between))
+    (steady_keeps (all_known before) between behind (steady_behind [] before (between ++ behind) (subst (AreSteady []) (is ∙ append_assoc before between behind) steady)) keeps)
 
-has_front : (us : List ℕ) (n : ℕ) (rows more : List Known) → length us ≤ n → HasUids us rows → HasUids us (take n rows ++ more)
-has_front [] n rows more le has = tt
-has_front (u ∷ us) n [] more le has = absurd has
-has_front (u ∷ us) zero (row ∷ rows) more le has = absurd (omega (arith, le))
-has_front (u ∷ us) (suc n) (row ∷ rows) more le has = (has.0, has_front us n rows more (omega (arith, le)) has.1)
+-- ---- replies
 
-has_set : (us : List ℕ) (rows : List Known) (k : ℕ) (row : Known) → ((u : ℕ) → slice_get us k ≡ Some u → u ≡ row.uid) → HasUids us rows → HasUids us (slice_set rows k row)
-has_set [] rows k row fits has = tt
-has_set (u ∷ us) [] k row fits has = absurd has
-has_set (u ∷ us) (old ∷ rows) zero row fits has = (sym (fits u refl), has.1)
-has_set (u ∷ us) (old ∷ rows) (suc k) row fits has = (has.0, has_set us rows k row fits has.1)
+pub known_heard : (rows : List Known) (replies : List Reply) → fold knows rows (map Hears replies) ≡ all_heard rows replies
+known_heard rows [] = refl
+known_heard rows (r ∷ replies) = known_heard (heard rows r) replies
 
--- the number is that of this UID, or none of these
-abbrev Fits : List ℕ → ℕ → ℕ → Type 0
-Fits us k uid = (u : ℕ) → slice_get us (k - 1) ≡ Some u → u ≡ uid
+-- the same of replies
+abbrev pub Steady : List Known → List Reply → Type 0
+Steady rows [] = Unit {0}
+Steady rows (r ∷ replies) = (keeps_numbers (Hears r) ≡ true → KeepsUids rows (heard rows r)) × Steady (heard rows r) replies
 
-has_number : (us : List ℕ) (rows : List Known) (k : ℕ) (row : Known) → Fits us k row.uid → HasUids us rows → HasUids us (with_number rows k row)
-has_number us rows zero row fits has = has
-has_number us rows (suc k) row fits has = has_set us rows k row (λ u is. fits u (let e : suc k - 1 ≡ k = omega arith in ap (slice_get us) e ∙ is)) has
+pub steady_replies : (rows : List Known) (replies : List Reply) → Steady rows replies → AreSteady rows (map Hears replies)
+steady_replies rows [] steady = tt
+steady_replies rows (r ∷ replies) steady = (steady.0, steady_replies (heard rows r) replies steady.1)
 
-mild_fetch : (us : List ℕ) (k uid : ℕ) (values : List Value) → Fits us k uid → IsMild us (reply.Fetch k uid values)
-mild_fetch us k uid [] fits rows has = has
-mild_fetch us k uid (value.Flags flags keywords ∷ values) fits rows has = has_number us rows k (record { uid = uid; flags = flags; keywords = keywords }) fits has
-mild_fetch us k uid (value.Size n ∷ values) fits rows has = mild_fetch us k uid values fits rows has
-mild_fetch us k uid (value.Body bytes ∷ values) fits rows has = mild_fetch us k uid values fits rows has
-mild_fetch us k uid (value.Field name text ∷ values) fits rows has = mild_fetch us k uid values fits rows has
-mild_fetch us k uid (value.Modseq n ∷ values) fits rows has = mild_fetch us k uid values fits rows has
+replies_then : (rows : List Known) (one other : List Reply) → Steady rows one → Steady (all_heard rows one) other → Steady rows (one ++ other)
+replies_then rows [] other first then = then
+replies_then rows (r ∷ one) other first then = (first.0, replies_then (heard rows r) one other first.1 then)
+
+-- ---- rows whose UIDs are those of a view
+
+-- the same, row by row
+abbrev Keeps : List Known → List Known → Type 0
+Keeps [] later = Unit {0}
+Keeps (row ∷ rows) [] = ⊥
+Keeps (row ∷ rows) (after ∷ later) = (row.uid ≢ 0 → after.uid ≡ row.uid) × Keeps rows later
+
+keeps_uids : (rows later : List Known) → Keeps rows later → KeepsUids rows later
+keeps_uids [] later keeps zero row is some = absurd (none-some row is)
+keeps_uids [] later keeps (suc k) row is some = absurd (none-some row is)
+keeps_uids (old ∷ rows) [] keeps k row is some = absurd keeps
+keeps_uids (old ∷ rows) (after ∷ later) keeps zero row is some =
+    let same : old.uid ≡ row.uid = ap (λ (r : Known). r.uid) (same_Some old row is) in (after, refl, keeps.0 (λ none. some (sym same ∙ none)) ∙ same)
+keeps_uids (old ∷ rows) (after ∷ later) keeps (suc k) row is some = keeps_uids rows later keeps.1 k row is some
+
+keeps_same : (rows : List Known) → Keeps rows rows
+keeps_same [] = tt
+keeps_same (row ∷ rows) = (λ some. refl, keeps_same rows)
+
+keeps_more : (rows more : List Known) → Keeps rows (rows ++ more)
+keeps_more [] more = tt
+keeps_more (row ∷ rows) more = (λ some. refl, keeps_more rows more)
+
+-- a row whose UID is known has that of the view at its number
+abbrev Fits : List Shown → List Known → Type 0
+Fits shown [] = Unit {0}
+Fits [] (row ∷ rows) = (row.uid ≡ 0) × Fits [] rows
+Fits (s ∷ shown) (row ∷ rows) = (row.uid ≢ 0 → s.uid ≡ row.uid) × Fits shown rows
+
+known_fits : (m : Mailbox) (shown : List Shown) → Fits shown (map (known_row m) shown)
+known_fits m [] = tt
+known_fits m (s ∷ shown) = (λ some. refl, known_fits m shown)
+
+-- ---- a FETCH
+
+-- it keeps the numbers, and its row fits
+record IsFitting (shown : List Shown) (rows later : List Known) : Type 0 where
+  keeps : Keeps rows later
+  fits : Fits shown later
+
+set_fits : (shown : List Shown) (rows : List Known) (k : ℕ) (new : Known) (s : Shown) → Fits shown rows → slice_get shown k ≡ Some s → s.uid ≡ new.uid → IsFitting shown rows (slice_set rows k new)
+set_fits shown [] k new s fits is same = record { keeps = tt; fits = tt }
+set_fits [] (row ∷ rows) zero new s fits is same = absurd (none-some s is)
+set_fits [] (row ∷ rows) (suc k) new s fits is same = absurd (none-some s is)
+set_fits (first ∷ shown) (row ∷ rows) zero new s fits is same =
+    let one : first.uid ≡ new.uid = ap (λ (s : Shown). s.uid) (same_Some first s is) ∙ same in
+    record { keeps = (λ some. sym one ∙ fits.0 some, keeps_same rows); fits = (λ some. one, fits.1) }
+set_fits (first ∷ shown) (row ∷ rows) (suc k) new s fits is same =
+    let rest = set_fits shown rows k new s fits.1 is same in record { keeps = (λ some. refl, rest.keeps); fits = (fits.0, rest.fits) }
+
+number_fits : (shown : List Shown) (rows : List Known) (row : ℕ × Shown) (new : Known) → Fits shown rows → StandsAt shown row → row.1.uid ≡ new.uid → IsFitting shown rows (with_number rows row.0 new)
+number_fits shown rows (zero, s) new fits stands same = record { keeps = keeps_same rows; fits = fits }
+number_fits shown rows (suc k, s) new fits stands same =
+    let e : suc k - 1 ≡ k = omega arith in set_fits shown rows k new s fits (subst (λ n. slice_get shown n ≡ Some s) e stands.is) same
+
+fetch_fits : (shown : List Shown) (rows : List Known) (row : ℕ × Shown) (values : List Value) → Fits shown rows → StandsAt shown row → IsFitting shown rows (heard rows (reply.Fetch row.0 row.1.uid values))
+fetch_fits shown rows row [] fits stands = record { keeps = keeps_same rows; fits = fits }
+fetch_fits shown rows row (value.Flags flags keywords ∷ values) fits stands = number_fits shown rows row (record { uid = row.1.uid; flags = flags; keywords = keywords }) fits stands refl
+fetch_fits shown rows row (value.Size n ∷ values) fits stands = fetch_fits shown rows row values fits stands
+fetch_fits shown rows row (value.Body bytes ∷ values) fits stands = fetch_fits shown rows row values fits stands
+fetch_fits shown rows row (value.Field name text ∷ values) fits stands = fetch_fits shown rows row values fits stands
+fetch_fits shown rows row (value.Modseq n ∷ values) fits stands = fetch_fits shown rows row values fits stands
+
+-- FETCHes of rows that stand
+fetches_steady : (shown : List Shown) (values : ℕ × Shown → List Value) (rows : List Known) (told : List (ℕ × Shown)) → Fits shown rows → All (StandsAt shown) told
+    → Steady rows (map (λ row. reply.Fetch row.0 row.1.uid (values row)) told)
+fetches_steady shown values rows [] fits stand = tt
+fetches_steady shown values rows (row ∷ told) fits stand =
+    let one = fetch_fits shown rows row (values row) fits (All-head (StandsAt shown) row told stand) in
+    let later : List Known = heard rows (reply.Fetch row.0 row.1.uid (values row)) in
+    (λ e. keeps_uids rows later one.keeps, fetches_steady shown values later told one.fits (All-tail (StandsAt shown) row told stand))
 
 -- ---- data lines
 
-abbrev uids_of : List Shown → List ℕ
-uids_of rows = map (λ s. s.uid) rows
+-- they are steady, and the rows fit behind them
+record AreFitting (shown : List Shown) (rows : List Known) (replies : List Reply) : Type 0 where
+  steady : Steady rows replies
+  fits : Fits shown (all_heard rows replies)
 
-stand_fits : (rows : List Shown) (row : ℕ × Shown) → StandsAt rows row → Fits (uids_of rows) row.0 row.1.uid
-stand_fits rows row stands u is =
-    same_Some u row.1.uid (sym is ∙ slice_get-map (λ (s : Shown). s.uid) rows (row.0 - 1) ∙ ap (option_map (λ (s : Shown). s.uid)) stands.is)
-
-line_safe : (mail : ℕ → Mail) (m : Mailbox) (view : View) (items : List Item) (row : ℕ × Shown) → StandsAt view.rows row → AreSafe (uids_of view.rows) (fetch_lines mail m items row)
-line_safe mail m view items row stands = by_test (list_any reads_message items) refl (message_in mail m row.1.uid) refl
+line_steady : (mail : ℕ → Mail) (m : Mailbox) (view : View) (items : List Item) (rows : List Known) (row : ℕ × Shown) → Fits view.rows rows → StandsAt view.rows row
+    → AreFitting view.rows rows (fetch_lines mail m items row)
+line_steady mail m view items rows row fits stands = by_test (list_any reads_message items) refl (message_in mail m row.1.uid) refl
   where
-    by_test : (b : Bool) → list_any reads_message items ≡ b → (o : Option (List ℕ)) → message_in mail m row.1.uid ≡ o → AreSafe (uids_of view.rows) (fetch_lines mail m items row)
-    by_test false reads o is = rw reads (inr (mild_fetch (uids_of view.rows) row.0 row.1.uid (map (value_of m row.1 []) items) (stand_fits view.rows row stands), tt))
-    by_test true reads None is = rw (reads, is) tt
-    by_test true reads (Some message) is = rw (reads, is) (inr (mild_fetch (uids_of view.rows) row.0 row.1.uid (map (value_of m row.1 message) items) (stand_fits view.rows row stands), tt))
+    one : (message : List ℕ) → AreFitting view.rows rows (reply.Fetch row.0 row.1.uid (map (value_of m row.1 message) items) ∷ [])
+    one message =
+        let values : List Value = map (value_of m row.1 message) items in
+        let is = fetch_fits view.rows rows row values fits stands in
+        record { steady = (λ e. keeps_uids rows (heard rows (reply.Fetch row.0 row.1.uid values)) is.keeps, tt); fits = is.fits }
 
-lines_safe : (mail : ℕ → Mail) (m : Mailbox) (view : View) (items : List Item) (rows : List (ℕ × Shown)) → All (StandsAt view.rows) rows → AreSafe (uids_of view.rows) (flat_map (fetch_lines mail m items) rows)
-lines_safe mail m view items [] stand = tt
-lines_safe mail m view items (row ∷ rows) stand =
-    safe_then (uids_of view.rows) (fetch_lines mail m items row) (flat_map (fetch_lines mail m items) rows) (line_safe mail m view items row (All-head (StandsAt view.rows) row rows stand))
-    (lines_safe mail m view items rows (All-tail (StandsAt view.rows) row rows stand))
+    by_test : (b : Bool) → list_any reads_message items ≡ b → (o : Option (List ℕ)) → message_in mail m row.1.uid ≡ o → AreFitting view.rows rows (fetch_lines mail m items row)
+    by_test false reads o is = rw reads (one [])
+    by_test true reads None is = rw (reads, is) (record { steady = tt; fits = fits })
+    by_test true reads (Some message) is = rw (reads, is) (one message)
 
-data_safe : (mail : ℕ → Mail) (c : Command) (view : View) (m : Mailbox) → AreSafe (uids_of view.rows) (data_of mail c view m)
-data_safe mail (command.Fetch by_uid set items) view m = lines_safe mail m view items (named by_uid set view) (named_stand by_uid set view)
-data_safe mail (command.Search by_uid key) view m = inr (λ rows has. has, tt)
-data_safe mail c view m = tt
+lines_steady : (mail : ℕ → Mail) (m : Mailbox) (view : View) (items : List Item) (rows : List Known) (told : List (ℕ × Shown)) → Fits view.rows rows → All (StandsAt view.rows) told
+    → Steady rows (flat_map (fetch_lines mail m items) told)
+lines_steady mail m view items rows [] fits stand = tt
+lines_steady mail m view items rows (row ∷ told) fits stand =
+    let one = line_steady mail m view items rows row fits (All-head (StandsAt view.rows) row told stand) in
+    replies_then rows (fetch_lines mail m items row) (flat_map (fetch_lines mail m items) told) one.steady
+    (lines_steady mail m view items (all_heard rows (fetch_lines mail m items row)) told one.fits (All-tail (StandsAt view.rows) row told stand))
+
+data_steady : (mail : ℕ → Mail) (c : Command) (before m : Mailbox) (view : View) → Steady (known_of before view) (data_of mail c view m)
+data_steady mail (command.Fetch by_uid set items) before m view =
+    lines_steady mail m view items (known_of before view) (named by_uid set view) (known_fits before view.rows) (named_stand by_uid set view)
+data_steady mail (command.Search by_uid key) before m view = (λ e. keeps_itself (known_of before view), tt)
+data_steady mail c before m view = tt
 
 -- ---- what is said of a move
 
-none_by : (p : Shown → Bool) (k : ℕ) (s : Shown) (rest : List (ℕ × Shown)) (b : Bool) → p s ≡ b → cond b ((k, s) ∷ rest) rest ≡ [] → (p s ≡ false) × (rest ≡ [])
-none_by p k s rest true is none = absurd cc
-none_by p k s rest false is none = (is, none)
+expunges_steady : (rows : List Known) (left : List (ℕ × Shown)) → Steady rows (map (λ row. reply.Expunge row.0) left)
+expunges_steady rows [] = tt
+expunges_steady rows (row ∷ left) = (λ e. absurd cc, expunges_steady (heard rows (reply.Expunge row.0)) left)
 
-numbers_none : (p : Shown → Bool) (k : ℕ) (rows : List Shown) → numbers p k rows ≡ [] → AllByRecursion (λ s. p s ≡ false) rows
-numbers_none p k [] none = tt
-numbers_none p k (s ∷ rows) none = let both = none_by p k s (numbers p (k + 1) rows) (p s) refl none in (both.0, numbers_none p (k + 1) rows both.1)
+unknown_fits : (shown : List Shown) (n : ℕ) → Fits shown (replicate n unknown)
+unknown_fits shown zero = tt
+unknown_fits [] (suc n) = (refl, unknown_fits [] n)
+unknown_fits (s ∷ shown) (suc n) = (λ some. absurd (some refl), unknown_fits shown n)
 
-kept_all : (q : Shown → Bool) (rows : List Shown) → AllByRecursion (λ s. not (q s) ≡ false) rows → filter q rows ≡ rows
-kept_all q [] each = refl
-kept_all q (s ∷ rows) each = ap (λ (b : Bool). cond b (s ∷ filter q rows) (filter q rows)) (not-false (q s) each.0) ∙ ap (λ rs. s ∷ rs) (kept_all q rows each.1)
+more_fits : (shown : List Shown) (rows : List Known) (n : ℕ) → Fits shown rows → Fits shown (rows ++ replicate n unknown)
+more_fits shown [] n fits = unknown_fits shown n
+more_fits [] (row ∷ rows) n fits = (fits.0, more_fits [] rows n fits.1)
+more_fits (s ∷ shown) (row ∷ rows) n fits = (fits.0, more_fits shown rows n fits.1)
+
+exists_fits : (shown : List Shown) (rows : List Known) (n : ℕ) → length rows ≤ n → Fits shown rows → IsFitting shown rows (heard rows (reply.Exists n))
+exists_fits shown rows n le fits =
+    subst (λ (front : List Known). IsFitting shown rows (front ++ replicate (n - length rows) unknown)) (sym (take_all n rows le))
+    (record { keeps = keeps_more rows (replicate (n - length rows) unknown); fits = more_fits shown rows (n - length rows) fits })
 
 numbers_kept : (p : Shown → Bool) (k : ℕ) (rows : List Shown) → numbers p k rows ≡ filter (λ (row : ℕ × Shown). p row.1) (enumerate_from k rows)
 numbers_kept p k [] = refl
 numbers_kept p k (s ∷ rows) = ap (λ (rest : List (ℕ × Shown)). cond (p s) ((k, s) ∷ rest) rest) (numbers_kept p (k + 1) rows)
 
-aligned_uid : (b : ℕ) (kept new : List Shown) → Aligned (λ s. Unit {0}) b kept new → (j u : ℕ) → slice_get (uids_of kept) j ≡ Some u → slice_get (uids_of new) j ≡ Some u
-aligned_uid b [] new a zero u is = absurd cc
-aligned_uid b [] new a (suc j) u is = absurd cc
-aligned_uid b (k ∷ kept) [] a j u is = absurd a
-aligned_uid b (k ∷ kept) (s ∷ new) a zero u is = ap Some (sym a.1) ∙ is
-aligned_uid b (k ∷ kept) (s ∷ new) a (suc j) u is = aligned_uid b kept new a.2 j u is
+changes_steady : (m : Mailbox) (old new : View) (rows : List Known) → Fits new.rows rows → Steady rows (changes m old new)
+changes_steady m old new rows fits =
+    let test : Shown → Bool = λ s. not (list_any (same_row s) old.rows) in
+    fetches_steady new.rows (λ row. value.Flags row.1.flags (names_of m row.1.keywords) ∷ []) rows (numbers test 1 new.rows) fits
+    (subst (All (StandsAt new.rows)) (sym (numbers_kept test 1 new.rows)) (All-filter (λ (row : ℕ × Shown). test row.1) (StandsAt new.rows) (enumerate_from 1 new.rows) (numbered_stand new)))
 
-anything : (rows : List Shown) → AllByRecursion (λ s. Unit {0}) rows
-anything [] = tt
-anything (s ∷ rows) = (tt, anything rows)
+aligned_fits : (Is : Shown → Type 0) (b : ℕ) (m : Mailbox) (kept new : List Shown) → Aligned Is b kept new → Fits new (map (known_row m) kept)
+aligned_fits Is b m [] new a = tt
+aligned_fits Is b m (k ∷ kept) [] a = absurd a
+aligned_fits Is b m (k ∷ kept) (s ∷ new) a = (λ some. sym a.1, aligned_fits Is b m kept new a.2)
 
-module _ (before m : Mailbox) (view new : View) (read : IsReadIn before view) (moves : Moves view new.rows) where
-  abbrev us : List ℕ
-  us = uids_of view.rows
+growth_steady : (old new : View) (rows : List Known) → length rows ≤ length new.rows → Fits new.rows rows → AreFitting new.rows rows (growth old new)
+growth_steady old new rows le fits = by_test (list_all (λ s. shows_uid old s.uid) new.rows)
+  where
+    by_test : (b : Bool) → AreFitting new.rows rows (cond b [] (reply.Exists (length new.rows) ∷ []))
+    by_test true = record { steady = tt; fits = fits }
+    by_test false =
+        let one = exists_fits new.rows rows (length new.rows) le fits in
+        record { steady = (λ e. keeps_uids rows (heard rows (reply.Exists (length new.rows))) one.keeps, tt); fits = one.fits }
 
-  -- where no row leaves, the old ones stand first
-  in_line : AllByRecursion (λ s. not (shows_uid new s.uid) ≡ false) view.rows → Aligned (λ s. Unit {0}) view.next_uid view.rows new.rows
-  in_line each =
-      subst (λ rows. Aligned (λ s. Unit {0}) view.next_uid rows new.rows) (kept_all (λ s. shows_uid new s.uid) view.rows each)
-      (aligned (λ s. Unit {0}) view.next_uid 0 view.rows new.rows (above_of_rising view.rows read.rising) (each_of_all (λ (s : Shown). s.uid < view.next_uid) view.rows read.below) (anything view.rows) moves.rising moves.comes)
+module _ (before m : Mailbox) (view : View) (read : IsReadIn before view) (more : List (List ℕ)) (table : m.keywords ≡ before.keywords ++ more) (new : View) (moves : Moves view new.rows) where
+  abbrev kept : List Shown
+  kept = kept_rows before m view read more table new.rows new.next_uid moves
 
-  growth_safe : Aligned (λ s. Unit {0}) view.next_uid view.rows new.rows → AreSafe us (growth view new)
-  growth_safe line = by_test (list_all (λ s. shows_uid view s.uid) new.rows)
-    where
-      by_test : (b : Bool) → AreSafe (uids_of view.rows) (cond b [] (reply.Exists (length new.rows) ∷ []))
-      by_test true = tt
-      by_test false =
-          let short = aligned_short (λ s. Unit {0}) view.next_uid view.rows new.rows line in
-          inr (λ rows has. has_front (uids_of view.rows) (length new.rows) rows (replicate (length new.rows - length rows) unknown) (omega (arith, short, length-map view.rows (λ (s : Shown). s.uid))) has, tt)
-
-  changes_from : Aligned (λ s. Unit {0}) view.next_uid view.rows new.rows → (rows : List (ℕ × Shown)) → All (StandsAt new.rows) rows
-      → AreSafe us (map (λ (row : ℕ × Shown). reply.Fetch row.0 row.1.uid (value.Flags row.1.flags (names_of m row.1.keywords) ∷ [])) rows)
-  changes_from line [] stand = tt
-  changes_from line (row ∷ rows) stand =
-      let fits : Fits (uids_of view.rows) row.0 row.1.uid =
-      λ u is. stand_fits new.rows row (All-head (StandsAt new.rows) row rows stand) u (aligned_uid view.next_uid view.rows new.rows line (row.0 - 1) u is) in
-      inr (mild_fetch (uids_of view.rows) row.0 row.1.uid (value.Flags row.1.flags (names_of m row.1.keywords) ∷ []) fits, changes_from line rows (All-tail (StandsAt new.rows) row rows stand))
-
-  changes_safe : Aligned (λ s. Unit {0}) view.next_uid view.rows new.rows → AreSafe us (changes m view new)
-  changes_safe line =
-      let test : Shown → Bool = λ s. not (list_any (same_row s) view.rows) in
-      changes_from line (numbers test 1 new.rows)
-      (subst (All (StandsAt new.rows)) (sym (numbers_kept test 1 new.rows)) (All-filter (λ (row : ℕ × Shown). test row.1) (StandsAt new.rows) (enumerate_from 1 new.rows) (numbered_stand new)))
-
-  pub said_safe : AreSafe us (said m view new)
-  said_safe = by_removals (reverse (numbers (λ s. not (shows_uid new s.uid)) 1 view.rows)) refl
-    where
-      by_removals : (rows : List (ℕ × Shown)) → reverse (numbers (λ s. not (shows_uid new s.uid)) 1 view.rows) ≡ rows
-          → AreSafe (uids_of view.rows) (map (λ (row : ℕ × Shown). reply.Expunge row.0) rows ++ growth view new ++ changes m view new)
-      by_removals (row ∷ rows) is = inl refl
-      by_removals [] is =
-          let none : numbers (λ s. not (shows_uid new s.uid)) 1 view.rows ≡ [] = sym (reverse-reverse (numbers (λ s. not (shows_uid new s.uid)) 1 view.rows)) ∙ ap reverse is in
-          let line = in_line (numbers_none (λ s. not (shows_uid new s.uid)) 1 view.rows none) in
-          safe_then (uids_of view.rows) (growth view new) (changes m view new) (growth_safe line) (changes_safe line)
+  said_steady : Steady (known_of before view) (said m view new)
+  said_steady =
+      let line = lined_up before m view read more table new.rows new.next_uid moves in
+      let behind = after_removals before m view read more table new.rows new.next_uid moves in
+      let rows : List Known = map (known_row before) kept in
+      let short : length rows ≤ length new.rows = omega (arith, aligned_short (In before m view read more table) view.next_uid kept new.rows line, length-map kept (known_row before)) in
+      let grown = growth_steady view new rows short (aligned_fits (In before m view read more table) view.next_uid before kept new.rows line) in
+      subst (Steady (known_of before view)) (sym (append_assoc (removals view new) (growth view new) (changes m view new)))
+      (replies_then (known_of before view) (removals view new) (growth view new ++ changes m view new)
+      (expunges_steady (known_of before view) (reverse (numbers (λ s. not (shows_uid new s.uid)) 1 view.rows)))
+      (subst (λ known. Steady known (growth view new ++ changes m view new)) (sym behind)
+      (replies_then rows (growth view new) (changes m view new) grown.steady (changes_steady m view new (all_heard rows (growth view new)) grown.fits))))
 
 -- ---- an answer
 
-known_uids : (m : Mailbox) (rows : List Shown) → map (λ (row : Known). row.uid) (map (known_row m) rows) ≡ uids_of rows
-known_uids m [] = refl
-known_uids m (s ∷ rows) = ap (λ us. s.uid ∷ us) (known_uids m rows)
+ending_steady : (mail : ℕ → Mail) (c : Command) (v : View) (met m : Mailbox) (mark : Mark) (rows : List Known) → Steady rows (ending_of mail c v met m mark ∷ [])
+ending_steady mail c v met m mark rows = (λ e. subst (KeepsUids rows) (sym (ending_heard mail c v met m mark rows)) (keeps_itself rows), tt)
 
 moves_of : (step : Step) (before m : Mailbox) (view : View) → IsReadIn before view → Follows before view m → Moves view (moved step view m).rows
 moves_of Held before m view read follows = held_moves before m view read follows
 moves_of Full before m view read follows = full_moves before m view follows
 
-pub answer_keeps : (mail : ℕ → Mail) (c : Command) (step : Step) (before met m : Mailbox) (view : View) (mark : Mark) → IsReadIn before view → Follows before view m
-    → KeepsNumbers (known_of before view) (data_of mail c view m ++ said m view (moved step view m) ++ ending_of mail c view met m mark ∷ [])
-answer_keeps mail c step before met m view mark read follows =
-    let us : List ℕ = uids_of view.rows in
+pub answer_steady : (mail : ℕ → Mail) (c : Command) (step : Step) (before met m : Mailbox) (view : View) (mark : Mark) → IsReadIn before view → Follows before view m
+    → Steady (known_of before view) (data_of mail c view m ++ said m view (moved step view m) ++ ending_of mail c view met m mark ∷ [])
+answer_steady mail c step before met m view mark read follows =
     let lines : List Reply = data_of mail c view m in
     let told : List Reply = said m view (moved step view m) in
-    let last : Reply = ending_of mail c view met m mark in
-    safe_keeps (known_of before view) (lines ++ told ++ last ∷ [])
-    (subst (λ us. AreSafe us (lines ++ told ++ last ∷ [])) (sym (known_uids before view.rows))
-    (safe_then us (lines ++ told) (last ∷ [])
-    (safe_then us lines told (data_safe mail c view m) (said_safe before m view (moved step view m) read (moves_of step before m view read follows)))
-    (inr (λ rows has. subst (HasUids us) (sym (ending_heard mail c view met m mark rows)) has, tt))))
+    let client : List Known = known_of before view in
+    let same : all_heard client lines ≡ client = data_known before m view read follows.more follows.names mail c in
+    replies_then client (lines ++ told) (ending_of mail c view met m mark ∷ [])
+    (replies_then client lines told (data_steady mail c before m view)
+    (subst (λ known. Steady known told) (sym same) (said_steady before m view read follows.more follows.names (moved step view m) (moves_of step before m view read follows))))
+    (ending_steady mail c view met m mark (all_heard client (lines ++ told)))
+
+pub select_steady : (mail : ℕ → Mail) (met m : Mailbox) (view : View) (mark : Mark)
+    → Steady [] (reply.Exists (length view.rows) ∷ reply.Validity m.uid_validity ∷ reply.NextUid m.next_uid ∷ (changes m empty_view view ++ ending_of mail command.Select empty_view met m mark ∷ []))
+select_steady mail met m view mark =
+    let one = exists_fits view.rows [] (length view.rows) (omega arith) tt in
+    let rows : List Known = heard [] (reply.Exists (length view.rows)) in
+    let last : List Reply = ending_of mail command.Select empty_view met m mark ∷ [] in (
+      λ e. keeps_uids [] rows one.keeps,
+      (
+        λ e. keeps_itself rows,
+        (
+          λ e. keeps_itself rows,
+          replies_then rows (changes m empty_view view) last (changes_steady m empty_view view rows one.fits)
+              (ending_steady mail command.Select empty_view met m mark (all_heard rows (changes m empty_view view))),
+        ),
+      ),
+    )

@@ -1,20 +1,19 @@
 -- From one world to the next: the log goes on, and sessions see more.
-use Rattle.std.proofs.Common.{◌≡◌, ◌⊎◌, inl, inr, ℕ, ◌+◌, ◌≤◌, Bool, true, false, cond, [], ◌∷◌, nat_eq, Option, Some, None, refl, sym, ◌∙◌, ap, subst, arith}
+use Rattle.std.proofs.Common.{◌≡◌, ◌⊎◌, inl, inr, ℕ, ◌+◌, ◌≤◌, Bool, true, false, cond, nat_eq, Option, Some, None, refl, sym, ◌∙◌, ap, subst, arith}
 use Rattle.std.specs.Prelude.{IfSome}
 use Rattle.std.proofs.lemmas.Bool.Decides.{nat_tests}
-use Rattle.std.proofs.lemmas.List.{append-nil}
 use Rattle.std.proofs.lemmas.Option.{none-some, same_Some}
 use Rattle.dv_model.specs.declared.types.Command.{Command}
 use Rattle.dv_model.specs.Journals.{Log}
+use Rattle.dv_interleavings.specs.Promises.{GoesOn}
 use Rattle.dv_interleavings.specs.Worlds.{World, Session, Pending, Wrote, Event, Open, Write, Sync, Heal, Publish, Load, Tell, Crash, crashed, happens, length_of, loaded, loaded_number, only_log, opened, with_entry, with_session, without_running, without_running_of}
-use Rattle.dv_promises.specs.Laws.{GoesOn}
 use Rattle.dv_promises.specs.Standing.{HasAuthor, IsLive, Stands}
 use Rattle.dv_promises.proofs.Ending.{crash_all, crash_none, crash_some, tried_of}
-use Rattle.dv_promises.proofs.Logs.{last_extends, with_entry_is}
+use Rattle.dv_promises.proofs.Logs.{last_extends, same_log, with_entry_is}
 use Rattle.dv_promises.proofs.Syncing
 use Rattle.dv_promises.proofs.Syncing.{synced_by, tried, value_of}
 use Rattle.dv_promises.proofs.Telling.{told_by}
-use Rattle.dv_promises.proofs.Writing.{whole_of, written_by}
+use Rattle.dv_promises.proofs.Writing.{written_by}
 
 -- ---- the world behind a crash
 
@@ -35,17 +34,10 @@ crashed_by w n stands P stays all more = by_number (nat_eq n (length_of w)) refl
 
 -- ---- the log
 
-same_log : (log : Log) → GoesOn log log
-same_log log = record { more = []; entries = sym (append-nil log.entries); mailboxes = λ k le. refl }
-
 one_more : (w : World) (stands : Stands w) (p : Pending) → w.pending ≡ Some p → HasAuthor w p → GoesOn w.log (with_entry w.log p)
 one_more w stands p is author =
     let tried = tried_of w stands p is author in
-    subst (GoesOn w.log) (sym (with_entry_is w.log p tried.mailbox tried.is_there)) (record {
-      more = record { author = p.author; group = p.group } ∷ [];
-      entries = refl;
-      mailboxes = (last_extends w.log p tried.mailbox (whole_of w stands) tried.is_there).same_at;
-    })
+    subst (GoesOn w.log) (sym (with_entry_is w.log p tried.mailbox tried.is_there)) (last_extends w.log p tried.mailbox stands.sound tried.is_there).goes_on
 
 opened_log : (w : World) (s : ℕ) → GoesOn w.log (opened w s).log
 opened_log w s = by_session (w.sessions s) refl
@@ -65,12 +57,7 @@ pub logs_go_on : (w : World) (event : Event) → Stands w → GoesOn w.log (happ
 logs_go_on w (Open s) stands = opened_log w s
 logs_go_on w (Write s c received) stands = written_by w s c received (λ x. GoesOn w.log x.log) (same_log w.log) (λ session m may empty. same_log w.log) (λ session m may some. same_log w.log)
 logs_go_on w Sync stands = synced_by w stands (λ x. GoesOn w.log x.log) (same_log w.log) (λ p session is runs there.
-    let one = tried w stands p session is runs there in
-    record {
-      more = record { author = p.author; group = p.group } ∷ [];
-      entries = refl;
-      mailboxes = (last_extends w.log p one.mailbox (whole_of w stands) one.is_there).same_at;
-    })
+    let one = tried w stands p session is runs there in (last_extends w.log p one.mailbox stands.sound one.is_there).goes_on)
 logs_go_on w Heal stands = same_log w.log
 logs_go_on w Publish stands = same_log w.log
 logs_go_on w (Load s) stands = loaded_log w s

@@ -36,8 +36,6 @@ live_by log less more pending other s session le live tried = record {
 
 pub healed : (w : World) → Stands w → Stands (happens w Heal)
 healed w stands = record {
-  start = stands.start;
-  range = stands.range;
   sound = stands.sound;
   published = stands.published;
   each = λ s session is. live_by w.log w.published w.published w.pending None s session (omega arith) (stands.each s session is) tt;
@@ -49,8 +47,6 @@ healed w stands = record {
 
 pub published : (w : World) → Stands w → Stands (happens w Publish)
 published w stands = record {
-  start = stands.start;
-  range = stands.range;
   sound = stands.sound;
   published = omega arith;
   each = λ s session is. live_by w.log w.published (length_of w) w.pending w.pending s session stands.published (stands.each s session is) (stands.each s session is).pending;
@@ -120,8 +116,6 @@ opens w s stands = by_session (w.sessions s) refl
     by_session : (o : Option Session) → w.sessions s ≡ o → Stands (opened w s)
     by_session (Some session) is = rw is stands
     by_session None is = rw is (record {
-      start = stands.start;
-      range = stands.range;
       sound = stands.sound;
       published = stands.published;
       each = each_with w s _ w.pending w.log (new_live w s stands is w.pending stands.author) (λ t other differs there. stands.each t other there);
@@ -169,8 +163,6 @@ loads w s stands = by_session (w.sessions s) refl
     by_session : (o : Option Session) → w.sessions s ≡ o → Stands (loaded w s)
     by_session None is = rw is stands
     by_session (Some session) is = rw is (record {
-      start = stands.start;
-      range = stands.range;
       sound = stands.sound;
       published = stands.published;
       each = each_with w s _ w.pending w.log (live_loaded session (stands.each s session is)) (λ t other differs there. stands.each t other there);

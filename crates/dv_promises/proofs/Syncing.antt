@@ -9,18 +9,20 @@ use Rattle.dv_model.specs.declared.types.Entry.{Entry}
 use Rattle.dv_model.specs.declared.types.Group.{Group}
 use Rattle.dv_model.specs.declared.types.Mailbox.{Mailbox}
 use Rattle.dv_model.specs.Effects.{applied}
-use Rattle.dv_model.specs.Journals.{Log, at, mark_of}
-use Rattle.dv_model.specs.Sessions.{State, group_of, refusal_of}
-use Rattle.dv_model.specs.Transcripts.{IsOwn, Turn, WroteEntry}
+use Rattle.dv_model.specs.Journals.{Log, IsSound, IsEntry, at, mark_of}
+use Rattle.dv_model.specs.Sessions.{State, group_of}
+use Rattle.dv_model.specs.Transcripts.{IsOwn, Turn, WroteEntry, refused_at}
 use Rattle.dv_model.proofs.Speaking.{one_of_either, one_or_last}
 use Rattle.dv_model.proofs.Transcripts.{at_end}
 use Rattle.dv_interleavings.specs.Worlds.{World, Session, Pending, Wrote, with_session, with_entry, with_wrote, synced, length_of, happens, Sync}
-use Rattle.dv_promises.specs.Standing.{AreInRange, HasAuthor, IsLive, IsTried, IsWaiting, IsWriting, Stands}
+use Rattle.dv_promises.specs.Standing.{HasAuthor, IsLive, IsTried, IsWaiting, IsWriting, Stands}
 use Rattle.dv_promises.proofs.Going.{live_on, same_refusal, turns_on}
-use Rattle.dv_promises.proofs.Groups.{group_applies, group_in_range}
-use Rattle.dv_promises.proofs.Logs.{Extends, IsWhole, last_extends, last_group, last_message, valid_at, with_entry_is, with_last}
+use Rattle.dv_validity.proofs.Entries.{group_is_entry}
+use Rattle.dv_validity.proofs.Groups.{group_applies}
+use Rattle.dv_promises.proofs.Guids.{guids_with}
+use Rattle.dv_promises.proofs.Logs.{Extends, last_extends, last_group, last_message, resets_at, uid_left, valid_at, with_entry_is, with_last}
 use Rattle.dv_promises.proofs.Small.{absent_with, each_with}
-use Rattle.dv_promises.proofs.Writing.{not_waiting, whole_of}
+use Rattle.dv_promises.proofs.Writing.{not_waiting}
 
 pub value_of : {X : Type 0} (P : X → Type 0) (o : Option X) (x : X) → o ≡ Some x → IfSome o P → P x
 value_of P None x e is = absurd (none-some x e)
@@ -32,17 +34,20 @@ at_seam (y ∷ xs) x = at_seam xs x
 
 -- ---- the longer log
 
-module _ (log : Log) (whole : IsWhole log) (p : Pending) (start : ℕ) (turns : List Turn) (last : State) (wrote : Option Wrote) (tried : IsTried log start turns last wrote p) where
+module _ (log : Log) (sound : IsSound log) (p : Pending) (start : ℕ) (turns : List Turn) (last : State) (wrote : Option Wrote) (tried : IsTried log start turns last wrote p) where
   abbrev more : Log
   more = with_last log p tried.mailbox
 
   pub on : Extends log (with_last log p tried.mailbox)
-  on = last_extends log p tried.mailbox whole tried.is_there
+  on = last_extends log p tried.mailbox sound tried.is_there
 
-  group_range : AreInRange p.group
-  group_range =
-      subst AreInRange (sym tried.group)
-      (group_in_range tried.state p.command tried.mailbox (mark_of log (length log.entries)) log.guid (valid_at log whole (length log.entries) tried.mailbox tried.is_there) tried.names tried.allowed)
+  last_entry : IsEntry (record { author = p.author; group = p.group })
+  last_entry =
+      subst (λ (g : Group). IsEntry (record { author = p.author; group = g })) (sym tried.group)
+      (group_is_entry p.command tried.state.view tried.mailbox log.guid p.author tried.good
+      (valid_at log sound (length log.entries) tried.mailbox tried.is_there) (resets_at log sound (length log.entries) tried.mailbox tried.is_there) sound.guids tried.author
+      (uid_left log (length log.entries) tried.state p.command tried.mailbox (valid_at log sound (length log.entries) tried.mailbox tried.is_there) tried.good tried.allowed)
+      (subst (λ (g : Group). 1 ≤ length g.records) tried.group tried.some))
 
   pub at_last : at (with_last log p tried.mailbox) (length log.entries + 1) ≡ applied tried.mailbox p.group.records
   at_last = at_end log (record { author = p.author; group = p.group }) ∙ ap (option_and_then (λ (m : Mailbox). applied m p.group.records)) tried.is_there
@@ -50,20 +55,23 @@ module _ (log : Log) (whole : IsWhole log) (p : Pending) (start : ℕ) (turns : 
   last_some : IsSome (at (with_last log p tried.mailbox) (length log.entries + 1))
   last_some =
       subst IsSome (sym at_last)
-      (subst (λ (g : Group). IsSome (applied tried.mailbox g.records)) (sym tried.group) (group_applies p.command tried.state.view tried.mailbox log.guid tried.names))
+      (subst (λ (g : Group). IsSome (applied tried.mailbox g.records)) (sym tried.group) (group_applies p.command tried.state.view tried.mailbox log.guid tried.good))
 
-  pub whole_more : IsWhole (with_last log p tried.mailbox)
-  whole_more = record {
-    start = whole.start;
-    range = All-push (λ (e : Entry). AreInRange e.group) log.entries (record { author = p.author; group = p.group }) whole.range group_range;
-    sound = λ k le. by_place k le (cases_lt (length log.entries) k);
+  pub sound_more : IsSound (with_last log p tried.mailbox)
+  sound_more = record {
+    start = sound.start;
+    start_mark = sound.start_mark;
+    indexid = sound.indexid;
+    guids = guids_with log p.command p.received tried.mailbox sound.guids;
+    entries = All-push IsEntry log.entries (record { author = p.author; group = p.group }) sound.entries last_entry;
+    mailboxes = λ k le. by_place k le (cases_lt (length log.entries) k);
   }
     where
       by_place : (k : ℕ) → k ≤ length (log.entries ++ record { author = p.author; group = p.group } ∷ []) → (length log.entries < k) ⊎ (k ≤ length log.entries) → IsSome (at (with_last log p tried.mailbox) k)
       by_place k le (inl past) =
           let e : length log.entries + 1 ≡ k = omega (arith, le, past, length_push log.entries (record { author = p.author; group = p.group })) in
           subst (λ (n : ℕ). IsSome (at (with_last log p tried.mailbox) n)) e last_some
-      by_place k le (inr within) = subst IsSome (sym (on.same_at k within)) (whole.sound k within)
+      by_place k le (inr within) = subst IsSome (sym (on.same_at k within)) (sound.mailboxes k within)
 
   -- the entries of others are as before
   pub own_back : (s : ℕ) → (p.author ≡ s → ⊥) → (from k : ℕ) → IsOwn (with_last log p tried.mailbox) s from k → IsOwn log s from k
@@ -77,13 +85,13 @@ module _ (log : Log) (whole : IsWhole log) (p : Pending) (start : ℕ) (turns : 
 -- ---- the author's session
 
 -- its entry is the last, and waits for its answer
-module _ (log : Log) (whole : IsWhole log) (p : Pending) (published : ℕ) (pending : Option Pending) (session : Session) (live : IsLive log published pending p.author session)
+module _ (log : Log) (sound : IsSound log) (p : Pending) (published : ℕ) (pending : Option Pending) (session : Session) (live : IsLive log published pending p.author session)
     (tried : IsTried log live.start live.turns session.state session.wrote p) (runs : p.running ≡ true) (met place : ℕ) (is_met : met ≡ length log.entries) (is_place : place ≡ length log.entries + 1) (all : published ≤ length log.entries) where
   abbrev longer : Log
   longer = with_last log p tried.mailbox
 
   goes_on : Extends log (with_last log p tried.mailbox)
-  goes_on = last_extends log p tried.mailbox whole tried.is_there
+  goes_on = last_extends log p tried.mailbox sound tried.is_there
 
   many : length (log.entries ++ record { author = p.author; group = p.group } ∷ []) ≡ length log.entries + 1
   many = omega (arith, length_push log.entries (record { author = p.author; group = p.group }))
@@ -99,9 +107,9 @@ module _ (log : Log) (whole : IsWhole log) (p : Pending) (published : ℕ) (pend
         before = tried.mailbox;
         was_there = ap (at (with_last log p tried.mailbox)) is_met ∙ goes_on.same_at (length log.entries) (omega arith) ∙ tried.is_there;
         allowed =
-            ap (λ (k : ℕ). refusal_of session.state p.command tried.mailbox (mark_of (with_last log p tried.mailbox) k) (with_last log p tried.mailbox).guid) is_met
+            ap (λ (k : ℕ). refused_at (with_last log p tried.mailbox) k session.state p.command tried.mailbox) is_met
             ∙ same_refusal log (with_last log p tried.mailbox) goes_on (length log.entries) tried.mailbox session.state p.command None (omega arith) tried.is_there
-            (ap (λ (x : State). refusal_of x p.command tried.mailbox (mark_of log (length log.entries)) log.guid) same ∙ tried.allowed);
+            (ap (λ (x : State). refused_at log (length log.entries) x p.command tried.mailbox) same ∙ tried.allowed);
         wrote = inl (record {
           behind = omega arith;
           some = subst (λ (g : Group). 1 ≤ length g.records) group tried.some;
@@ -159,23 +167,21 @@ module _ (w : World) (stands : Stands w) (p : Pending) (session : Session) (is :
 
   stands_behind : Stands (with_session behind p.author (Some (record session { wrote = Some write })))
   stands_behind =
-      let whole = whole_of w stands in
-      let more = whole_more w.log whole p live.start live.turns session.state session.wrote tried in
-      let all = many w.log whole p w.published w.pending session live tried runs (length w.log.entries) (length w.log.entries + 1) refl refl stands.published in
+      let sound = stands.sound in
+      let more = sound_more w.log sound p live.start live.turns session.state session.wrote tried in
+      let all = many w.log sound p w.published w.pending session live tried runs (length w.log.entries) (length w.log.entries + 1) refl refl stands.published in
       record {
-        start = more.start;
-        range = more.range;
-        sound = more.sound;
+        sound = more;
         published = omega (arith, stands.published, all);
         each = each_with behind p.author _ None behind.log
-            (author_live w.log whole p w.published w.pending session live tried runs (length_of behind - 1) (length_of behind) (omega (arith, all)) (omega (arith, all)) stands.published)
+            (author_live w.log sound p w.published w.pending session live tried runs (length_of behind - 1) (length_of behind) (omega (arith, all)) (omega (arith, all)) stands.published)
             (λ t other differs is_there.
-            live_on w.log behind.log (on w.log whole p live.start live.turns session.state session.wrote tried) t (own_back w.log whole p live.start live.turns session.state session.wrote tried t differs)
+            live_on w.log behind.log (on w.log sound p live.start live.turns session.state session.wrote tried) t (own_back w.log sound p live.start live.turns session.state session.wrote tried t differs)
             w.published w.pending other (stands.each t other is_there));
         absent = λ t k gone own.
             let none = absent_with behind p.author _ t gone in
             stands.absent t k none
-            (own_back w.log whole p live.start live.turns session.state session.wrote tried t (λ same. absurd (none-some session (sym none ∙ ap w.sessions (sym same) ∙ there))) w.published k own);
+            (own_back w.log sound p live.start live.turns session.state session.wrote tried t (λ same. absurd (none-some session (sym none ∙ ap w.sessions (sym same) ∙ there))) w.published k own);
         author = tt;
       }
 

@@ -11,8 +11,8 @@ use Rattle.dv_model.specs.declared.types.Command.{Command}
 use Rattle.dv_model.specs.declared.types.Command.TheVariants as command
 use Rattle.dv_model.specs.declared.types.Mailbox.{Mailbox}
 use Rattle.dv_model.specs.Journals.{Log, at, mark_of}
-use Rattle.dv_model.specs.Sessions.{State, Answer, answer, group_of, refusal_of, missing_number, is_select, is_write}
-use Rattle.dv_model.specs.Transcripts.{Turn, Wrote as HasWrote}
+use Rattle.dv_model.specs.Sessions.{State, Answer, answer, group_of, missing_number, is_select, is_write}
+use Rattle.dv_model.specs.Transcripts.{Turn, Wrote as HasWrote, refused_at}
 use Rattle.dv_model.specs.Views.{View}
 use Rattle.dv_model.proofs.Speaking.{any_before, leads_push}
 use Rattle.dv_interleavings.specs.Worlds.{World, Session, Pending, Wrote, with_answer, stopped_of, told, told_numbers, is_bad, same_write, happens, Tell}
@@ -23,17 +23,17 @@ use Rattle.dv_promises.proofs.Writing.{tried_stopped}
 
 -- ---- a command that may be answered isn't refused
 
-not_refused : (x : State) (c : Command) (m : Mailbox) (log : Log) (k : ℕ) → is_bad x c ≡ false → is_write c ≡ false → refusal_of x c m (mark_of log k) log.guid ≡ None
+not_refused : (x : State) (c : Command) (m : Mailbox) (log : Log) (k : ℕ) → is_bad x c ≡ false → is_write c ≡ false → refused_at log k x c m ≡ None
 not_refused x c m log k good reads = by_number (missing_number c x.view) refl
   where
     parts : ((not x.selected && not (is_select c)) ≡ false) × (is_some (missing_number c x.view) ≡ false)
     parts = or_parts (not x.selected && not (is_select c)) (is_some (missing_number c x.view)) good
 
-    by_number : (o : Option ℕ) → missing_number c x.view ≡ o → refusal_of x c m (mark_of log k) log.guid ≡ None
+    by_number : (o : Option ℕ) → missing_number c x.view ≡ o → refused_at log k x c m ≡ None
     by_number (Some n) is = let missing : is_some (missing_number c x.view) ≡ true = rw is refl in let none = parts.1 in absurd cc
     by_number None is = rw (parts.0, is, reads) refl
 
-reads_nothing : (c : Command) (v : View) (m : Mailbox) (guid : ℕ → List ℕ) → is_write c ≡ false → (group_of c v m guid).records ≡ []
+pub reads_nothing : (c : Command) (v : View) (m : Mailbox) (guid : ℕ → List ℕ) → is_write c ≡ false → (group_of c v m guid).records ≡ []
 reads_nothing (command.Append flags keywords message) v m guid reads = absurd cc
 reads_nothing (command.Store by_uid set h flags keywords since) v m guid reads = absurd cc
 reads_nothing command.Expunge v m guid reads = absurd cc
@@ -45,7 +45,7 @@ reads_nothing c v m guid reads = refl
 
 -- where the command may be answered: what it met, what it wrote, and that it was allowed
 pub record MayTell (log : Log) (s : ℕ) (session : Session) (c : Command) (q met : ℕ) (before : Mailbox) : Type 0 where
-  pub allowed : refusal_of session.state c before (mark_of log met) log.guid ≡ None
+  pub allowed : refused_at log met session.state c before ≡ None
   pub wrote : HasWrote log s met q session.state.view c before
   pub low : session.state.told ≤ met
   pub up : met ≤ q
@@ -74,7 +74,7 @@ module _ (log : Log) (published : ℕ) (pending : Option Pending) (s : ℕ) (ses
   may_write before write is writing same le there =
       let one : writing.before ≡ before = same_Some writing.before before (sym writing.was_there ∙ there) in
       record {
-        allowed = subst (λ c. refusal_of session.state c before (mark_of log write.met) log.guid ≡ None) same (subst (λ m. refusal_of session.state write.command m (mark_of log write.met) log.guid ≡ None) one writing.allowed);
+        allowed = subst (λ c. refused_at log write.met session.state c before ≡ None) same (subst (λ m. refused_at log write.met session.state write.command m ≡ None) one writing.allowed);
         wrote = subst (λ c. HasWrote log s write.met write.place session.state.view c before) same (subst (λ m. HasWrote log s write.met write.place session.state.view write.command m) one writing.wrote);
         low = writing.told;
         up = elim writing.wrote [ inl has ↦ let e = has.behind in omega arith | inr none ↦ let e = none.0 in omega arith ];
@@ -122,7 +122,8 @@ module _ (log : Log) (published : ℕ) (pending other : Option Pending) (s : ℕ
     allowed = tried.allowed;
     group = tried.group;
     some = tried.some;
-    names = tried.names;
+    author = tried.author;
+    good = tried.good;
     write = tried.write;
     told = tried.told;
     empty = tt;
@@ -213,8 +214,6 @@ module _ (w : World) (s : ℕ) (c : Command) (stands : Stands w) (session : Sess
   stands_told : (q met : ℕ) (before m : Mailbox) → MayTell w.log s session c q met before → at w.log met ≡ Some before → at w.log q ≡ Some m
       → Stands (with_answer w s session c (answer w.log.mail session.state c before q m (mark_of w.log q)))
   stands_told q met before m may was_there is_there = record {
-    start = stands.start;
-    range = stands.range;
     sound = stands.sound;
     published = stands.published;
     each = each_with w s _ (option_map (stopped_of s) w.pending) w.log

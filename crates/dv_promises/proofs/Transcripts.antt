@@ -1,15 +1,18 @@
 -- A live session's story is a transcript of its log.
-use Rattle.std.proofs.Common.{◌≡◌, ◌⊎◌, inl, inr, ℕ, ◌≤◌, List, [], ◌∷◌, ◌++◌, length, Option, Some, None, refl, sym, ◌∙◌, ap, subst, arith}
+use Rattle.std.proofs.Common.{◌≡◌, ◌⊎◌, inl, inr, ℕ, ◌≤◌, Bool, true, false, List, [], ◌∷◌, ◌++◌, length, Option, Some, None, refl, sym, ◌∙◌, ap, subst, arith}
 use Rattle.std.specs.Prelude.{All, IfSome, drop, map, take}
 use Rattle.std.proofs.lemmas.List.Elements.{All-weaker}
 use Rattle.dv_model.specs.declared.types.Command.{Command}
 use Rattle.dv_model.specs.declared.types.Reply.{Reply}
-use Rattle.dv_model.specs.Journals.{Log}
-use Rattle.dv_model.specs.Transcripts.{AreWritten, AreWrittenBut, IsNextLeft, IsTurn, LeadsTo, Speaks, Turn, Wrote as HasWrote, WroteEntry}
-use Rattle.dv_model.specs.Sessions.{State}
+use Rattle.dv_model.specs.declared.types.Mailbox.{Mailbox}
+use Rattle.dv_model.specs.Journals.{Log, IsSound}
+use Rattle.dv_model.specs.Transcripts.{AreWritten, AreWrittenBut, HasWritten, IsNextLeft, IsTurn, LeadsTo, Speaks, Turn, Wrote as HasWrote, WroteEntry}
+use Rattle.dv_model.specs.Sessions.{State, group_of, is_write}
+use Rattle.dv_model.specs.Views.{View}
 use Rattle.dv_interleavings.specs.Promises.{IsSpoken, commands_of, replies_of, sent_of}
 use Rattle.dv_interleavings.specs.Worlds.{World, Session, Pending, Wrote}
 use Rattle.dv_promises.specs.Standing.{begins_at, IsLive, IsToldTurn, IsWaiting, IsWriting}
+use Rattle.dv_promises.proofs.Telling.{reads_nothing}
 use Rattle.dv_promises.proofs.Writing.{not_waiting}
 
 abbrev pub Said : Type 0
@@ -55,6 +58,14 @@ speaks_of log s start turns state answers more there each leads is = record {
   sent = commands_are turns ∙ ap (map (λ (a : Command × List Reply). a.0)) is ∙ sym (first_commands answers more);
 }
 
+-- a command that wrote an entry is a write
+is_a_write : (log : Log) (s met q : ℕ) (v : View) (c : Command) (m : Mailbox) → HasWritten log s met q v c m → is_write c ≡ true
+is_a_write log s met q v c m has = by_test (is_write c) refl
+  where
+    by_test : (b : Bool) → is_write c ≡ b → is_write c ≡ true
+    by_test true is = is
+    by_test false is = let none : length (group_of c v m log.guid).records ≡ 0 = ap length (reads_nothing c v m log.guid is) in let some = has.some in absurd (omega arith)
+
 -- each own entry was written by a turn, or is that of the next command
 abbrev pub Ledger : Log → ℕ → ℕ → List Turn → State → List Command → Type 0
 Ledger log s start turns state rest = AreWritten log s start turns ⊎ ((last : ℕ) × IsNextLeft log s last state rest × AreWrittenBut log s start turns last)
@@ -77,7 +88,17 @@ module _ (log : Log) (published : ℕ) (pending : Option Pending) (s : ℕ) (ses
       by_group (inr none) = inl (all_written (subst (λ (o : Option Wrote). IfSome o (λ (write : Wrote). write.place ≡ write.met)) (sym is) none.0))
       by_group (inl has) = inr (
         write.met,
-        (writing.told, record { mailbox = writing.before; met = writing.was_there; entry = has.entry; last = writing.last }),
+        record {
+          left = record {
+            mailbox = writing.before;
+            met = writing.was_there;
+            told = writing.told;
+            write = is_a_write log s write.met write.place session.state.view write.command writing.before has;
+            allowed = writing.allowed;
+            written = record { behind = refl; some = has.some; entry = has.entry; message = has.message };
+          };
+          last = writing.last;
+        },
         λ k own. by_place k (subst (λ (o : Option Wrote). WroteEntry live.turns k ⊎ IsWaiting o k) is (live.ledger k own)),
       )
         where
@@ -94,8 +115,8 @@ module _ (log : Log) (published : ℕ) (pending : Option Pending) (s : ℕ) (ses
   pub entries_live : Ledger log s live.start live.turns session.state (drop (length (replies_of session)) (commands_of session))
   entries_live = subst (Ledger log s live.start live.turns session.state) (sym (other_commands session.answers (sent_of session.wrote))) ledger_of
 
-pub is_spoken : (w : World) (s : ℕ) (session : Session) → IsLive w.log w.published w.pending s session → IsSpoken w s session
-is_spoken w s session live = record {
-  spoken = record { speaks = speaks_live w.log w.published w.pending s session live; entries = entries_live w.log w.published w.pending s session live };
+pub is_spoken : (w : World) (s : ℕ) (session : Session) → IsSound w.log → IsLive w.log w.published w.pending s session → IsSpoken w s session
+is_spoken w s session sound live = record {
+  spoken = record { sound = sound; speaks = speaks_live w.log w.published w.pending s session live; entries = entries_live w.log w.published w.pending s session live };
   state = refl;
 }

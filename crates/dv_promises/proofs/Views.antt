@@ -1,13 +1,12 @@
 -- What a move leaves of a view: it is read in the mailbox, and shows each of its rows.
-use Rattle.std.proofs.Common.{◌≡◌, ◌⊎◌, inl, inr, ℕ, zero, suc, ◌+◌, ◌<◌, ◌≤◌, Bool, true, false, cond, ◌||◌, List, [], ◌∷◌, ◌++◌, length, get_or, nat_eq, nat_le, Some, refl, sym, ◌∙◌, ap, subst, arith, length-append}
-use Rattle.std.specs.Prelude.{All, find, map, option_map, slice_index, unwrap_or}
-use Rattle.std.specs.List.{list_any}
+use Rattle.std.proofs.Common.{◌≡◌, ◌⊎◌, inl, inr, ℕ, zero, suc, ◌+◌, ◌<◌, ◌≤◌, Bool, true, false, cond, List, [], ◌∷◌, ◌++◌, length, get_or, nat_eq, nat_le, Option, Some, refl, sym, ◌∙◌, ap, subst, arith, length-append}
+use Rattle.std.specs.Prelude.{All, Any, Contains, find, map, option_map, slice_index, unwrap_or}
 use Rattle.std.specs.List.Sorted.{IsStrictlyIncreasing}
-use Rattle.std.proofs.lemmas.Bool.{eq-eqb, eqb-true, le-leb, or_cases, or_left, or_right}
+use Rattle.std.proofs.lemmas.Bool.{eq-eqb, eqb-true, le-leb}
 use Rattle.std.proofs.lemmas.Bool.Decides.{nat_tests}
 use Rattle.std.proofs.lemmas.List.{get_or-map, length-map}
-use Rattle.std.proofs.lemmas.List.Elements.{All-append, All-filter, All-head, All-map, All-tail, All-weaker}
-use Rattle.std.proofs.lemmas.List.Folds.{list_any-append, list_any_at}
+use Rattle.std.proofs.lemmas.List.Elements.{All-append, All-contains_itself, All-filter, All-head, All-map, All-tail, All-weaker, Contains-append_left, Contains-append_right, Contains-get_or}
+use Rattle.std.proofs.lemmas.List.Folds.{Any-from_list_any, list_any_at}
 use Rattle.dv_model.specs.declared.types.Mailbox.{Mailbox}
 use Rattle.dv_model.specs.declared.types.Row.{Row}
 use Rattle.dv_model.specs.declared.types.Shown.{Shown}
@@ -15,8 +14,8 @@ use Rattle.dv_model.specs.declared.types.Step.{Step}
 use Rattle.dv_model.specs.declared.types.Step.TheVariants.{Held, Full}
 use Rattle.dv_model.specs.Laws.{Follows, IsReadIn}
 use Rattle.dv_model.specs.Mailboxes.{IsRowOf, IsValid}
-use Rattle.dv_model.specs.Views.{View, moved, shown, shows_uid}
-use Rattle.dv_promises.proofs.Moves.{Above, from_uid, held_moves, held_row, held_uid, shows}
+use Rattle.dv_model.specs.Views.{View, moved, row_of, shown, shows_uid}
+use Rattle.dv_model.proofs.Clients.{Above, all_shown_rise, from_uid, held_moves, held_row, held_uid}
 
 -- ---- rows in rising order
 
@@ -98,43 +97,62 @@ module _ (before m : Mailbox) (view : View) (read : IsReadIn before view) (follo
 
 -- ---- the view shows each row of the mailbox
 
-pub full_shows : (rows : List Row) → All (λ row. shows (map shown rows) row.uid ≡ true) rows
-full_shows rows k d h =
-    let at : get_or (map shown rows) k (shown d) ≡ shown (get_or rows k d) = get_or-map shown rows k d (shown d) h in
-    list_any_at (λ (s : Shown). nat_eq s.uid (get_or rows k d).uid) (map shown rows) k (shown d) (omega (arith, h, length-map rows shown))
-    (let same : (get_or (map shown rows) k (shown d)).uid ≡ (get_or rows k d).uid = ap (λ (s : Shown). s.uid) at in grind (arith, nat_tests))
+contains_map : {X Y : Type 0} (f : X → Y) (xs : List X) (x : X) → Contains xs x → Contains (map f xs) (f x)
+contains_map f xs x (k, h, is) = (k, omega (arith, h, length-map xs f), get_or-map f xs k x (f x) h ∙ ap f is)
 
-held_shows : (m : Mailbox) (uid : ℕ) (rows : List Shown) → shows (map (held_row m) rows) uid ≡ shows rows uid
-held_shows m uid [] = refl
-held_shows m uid (s ∷ rows) = ap (λ (n : ℕ). nat_eq n uid || shows (map (held_row m) rows) uid) (held_uid m s) ∙ ap (λ (b : Bool). nat_eq s.uid uid || b) (held_shows m uid rows)
+pub full_shows : (rows : List Row) → All (λ row. Contains (map shown rows) (shown row)) rows
+full_shows rows = All-weaker (Contains rows) (λ row. Contains (map shown rows) (shown row)) (contains_map shown rows) rows (All-contains_itself rows)
 
-from_by : (b uid : ℕ) (row : Row) (rest : List Row) → b ≤ uid → (shows (map shown rest) uid ≡ true) ⊎ (row.uid ≡ uid) → (t : Bool) → nat_le b row.uid ≡ t → shows (map shown (cond t (row ∷ rest) rest)) uid ≡ true
-from_by b uid row rest le (inl later) true is = or_right (nat_eq row.uid uid) (shows (map shown rest) uid) later
-from_by b uid row rest le (inl later) false is = later
-from_by b uid row rest le (inr same) true is = or_left (nat_eq row.uid uid) (shows (map shown rest) uid) (grind (arith, nat_tests))
-from_by b uid row rest le (inr same) false is = let found : nat_le b row.uid ≡ true = le-leb b row.uid (omega arith) in absurd cc
+row_above : (n : ℕ) (rows : List Row) (row : Row) → Above n (map shown rows) → Contains rows row → n ≤ row.uid
+row_above n [] row above has = absurd (omega (arith, has.1))
+row_above n (r ∷ rows) row above (zero, h, is) = subst (λ (r : Row). n ≤ r.uid) is above.0
+row_above n (r ∷ rows) row above (suc k, h, is) = let low = row_above (r.uid + 1) rows row above.1 (k, omega (arith, h), is) in omega (arith, above.0)
 
-from_shows : (b uid : ℕ) (rows : List Row) → b ≤ uid → list_any (λ row. nat_eq row.uid uid) rows ≡ true → shows (map shown (from_uid b rows)) uid ≡ true
-from_shows b uid [] le has = absurd cc
-from_shows b uid (row ∷ rows) le has =
-    from_by b uid row (from_uid b rows) le
-    (elim (or_cases (nat_eq row.uid uid) (list_any (λ (r : Row). nat_eq r.uid uid) rows) has) [ inl same ↦ inr (eqb-true row.uid uid same) | inr later ↦ inl (from_shows b uid rows le later) ])
-    (nat_le b row.uid) refl
+-- of rising rows the one of a UID is found
+row_found : (n : ℕ) (rows : List Row) (row : Row) (uid : ℕ) → Above n (map shown rows) → Contains rows row → row.uid ≡ uid → find (λ r. nat_eq r.uid uid) rows ≡ Some row
+row_found n [] row uid above has same = absurd (omega (arith, has.1))
+row_found n (r ∷ rows) row uid above (zero, h, is) same =
+    let e : r.uid ≡ uid = ap (λ (r : Row). r.uid) is ∙ same in
+    ap (λ (b : Bool). cond b (Some r) (find (λ (r : Row). nat_eq r.uid uid) rows)) (eq-eqb r.uid uid e) ∙ ap Some is
+row_found n (r ∷ rows) row uid above (suc k, h, is) same =
+    let rest : Contains rows row = (k, omega (arith, h), is) in
+    let low : r.uid + 1 ≤ row.uid = row_above (r.uid + 1) rows row above.1 rest in
+    let differs : nat_eq r.uid uid ≡ false = (let up : r.uid < uid = omega (arith, low, same) in grind (arith, nat_tests)) in
+    ap (λ (b : Bool). cond b (Some r) (find (λ (r : Row). nat_eq r.uid uid) rows)) differs ∙ row_found (r.uid + 1) rows row uid above.1 rest same
 
-shows_here : (before m : Mailbox) (view : View) → Follows before view m → (k : ℕ) (d : Row) → k < length m.rows → shows_uid (moved Held view m) (get_or m.rows k d).uid ≡ true
-shows_here before m view follows k d h = by_row (follows.rows k d h)
+contains_from : (b : ℕ) (rows : List Row) (row : Row) → b ≤ row.uid → Contains rows row → Contains (from_uid b rows) row
+contains_from b [] row le has = absurd (omega (arith, has.1))
+contains_from b (r ∷ rows) row le (zero, h, e) = by_test (nat_le b r.uid) refl
   where
-    has : list_any (λ (row : Row). nat_eq row.uid (get_or m.rows k d).uid) m.rows ≡ true
-    has = list_any_at (λ (row : Row). nat_eq row.uid (get_or m.rows k d).uid) m.rows k d h (eq-eqb (get_or m.rows k d).uid (get_or m.rows k d).uid refl)
+    by_test : (t : Bool) → nat_le b r.uid ≡ t → Contains (cond t (r ∷ from_uid b rows) (from_uid b rows)) row
+    by_test true is = (zero, omega arith, e)
+    by_test false is = let found : nat_le b r.uid ≡ true = le-leb b r.uid (let same : r.uid ≡ row.uid = ap (λ (r : Row). r.uid) e in omega arith) in absurd cc
+contains_from b (r ∷ rows) row le (suc k, h, e) = by_test (nat_le b r.uid) (contains_from b rows row le (k, omega (arith, h), e))
+  where
+    by_test : (t : Bool) → Contains (from_uid b rows) row → Contains (cond t (r ∷ from_uid b rows) (from_uid b rows)) row
+    by_test true rest = (suc rest.0, omega (arith, rest.1), rest.2)
+    by_test false rest = rest
 
-    by_row : (shows_uid view (get_or m.rows k d).uid ≡ true) ⊎ (view.next_uid ≤ (get_or m.rows k d).uid) → shows (map (held_row m) view.rows ++ map shown (from_uid view.next_uid m.rows)) (get_or m.rows k d).uid ≡ true
-    by_row (inl old) =
-        list_any-append (λ (s : Shown). nat_eq s.uid (get_or m.rows k d).uid) (map (held_row m) view.rows) (map shown (from_uid view.next_uid m.rows))
-        ∙ or_left (shows (map (held_row m) view.rows) (get_or m.rows k d).uid) (shows (map shown (from_uid view.next_uid m.rows)) (get_or m.rows k d).uid) (held_shows m (get_or m.rows k d).uid view.rows ∙ old)
-    by_row (inr new) =
-        list_any-append (λ (s : Shown). nat_eq s.uid (get_or m.rows k d).uid) (map (held_row m) view.rows) (map shown (from_uid view.next_uid m.rows))
-        ∙ or_right (shows (map (held_row m) view.rows) (get_or m.rows k d).uid) (shows (map shown (from_uid view.next_uid m.rows)) (get_or m.rows k d).uid) (from_shows view.next_uid (get_or m.rows k d).uid m.rows new has)
+module _ (m : Mailbox) (valid : IsValid m) (view : View) (row : Row) (has : Contains m.rows row) where
+  -- an old row is held as the mailbox has it
+  held_shows : Any (λ (s : Shown). nat_eq s.uid row.uid ≡ true) view.rows → Contains (map (held_row m) view.rows) (shown row)
+  held_shows (k, s, h, is, same) =
+      let found : row_of m s.uid ≡ Some row = row_found 0 m.rows row s.uid (all_shown_rise m valid.rising) has (sym (eqb-true s.uid row.uid same)) in
+      subst (Contains (map (held_row m) view.rows)) (ap (λ (o : Option Row). unwrap_or (option_map shown o) s) found) (contains_map (held_row m) view.rows s (k, h, is))
 
-pub moved_shows : (step : Step) (before m : Mailbox) (view : View) → Follows before view m → All (λ row. shows_uid (moved step view m) row.uid ≡ true) m.rows
+  shows_here : (shows_uid view row.uid ≡ true) ⊎ (view.next_uid ≤ row.uid) → Contains (map (held_row m) view.rows ++ map shown (from_uid view.next_uid m.rows)) (shown row)
+  shows_here (inl old) =
+      Contains-append_left (map (held_row m) view.rows) (map shown (from_uid view.next_uid m.rows)) (shown row)
+      (held_shows (Any-from_list_any (λ (s : Shown). nat_eq s.uid row.uid) view.rows old))
+  shows_here (inr new) =
+      Contains-append_right (map (held_row m) view.rows) (map shown (from_uid view.next_uid m.rows)) (shown row)
+      (contains_map shown (from_uid view.next_uid m.rows) row (contains_from view.next_uid m.rows row new has))
+
+pub moved_shows : (step : Step) (before m : Mailbox) (view : View) → Follows before view m → All (λ row. Contains (moved step view m).rows (shown row)) m.rows
 moved_shows Full before m view follows = full_shows m.rows
-moved_shows Held before m view follows = shows_here before m view follows
+moved_shows Held before m view follows = λ k d h. shows_here m follows.valid view (get_or m.rows k d) (Contains-get_or m.rows k d h) (follows.rows k d h)
+
+-- a row that is shown has its UID in the view
+pub shows_its_uid : (view : View) (row : Row) → Contains view.rows (shown row) → shows_uid view row.uid ≡ true
+shows_its_uid view row (k, h, is) =
+    list_any_at (λ (s : Shown). nat_eq s.uid row.uid) view.rows k (shown row) h (eq-eqb (get_or view.rows k (shown row)).uid row.uid (ap (λ (s : Shown). s.uid) is))

@@ -9,16 +9,12 @@ use Rattle.dv_model.specs.declared.types.Command.{Command}
 use Rattle.dv_model.specs.declared.types.Mailbox.{Mailbox}
 use Rattle.dv_model.specs.declared.types.Record.{Record}
 use Rattle.dv_model.specs.declared.types.Reply.{Reply}
-use Rattle.dv_model.specs.Journals.{Log, at, mark_of}
-use Rattle.dv_model.specs.Sessions.{State, group_of, refusal_of, is_write}
-use Rattle.dv_model.specs.Transcripts.{LeadsTo, Turn, WroteEntry}
+use Rattle.dv_model.specs.Journals.{Log, IsSound, IsU32, at}
+use Rattle.dv_model.specs.Sessions.{State, IsCommand, group_of, is_write}
+use Rattle.dv_model.specs.Transcripts.{LeadsTo, Turn, WroteEntry, refused_at}
 use Rattle.dv_interleavings.specs.Worlds.{World, Session, Pending, Wrote, Write, with_session, without_running, stopped, may_write, written, length_of, happens}
-use Rattle.dv_promises.specs.Standing.{begins_at, HasAuthor, HasNames, IsLive, IsTried, IsWaiting, Stands}
-use Rattle.dv_promises.proofs.Logs.{IsWhole}
+use Rattle.dv_promises.specs.Standing.{begins_at, HasAuthor, IsLive, IsTried, IsWaiting, Stands}
 use Rattle.dv_promises.proofs.Small.{absent_with, author_with, each_with, if_some, live_by, none_past}
-
-pub whole_of : (w : World) → Stands w → IsWhole w.log
-whole_of w stands = record { start = stands.start; range = stands.range; sound = stands.sound }
 
 -- ---- the pending entry stops
 
@@ -35,7 +31,8 @@ tried_stopped log start turns last wrote p tried = record {
   allowed = tried.allowed;
   group = tried.group;
   some = tried.some;
-  names = tried.names;
+  author = tried.author;
+  good = tried.good;
   write = tried.write;
   told = tried.told;
   empty = tried.empty;
@@ -67,9 +64,9 @@ not_waiting turns wrote k none (inl is) = is
 not_waiting turns None k none (inr waits) = absurd waits
 not_waiting turns (Some write) k none (inr waits) = absurd (none-some write (sym none))
 
-module _ (w : World) (s : ℕ) (session : Session) (c : Command) (m : Mailbox) (stands : Stands w) (is : w.sessions s ≡ Some session) (names : HasNames c)
+module _ (w : World) (s : ℕ) (session : Session) (c : Command) (m : Mailbox) (stands : Stands w) (is : w.sessions s ≡ Some session) (author : IsU32 s) (good : IsCommand c)
     (write : is_write c ≡ true) (all : w.published ≡ length_of w) (none : session.wrote ≡ None) (is_there : at w.log (length_of w) ≡ Some m)
-    (allowed : refusal_of session.state c m (mark_of w.log (length_of w)) w.log.guid ≡ None) where
+    (allowed : refused_at w.log (length_of w) session.state c m ≡ None) where
   told_all : session.state.told ≤ length_of w
   told_all = let live = stands.each s session is in let low = live.told in let high = live.seen in omega arith
 
@@ -118,7 +115,8 @@ module _ (w : World) (s : ℕ) (session : Session) (c : Command) (m : Mailbox) (
         allowed = t.allowed;
         group = t.group;
         some = t.some;
-        names = t.names;
+        author = t.author;
+        good = t.good;
         write = t.write;
         told = t.told;
         empty = refl;
@@ -133,8 +131,6 @@ module _ (w : World) (s : ℕ) (session : Session) (c : Command) (m : Mailbox) (
   done : (group_of c session.state.view m w.log.guid).records ≡ []
       → Stands (with_session (without_running w) s (Some (record session { wrote = Some (record { place = length_of w; met = length_of w; command = c }) })))
   done empty = record {
-    start = stands.start;
-    range = stands.range;
     sound = stands.sound;
     published = stands.published;
     each = each_with w s _ (option_map stopped w.pending) w.log (done_live empty)
@@ -149,8 +145,6 @@ module _ (w : World) (s : ℕ) (session : Session) (c : Command) (m : Mailbox) (
   tries : (received : ℕ) → nat_eq (length (group_of c session.state.view m w.log.guid).records) 0 ≡ false
       → Stands (record w { pending = Some (record { author = s; command = c; group = group_of c session.state.view m w.log.guid; received = received; running = true }) })
   tries received some = record {
-    start = stands.start;
-    range = stands.range;
     sound = stands.sound;
     published = stands.published;
     each = λ t other there. let live = stands.each t other there in
@@ -174,7 +168,8 @@ module _ (w : World) (s : ℕ) (session : Session) (c : Command) (m : Mailbox) (
         allowed = allowed;
         group = refl;
         some = some_of (group_of c session.state.view m w.log.guid).records some;
-        names = names;
+        author = author;
+        good = good;
         write = write;
         told = told_all;
         empty = subst (λ (o : Option Wrote). IfSome o (λ (x : Wrote). x.place ≡ x.met)) (sym none) tt;
@@ -200,7 +195,7 @@ pub record MayWrite (w : World) (s : ℕ) (c : Command) (session : Session) (m :
   pub all : w.published ≡ length_of w
   pub none : session.wrote ≡ None
   pub there : at w.log (length_of w) ≡ Some m
-  pub allowed : refusal_of session.state c m (mark_of w.log (length_of w)) w.log.guid ≡ None
+  pub allowed : refused_at w.log (length_of w) session.state c m ≡ None
 
 -- what holds of the world as it was, with the empty group done and with the group pending, holds of the world behind
 pub written_by : (w : World) (s : ℕ) (c : Command) (received : ℕ) (P : World → Type 0) → P w
@@ -212,7 +207,7 @@ pub written_by : (w : World) (s : ℕ) (c : Command) (received : ℕ) (P : World
 written_by w s c received P stays is_done is_tried = by_session (w.sessions s) refl
   where
     by_group : (session : Session) (m : Mailbox) → w.sessions s ≡ Some session → may_write w session c ≡ true → at w.log (length_of w) ≡ Some m
-        → refusal_of session.state c m (mark_of w.log (length_of w)) w.log.guid ≡ None → (b : Bool) → nat_eq (length (group_of c session.state.view m w.log.guid).records) 0 ≡ b → P (written w s c received)
+        → refused_at w.log (length_of w) session.state c m ≡ None → (b : Bool) → nat_eq (length (group_of c session.state.view m w.log.guid).records) 0 ≡ b → P (written w s c received)
     by_group session m is may there allowed b group =
         let first = and_parts (is_write c && nat_eq w.published (length_of w)) (not (is_some session.wrote)) may in
         let second = and_parts (is_write c) (nat_eq w.published (length_of w)) first.0 in
@@ -227,13 +222,13 @@ written_by w s c received P stays is_done is_tried = by_session (w.sessions s) r
             rw (is, may, there, allowed, some) (is_tried session m (record { is = is; write = write; all = all; none = none; there = there; allowed = allowed }) some)
 
     by_refusal : (session : Session) (m : Mailbox) → w.sessions s ≡ Some session → may_write w session c ≡ true → at w.log (length_of w) ≡ Some m
-        → (o : Option Reply) → refusal_of session.state c m (mark_of w.log (length_of w)) w.log.guid ≡ o → P (written w s c received)
+        → (o : Option Reply) → refused_at w.log (length_of w) session.state c m ≡ o → P (written w s c received)
     by_refusal session m is may there (Some refusal) refused = rw (is, may, there, refused) stays
     by_refusal session m is may there None allowed = by_group session m is may there allowed (nat_eq (length (group_of c session.state.view m w.log.guid).records) 0) refl
 
     by_mailbox : (session : Session) → w.sessions s ≡ Some session → may_write w session c ≡ true → (o : Option Mailbox) → at w.log (length_of w) ≡ o → P (written w s c received)
     by_mailbox session is may None there = rw (is, may, there) stays
-    by_mailbox session is may (Some m) there = by_refusal session m is may there (refusal_of session.state c m (mark_of w.log (length_of w)) w.log.guid) refl
+    by_mailbox session is may (Some m) there = by_refusal session m is may there (refused_at w.log (length_of w) session.state c m) refl
 
     by_may : (session : Session) → w.sessions s ≡ Some session → (b : Bool) → may_write w session c ≡ b → P (written w s c received)
     by_may session is true may = by_mailbox session is may (at w.log (length_of w)) refl
@@ -243,7 +238,7 @@ written_by w s c received P stays is_done is_tried = by_session (w.sessions s) r
     by_session None is = rw is stays
     by_session (Some session) is = by_may session is (may_write w session c) refl
 
-pub writes : (w : World) (s : ℕ) (c : Command) (received : ℕ) → Stands w → HasNames c → Stands (happens w (Write s c received))
-writes w s c received stands names =
-    written_by w s c received Stands stands (λ session m may empty. done w s session c m stands may.is names may.write may.all may.none may.there may.allowed empty)
-    (λ session m may some. tries w s session c m stands may.is names may.write may.all may.none may.there may.allowed received some)
+pub writes : (w : World) (s : ℕ) (c : Command) (received : ℕ) → Stands w → IsU32 s → IsCommand c → Stands (happens w (Write s c received))
+writes w s c received stands author good =
+    written_by w s c received Stands stands (λ session m may empty. done w s session c m stands may.is author good may.write may.all may.none may.there may.allowed empty)
+    (λ session m may some. tries w s session c m stands may.is author good may.write may.all may.none may.there may.allowed received some)

@@ -1,16 +1,13 @@
 -- What stands in each world that good events lead to.
 use Rattle.std.specs.Prelude.{◌≡◌, ◌⊎◌, ℕ, ◌+◌, ◌≤◌, true, List, ◌++◌, length, map, All, Option, Some, None, IfSome}
 use Rattle.dv_model.specs.declared.types.Command.{Command}
-use Rattle.dv_model.specs.declared.types.Command.TheVariants as command
-use Rattle.dv_model.specs.declared.types.Group.{Group}
 use Rattle.dv_model.specs.declared.types.Mailbox.{Mailbox}
-use Rattle.dv_model.specs.Journals.{Log, IsSound, at, mark_of}
+use Rattle.dv_model.specs.declared.types.Mark.{Mark}
+use Rattle.dv_model.specs.Journals.{Log, HasResets, IsGuid, IsSound, IsU32, at}
 use Rattle.dv_model.specs.Mailboxes.{IsValid}
-use Rattle.dv_model.specs.Names.{IsName}
-use Rattle.dv_model.specs.Sessions.{State, new_session, group_of, refusal_of, is_write}
-use Rattle.dv_model.specs.Transcripts.{IsOwn, IsTold, LeadsTo, Turn, Wrote as HasWrote, WroteEntry}
-use Rattle.dv_interleavings.specs.Worlds.{World, Session, Pending, Wrote, Event, Write}
-use Rattle.dv_validity.specs.Laws.{IsInRange}
+use Rattle.dv_model.specs.Sessions.{State, IsCommand, new_session, group_of, is_write}
+use Rattle.dv_model.specs.Transcripts.{IsOwn, IsTold, LeadsTo, Turn, Wrote as HasWrote, WroteEntry, refused_at}
+use Rattle.dv_interleavings.specs.Worlds.{World, Session, Pending, Wrote, Event, Write, Stored}
 
 -- ---- events
 
@@ -28,10 +25,6 @@ pub record IsStart (start : Mailbox) (indexid : ℕ) (mark : Mark) (stored : Lis
   pub guids : All (λ s. IsGuid s.guid) stored
 
 -- ---- a session's story
-
--- each record of the group leaves a valid mailbox of a valid one
-abbrev pub AreInRange : Group → Type 0
-AreInRange g = All (λ r. IsInRange r.body) g.records
 
 -- a turn that was answered with a mark, and met no fewer entries than its session was told of
 pub record IsToldTurn (log : Log) (s : ℕ) (t : Turn) : Type 0 where
@@ -74,6 +67,7 @@ pub record IsTried (log : Log) (start : ℕ) (turns : List Turn) (last : State) 
   pub group : p.group ≡ group_of p.command state.view mailbox log.guid
   pub some : 1 ≤ length p.group.records
   -- it is a write of a good event, and met no fewer entries than its session was told of
+  pub author : IsU32 p.author
   pub good : IsCommand p.command
   pub write : is_write p.command ≡ true
   pub told : state.told ≤ length log.entries
@@ -116,12 +110,9 @@ pub record IsLive (log : Log) (published : ℕ) (waiting : Option Pending) (s : 
 abbrev pub HasAuthor : World → Pending → Type 0
 HasAuthor w p = (session : Session) × (w.sessions p.author ≡ Some session)
 
--- Each prefix of the log is a valid mailbox, each live session has its story, and a session that isn't there wrote
+-- The log is sound, each live session has its story, and a session that isn't there wrote
 -- nothing that isn't published.
 pub record Stands (w : World) : Type 0 where
-  -- the log begins with a valid mailbox, and its records apply and leave valid ones
-  pub start : IsValid w.log.start
-  pub range : All (λ e. AreInRange e.group) w.log.entries
   pub sound : IsSound w.log
   -- no more is published than is durable
   pub published : w.published ≤ length w.log.entries

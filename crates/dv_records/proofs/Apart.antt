@@ -55,7 +55,8 @@ pub payload_at_is : (r : Record) (b rest : List ℕ) → Spells r b → payload_
 payload_at_is r b rest is = ap (λ (n : ℕ). drop 8 (take n (b ++ rest))) (size_at_is r b rest is) ∙ ap (drop 8) (take_at b rest (length b) refl)
 
 -- where a record begins there is no fault
-pub no_fault : (r : Record) (b rest : List ℕ) (f : RecordFault) → Spells r b → IsFault f (b ++ rest) → ⊥
+pub no_fault : (r : Record) (b rest : List ℕ) (f : RecordFault) → Spells r b → IsFault f (b ++ rest)
+    → ⊥
 no_fault r b rest Closed is fault = let e = not_closed r b rest is in cc
 no_fault r b rest BadSize is fault = let e = fine_size r b rest is in let h = fault.1 in cc
 no_fault r b rest BadGuard is fault =

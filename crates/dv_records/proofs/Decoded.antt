@@ -11,7 +11,8 @@ use Rattle.dv_records.proofs.Apart.{no_fault, fault_one}
 use Rattle.dv_records.proofs.Readings.{one_reading}
 
 -- the record that was read is the one that stands there
-pub is_that : (place : List ℕ) (at n : ℕ) (r : Record) → IsRecordAt r n place → (s : Record) (text rest : List ℕ) → Spells s text → place ≡ text ++ rest
+pub is_that : (place : List ℕ) (at n : ℕ) (r : Record) → IsRecordAt r n place
+    → (s : Record) (text rest : List ℕ) → Spells s text → place ≡ text ++ rest
     → Answers {A = Record × ℕ} (Ok (r, at + n)) (Ok (s, at + length text))
 is_that place at n r is s text rest spells e =
     let one = one_reading r s (take n place) text (drop n place) rest is.1 spells (take-append-drop n place ∙ e) in

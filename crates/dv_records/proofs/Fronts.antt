@@ -3,7 +3,7 @@ use Rattle.std.proofs.Common.{◌≡◌, ℕ, ◌+◌, ◌-◌, ◌^◌, ◌<◌
 use Rattle.std.specs.Int.{w16, w32, to_le_bytes, from_le_bytes}
 use Rattle.std.proofs.lemmas.Bool.{ltb-false, le-ltb, eqb-false, ne_eqb, or_from, or_parts}
 use Rattle.std.proofs.lemmas.Option.{none-some, same_Some}
-use Rattle.std.proofs.lemmas.List.{length-take, length-drop, drop-take, get_or-take, take_all}
+use Rattle.std.proofs.lemmas.List.{length-take, length-drop, drop-take, get_or-take, take-take, take_all}
 use Rattle.std.proofs.Math.Seq.{take-add, drop-cons}
 use Rattle.std.proofs.lemmas.Nat.{le_bytes_2, le_bytes_4, from_le_bytes-to_le_bytes_2, from_le_bytes-to_le_bytes_4}
 use Rattle.dv_model.specs.declared.types.Change.{Change}
@@ -19,10 +19,12 @@ use Rattle.dv_records.proofs.Payloads.{sized_pairs, sized_new_rows, sized_change
 
 -- ---- numbers of four and of two bytes
 
-pub word_is : (b : List ℕ) (at : ℕ) → IsBytes b → at + 4 ≤ length b → take 4 (drop at b) ≡ to_le_bytes w32 (word_at b at)
+pub word_is : (b : List ℕ) (at : ℕ) → IsBytes b → at + 4 ≤ length b
+    → take 4 (drop at b) ≡ to_le_bytes w32 (word_at b at)
 word_is b at fits long = sym (le_bytes_4 (take 4 (drop at b)) _ (omega (arith, length-take 4 (drop at b), length-drop at b)) (IsBytes-take 4 (drop at b) (IsBytes-drop at b fits)) refl)
 
-pub half_is : (b : List ℕ) (at : ℕ) → IsBytes b → at + 2 ≤ length b → take 2 (drop at b) ≡ to_le_bytes w16 (half_at b at)
+pub half_is : (b : List ℕ) (at : ℕ) → IsBytes b → at + 2 ≤ length b
+    → take 2 (drop at b) ≡ to_le_bytes w16 (half_at b at)
 half_is b at fits long = sym (le_bytes_2 (take 2 (drop at b)) _ (omega (arith, length-take 2 (drop at b), length-drop at b)) (IsBytes-take 2 (drop at b) (IsBytes-drop at b fits)) refl)
 
 pub byte_is : (b : List ℕ) (at : ℕ) → at + 1 ≤ length b → take 1 (drop at b) ≡ get_or b at 0 ∷ []
@@ -39,42 +41,43 @@ half_below b at fits =
     omega (arith, f 0, f 1)
 
 -- one text behind another
-pub joined : (n m : ℕ) (b x y : List ℕ) → take n b ≡ x → take m (drop n b) ≡ y → take (n + m) b ≡ x ++ y
+pub joined : (n m : ℕ) (b x y : List ℕ) → take n b ≡ x → take m (drop n b) ≡ y
+    → take (n + m) b ≡ x ++ y
 joined n m b x y p q = take-add n m b ∙ ap (λ (t : List ℕ). t ++ take m (drop n b)) p ∙ ap (λ (t : List ℕ). x ++ t) q
 
 -- ---- what stands in a front of the bytes
 
-pub take-take : (m n : ℕ) (b : List ℕ) → m ≤ n → take m (take n b) ≡ take m b
-take-take zero n b le = refl
-take-take (suc m) zero b le = absurd (omega arith)
-take-take (suc m) (suc n) [] le = refl
-take-take (suc m) (suc n) (x ∷ b) le = ap (λ (t : List ℕ). x ∷ t) (take-take m n b (omega arith))
-
-pub inner : (at m k : ℕ) (b : List ℕ) → at + m ≤ k → take m (drop at (take k b)) ≡ take m (drop at b)
+pub inner : (at m k : ℕ) (b : List ℕ) → at + m ≤ k
+    → take m (drop at (take k b)) ≡ take m (drop at b)
 inner at m k b le =
     let e : k ≡ at + (k - at) = omega arith in
     ap (λ (n : ℕ). take m (drop at (take n b))) e ∙ ap (take m) (drop-take at (k - at) b) ∙ take-take m (k - at) (drop at b) (omega arith)
 
-pub word_read : (b text : List ℕ) (at k n : ℕ) → at + 4 ≤ k → take k b ≡ text → take 4 (drop at text) ≡ to_le_bytes w32 n → n < 2 ^ 32 → word_at b at ≡ n
+pub word_read : (b text : List ℕ) (at k n : ℕ) → at + 4 ≤ k → take k b ≡ text
+    → take 4 (drop at text) ≡ to_le_bytes w32 n → n < 2 ^ 32 → word_at b at ≡ n
 word_read b text at k n le e is lt = ap (from_le_bytes w32) (sym (inner at 4 k b le) ∙ ap (λ (t : List ℕ). take 4 (drop at t)) e ∙ is) ∙ from_le_bytes-to_le_bytes_4 n lt
 
-pub half_read : (b text : List ℕ) (at k n : ℕ) → at + 2 ≤ k → take k b ≡ text → take 2 (drop at text) ≡ to_le_bytes w16 n → n < 2 ^ 16 → half_at b at ≡ n
+pub half_read : (b text : List ℕ) (at k n : ℕ) → at + 2 ≤ k → take k b ≡ text
+    → take 2 (drop at text) ≡ to_le_bytes w16 n → n < 2 ^ 16 → half_at b at ≡ n
 half_read b text at k n le e is lt = ap (from_le_bytes w16) (sym (inner at 2 k b le) ∙ ap (λ (t : List ℕ). take 2 (drop at t)) e ∙ is) ∙ from_le_bytes-to_le_bytes_2 n lt
 
-pub byte_read : (b text : List ℕ) (at k : ℕ) → at < k → take k b ≡ text → get_or b at 0 ≡ get_or text at 0
+pub byte_read : (b text : List ℕ) (at k : ℕ) → at < k → take k b ≡ text
+    → get_or b at 0 ≡ get_or text at 0
 byte_read b text at k lt e = sym (get_or-take k b at 0 lt) ∙ ap (λ (t : List ℕ). get_or t at 0) e
 
 -- ---- tests
 
 -- a test that did not stop
-passed : {A : Type 0} (t : Bool) (x : Option A) (y : A) → cond t None x ≡ Some y → (t ≡ false) × (x ≡ Some y)
+passed : {A : Type 0} (t : Bool) (x : Option A) (y : A) → cond t None x ≡ Some y
+    → (t ≡ false) × (x ≡ Some y)
 passed true x y e = absurd (none-some y e)
 passed false x y e = (refl, e)
 
 passes : {A : Type 0} (t : Bool) (x : Option A) → t ≡ false → cond t None x ≡ x
 passes t x e = rw e refl
 
-ends_of : (first last : ℕ) → (eqb first 0 || ltb last first) ≡ false → last < 2 ^ 32 → AreEnds first last
+ends_of : (first last : ℕ) → (eqb first 0 || ltb last first) ≡ false → last < 2 ^ 32
+    → AreEnds first last
 ends_of first last e lt = let p = or_parts (eqb first 0) (ltb last first) e in (let some : first ≡ 0 → ⊥ = eqb-false first 0 p.0 in omega arith, ltb-false last first p.1, lt)
 
 are_ends : (first last : ℕ) → AreEnds first last → (eqb first 0 || ltb last first) ≡ false
@@ -127,7 +130,8 @@ pair_reads = record { sized = sized_pairs.sized; positive = λ pair. omega arith
 new_row_from : ℕ → ℕ → ℕ → Option NewRow
 new_row_from n uid flags = cond (ltb n 8) None (cond (eqb uid 0 || eqb uid (2 ^ 32 - 1)) None (Some (record { uid = uid; flags = flags })))
 
-new_row_takes : (x : NewRow) (b : List ℕ) → IsBytes b → new_row_front b ≡ Some x → IsNewRow x (take 8 b)
+new_row_takes : (x : NewRow) (b : List ℕ) → IsBytes b → new_row_front b ≡ Some x
+    → IsNewRow x (take 8 b)
 unfolding new_row_front
 new_row_takes x b fits e =
     let p = passed (ltb (length b) 8) _ x e in
@@ -160,7 +164,8 @@ new_row_reads = record { sized = sized_new_rows.sized; positive = λ row. omega 
 change_from : ℕ → ℕ → ℕ → ℕ → ℕ → Option Change
 change_from n first last add remove = cond (ltb n 12) None (cond (eqb first 0 || ltb last first) None (Some (record { first = first; last = last; add = add; remove = remove })))
 
-change_takes : (x : Change) (b : List ℕ) → IsBytes b → change_front b ≡ Some x → IsChange x (take 12 b)
+change_takes : (x : Change) (b : List ℕ) → IsBytes b → change_front b ≡ Some x
+    → IsChange x (take 12 b)
 unfolding change_front
 change_takes x b fits e =
     let p = passed (ltb (length b) 12) _ x e in
@@ -200,7 +205,8 @@ change_reads = record { sized = sized_changes.sized; positive = λ change. omega
 guid_row_from : ℕ → ℕ → List ℕ → Option GuidRow
 guid_row_from n uid guid = cond (ltb n 20) None (cond (eqb uid 0 || eqb uid (2 ^ 32 - 1)) None (Some (record { uid = uid; guid = guid })))
 
-guid_row_takes : (x : GuidRow) (b : List ℕ) → IsBytes b → guid_row_front b ≡ Some x → IsGuidRow x (take 20 b)
+guid_row_takes : (x : GuidRow) (b : List ℕ) → IsBytes b → guid_row_front b ≡ Some x
+    → IsGuidRow x (take 20 b)
 unfolding guid_row_front
 guid_row_takes x b fits e =
     let p = passed (ltb (length b) 20) _ x e in
@@ -233,7 +239,8 @@ guid_row_reads = record { sized = sized_guid_rows.sized; positive = λ row. omeg
 part_from : ℕ → ℕ → ℕ → List ℕ → Option Part
 part_from n offset size bytes = cond (ltb n 4) None (cond (ltb n (padded (4 + size))) None (Some (record { offset = offset; bytes = bytes })))
 
-part_takes : (x : Part) (b : List ℕ) → IsBytes b → part_front b ≡ Some x → IsPart x (take (padded (4 + length x.bytes)) b)
+part_takes : (x : Part) (b : List ℕ) → IsBytes b → part_front b ≡ Some x
+    → IsPart x (take (padded (4 + length x.bytes)) b)
 unfolding part_front
 part_takes x b fits e =
     let p = passed (ltb (length b) 4) _ x e in
@@ -255,7 +262,8 @@ part_takes x b fits e =
     } in
     subst (λ (z : Part). IsPart z (take (padded (4 + length z.bytes)) b)) (same_Some y x q.1) is
 
-part_again : (x : Part) (b : List ℕ) → IsPart x (take (padded (4 + length x.bytes)) b) → part_front b ≡ Some x
+part_again : (x : Part) (b : List ℕ) → IsPart x (take (padded (4 + length x.bytes)) b)
+    → part_front b ≡ Some x
 unfolding part_front part_from
 part_again x b is =
     let n : ℕ = length x.bytes in
@@ -282,7 +290,8 @@ intro_from n size intro = cond (ltb n 20) None (cond (ltb n (padded (20 + size))
 intro_of : List ℕ → List ℕ → Intro
 intro_of b name = record { ext_id = word_at b 0; reset_id = word_at b 4; hdr_size = word_at b 8; record_size = half_at b 12; record_align = half_at b 14; flags = half_at b 16; name = name }
 
-intro_head_is : (b name : List ℕ) → IsBytes b → 20 ≤ length b → length name ≡ half_at b 18 → take 20 b ≡ intro_head (intro_of b name)
+intro_head_is : (b name : List ℕ) → IsBytes b → 20 ≤ length b → length name ≡ half_at b 18
+    → take 20 b ≡ intro_head (intro_of b name)
 unfolding intro_of
 intro_head_is b name fits long len =
     let a = joined 4 4 b _ _ (word_is b 0 fits (omega arith)) (word_is b 4 fits (omega arith)) in
@@ -293,7 +302,8 @@ intro_head_is b name fits long len =
     let size : take 2 (drop 18 b) ≡ to_le_bytes w16 (length name) = half_is b 18 fits (omega arith) ∙ ap (to_le_bytes w16) (sym len) in
     joined 18 2 b _ (to_le_bytes w16 (length name)) f size
 
-intro_takes : (x : Intro) (b : List ℕ) → IsBytes b → intro_front b ≡ Some x → IsIntro x (take (padded (20 + length x.name)) b)
+intro_takes : (x : Intro) (b : List ℕ) → IsBytes b → intro_front b ≡ Some x
+    → IsIntro x (take (padded (20 + length x.name)) b)
 unfolding intro_front intro_of
 intro_takes x b fits e =
     let p = passed (ltb (length b) 20) _ x e in
@@ -316,11 +326,14 @@ intro_takes x b fits e =
     } in
     subst (λ (z : Intro). IsIntro z (take (padded (20 + length z.name)) b)) (same_Some y x q.1) is
 
-intro_made : (x : Intro) (id reset hdr size align flags : ℕ) (name : List ℕ) → id ≡ x.ext_id → reset ≡ x.reset_id → hdr ≡ x.hdr_size → size ≡ x.record_size → align ≡ x.record_align → flags ≡ x.flags → name ≡ x.name
+intro_made : (x : Intro) (id reset hdr size align flags : ℕ) (name : List ℕ) → id ≡ x.ext_id
+    → reset ≡ x.reset_id → hdr ≡ x.hdr_size → size ≡ x.record_size → align ≡ x.record_align
+    → flags ≡ x.flags → name ≡ x.name
     → let y : Intro = record { ext_id = id; reset_id = reset; hdr_size = hdr; record_size = size; record_align = align; flags = flags; name = name } in y ≡ x
 intro_made x id reset hdr size align flags name a b c d e f g = rw (a, b, c, d, e, f, g) refl
 
-intro_again : (x : Intro) (b : List ℕ) → IsIntro x (take (padded (20 + length x.name)) b) → intro_front b ≡ Some x
+intro_again : (x : Intro) (b : List ℕ) → IsIntro x (take (padded (20 + length x.name)) b)
+    → intro_front b ≡ Some x
 unfolding intro_front intro_of intro_from
 intro_again x b is =
     let n : ℕ = length x.name in

@@ -23,13 +23,17 @@ IsBytes-take n b fits i =
 -- the items that were read make up the bytes in front of the rest, and nothing else does
 pub record IsReadTo {A : Type 0} (size : A → ℕ) (Is : A → List ℕ → Type 0) (b : List ℕ) (front : List A) (rest : List ℕ) : Type 0 where
   pub is : (xs : List A) → InTurn size Is xs rest → InTurn size Is (front ++ xs) b
-  pub only : (ys : List A) → InTurn size Is ys b → (xs : List A) × (ys ≡ front ++ xs) × InTurn size Is xs rest
+  pub only : (ys : List A) → InTurn size Is ys b
+      → (xs : List A) × (ys ≡ front ++ xs) × InTurn size Is xs rest
   pub fits : IsBytes rest
 
-pub starts : {A : Type 0} (size : A → ℕ) (Is : A → List ℕ → Type 0) (b : List ℕ) → IsBytes b → IsReadTo size Is b [] b
+pub starts : {A : Type 0} (size : A → ℕ) (Is : A → List ℕ → Type 0) (b : List ℕ) → IsBytes b
+    → IsReadTo size Is b [] b
 starts size Is b fits = record { is = λ xs h. h; only = λ ys h. (ys, refl, h); fits = fits }
 
-pub shorter : {A : Type 0} (size : A → ℕ) (Is : A → List ℕ → Type 0) (at : List ℕ → Option A) → IsReader size Is at → (b : List ℕ) (x : A) → IsBytes b → at b ≡ Some x → (1 ≤ size x) × (size x ≤ length b)
+pub shorter : {A : Type 0} (size : A → ℕ) (Is : A → List ℕ → Type 0) (at : List ℕ → Option A)
+    → IsReader size Is at → (b : List ℕ) (x : A) → IsBytes b → at b ≡ Some x
+    → (1 ≤ size x) × (size x ≤ length b)
 shorter size Is at reader b x fits is =
     let front : length (take (size x) b) ≡ size x = reader.sized x _ (reader.takes x b fits is) in
     (reader.positive x, omega (arith, length-take (size x) b))
@@ -37,16 +41,21 @@ shorter size Is at reader b x fits is =
 some_is : {A : Type 0} (o : Option A) (x y : A) → o ≡ Some x → o ≡ Some y → x ≡ y
 some_is o x y p q = cc
 
-next : {A : Type 0} (size : A → ℕ) (Is : A → List ℕ → Type 0) (at : List ℕ → Option A) → IsReader size Is at → (ys front zs : List A) (rest : List ℕ) (x : A) → 1 ≤ length rest → at rest ≡ Some x
-    → ys ≡ front ++ zs → InTurn size Is zs rest → (xs : List A) × (ys ≡ (front ++ x ∷ []) ++ xs) × InTurn size Is xs (drop (size x) rest)
+next : {A : Type 0} (size : A → ℕ) (Is : A → List ℕ → Type 0) (at : List ℕ → Option A)
+    → IsReader size Is at → (ys front zs : List A) (rest : List ℕ) (x : A) → 1 ≤ length rest
+    → at rest ≡ Some x
+    → ys ≡ front ++ zs → InTurn size Is zs rest
+    → (xs : List A) × (ys ≡ (front ++ x ∷ []) ++ xs) × InTurn size Is xs (drop (size x) rest)
 next size Is at reader ys front [] rest x long found e is = let none : length rest ≡ 0 = ap length is in absurd (omega arith)
 next {A = A} size Is at reader ys front (z ∷ zs) rest x long found e is =
     let same : z ≡ x = some_is (at rest) z x (reader.again z rest is.0) found in
     let here : ys ≡ front ++ x ∷ zs = e ∙ ap (λ (y : A). front ++ y ∷ zs) same in
     (zs, here ∙ sym (append_assoc front (x ∷ []) zs), subst (λ (y : A). InTurn size Is zs (drop (size y) rest)) same is.1)
 
-pub goes_on : {A : Type 0} (size : A → ℕ) (Is : A → List ℕ → Type 0) (at : List ℕ → Option A) → IsReader size Is at → (b : List ℕ) (front : List A) (rest : List ℕ) (x : A) (n : ℕ)
-    → IsReadTo size Is b front rest → at rest ≡ Some x → n ≡ size x → IsReadTo size Is b (front ++ x ∷ []) (drop n rest)
+pub goes_on : {A : Type 0} (size : A → ℕ) (Is : A → List ℕ → Type 0) (at : List ℕ → Option A)
+    → IsReader size Is at → (b : List ℕ) (front : List A) (rest : List ℕ) (x : A) (n : ℕ)
+    → IsReadTo size Is b front rest → at rest ≡ Some x → n ≡ size x
+    → IsReadTo size Is b (front ++ x ∷ []) (drop n rest)
 goes_on {A = A} size Is at reader b front rest x n so_far found e =
     let fits = shorter size Is at reader rest x so_far.fits found in
     let step : IsReadTo size Is b (front ++ x ∷ []) (drop (size x) rest) = record {
@@ -56,21 +65,29 @@ goes_on {A = A} size Is at reader b front rest x n so_far found e =
     } in
     subst (λ (k : ℕ). IsReadTo size Is b (front ++ x ∷ []) (drop k rest)) (sym e) step
 
-none_begins : {A : Type 0} (size : A → ℕ) (Is : A → List ℕ → Type 0) (at : List ℕ → Option A) → IsReader size Is at → (zs : List A) (rest : List ℕ) → 1 ≤ length rest → at rest ≡ None → InTurn size Is zs rest → ⊥
+none_begins : {A : Type 0} (size : A → ℕ) (Is : A → List ℕ → Type 0) (at : List ℕ → Option A)
+    → IsReader size Is at → (zs : List A) (rest : List ℕ) → 1 ≤ length rest → at rest ≡ None
+    → InTurn size Is zs rest → ⊥
 none_begins size Is at reader [] rest long none is = let e : length rest ≡ 0 = ap length is in omega arith
 none_begins size Is at reader (z ∷ zs) rest long none is = let found = reader.again z rest is.0 in cc
 
 -- where no item begins the rest, no items make up the bytes
-pub fails : {A : Type 0} (size : A → ℕ) (Is : A → List ℕ → Type 0) (at : List ℕ → Option A) → IsReader size Is at → (b : List ℕ) (front : List A) (rest : List ℕ) (e : DecodeEnd)
-    → IsReadTo size Is b front rest → 1 ≤ length rest → GivesFront size (Err e) (at rest) → Reads (λ (ys : List A). InTurn size Is ys b) (Err e)
+pub fails : {A : Type 0} (size : A → ℕ) (Is : A → List ℕ → Type 0) (at : List ℕ → Option A)
+    → IsReader size Is at → (b : List ℕ) (front : List A) (rest : List ℕ) (e : DecodeEnd)
+    → IsReadTo size Is b front rest → 1 ≤ length rest → GivesFront size (Err e) (at rest)
+    → Reads (λ (ys : List A). InTurn size Is ys b) (Err e)
 fails size Is at reader b front rest NoMemory so_far long gives = tt
 fails size Is at reader b front rest (Fault f) so_far long gives = (gives.0, λ ys h. let p = so_far.only ys h in none_begins size Is at reader p.0 rest long gives.1 p.2)
 
-pub is_done : {A : Type 0} (size : A → ℕ) (Is : A → List ℕ → Type 0) (b : List ℕ) (front : List A) (rest : List ℕ) → IsReadTo size Is b front rest → rest ≡ [] → InTurn size Is front b
+pub is_done : {A : Type 0} (size : A → ℕ) (Is : A → List ℕ → Type 0) (b : List ℕ) (front : List A)
+    (rest : List ℕ)
+    → IsReadTo size Is b front rest → rest ≡ [] → InTurn size Is front b
 is_done {A = A} size Is b front rest so_far none = subst (λ (xs : List A). InTurn size Is xs b) (append-nil front) (so_far.is [] none)
 
 -- no item makes up no bytes
-pub needs_bytes : {A : Type 0} (size : A → ℕ) (Is : A → List ℕ → Type 0) (at : List ℕ → Option A) → IsReader size Is at → (xs : List A) (b : List ℕ) → b ≡ [] → 1 ≤ length xs → InTurn size Is xs b → ⊥
+pub needs_bytes : {A : Type 0} (size : A → ℕ) (Is : A → List ℕ → Type 0) (at : List ℕ → Option A)
+    → IsReader size Is at → (xs : List A) (b : List ℕ) → b ≡ [] → 1 ≤ length xs
+    → InTurn size Is xs b → ⊥
 needs_bytes size Is at reader [] b none some is = omega arith
 needs_bytes size Is at reader (x ∷ xs) b none some is =
     let n : length (take (size x) b) ≡ size x = reader.sized x _ is.0 in
@@ -78,7 +95,9 @@ needs_bytes size Is at reader (x ∷ xs) b none some is =
     omega (arith, length-take (size x) b, reader.positive x)
 
 -- bytes are spelled by one list of items
-pub in_turn-one : {A : Type 0} (size : A → ℕ) (Is : A → List ℕ → Type 0) (at : List ℕ → Option A) → IsReader size Is at → (xs ys : List A) (b : List ℕ) → InTurn size Is xs b → InTurn size Is ys b → xs ≡ ys
+pub in_turn-one : {A : Type 0} (size : A → ℕ) (Is : A → List ℕ → Type 0) (at : List ℕ → Option A)
+    → IsReader size Is at → (xs ys : List A) (b : List ℕ) → InTurn size Is xs b
+    → InTurn size Is ys b → xs ≡ ys
 in_turn-one size Is at reader [] [] b p q = refl
 in_turn-one size Is at reader [] (y ∷ ys) b p q = absurd (needs_bytes size Is at reader (y ∷ ys) b p (omega arith) q)
 in_turn-one size Is at reader (x ∷ xs) [] b p q = absurd (needs_bytes size Is at reader (x ∷ xs) b q (omega arith) p)

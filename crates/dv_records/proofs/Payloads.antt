@@ -51,7 +51,8 @@ payload-whole (KeywordReset pairs) b is = in_turn-whole _ IsPair sized_pairs pai
 payload-whole (ExpungeGuid rows) b is = in_turn-whole _ IsGuidRow sized_guid_rows rows b is
 payload-whole (Carried code bytes) b is = rw is.1.0 is.1.1
 
-short_parts : (parts : List Part) (b : List ℕ) → (IsPayload (HeaderUpdate parts) b) → HasShortTexts (HeaderUpdate parts)
+short_parts : (parts : List Part) (b : List ℕ) → (IsPayload (HeaderUpdate parts) b)
+    → HasShortTexts (HeaderUpdate parts)
 short_parts parts b is = All-from_recursion IsShortPart parts (in_turn-all _ IsPart IsShortPart (λ part t p. p.short) parts b is.1)
 
 pub payload-short : (body : Body) (b : List ℕ) → IsPayload body b → HasShortTexts body

@@ -21,14 +21,16 @@ use Rattle.dv_records.proofs.Sizes.{value_of_code}
 
 -- ---- a payload is of one body of its code
 
-reset_id_is : (reset_id preserve : ℕ) (b : List ℕ) → IsReset reset_id preserve b → word_at b 0 ≡ reset_id
+reset_id_is : (reset_id preserve : ℕ) (b : List ℕ) → IsReset reset_id preserve b
+    → word_at b 0 ≡ reset_id
 reset_id_is reset_id preserve b is =
     elim is.1 [
       | inl long ↦ word_read b _ 0 5 reset_id (omega arith) long.1 refl is.0
       | inr short ↦ word_read b _ 0 4 reset_id (omega arith) (ap (take 4) short.0) refl is.0
     ]
 
-preserve_is : (reset_id preserve : ℕ) (b : List ℕ) → IsReset reset_id preserve b → get_or b 4 0 ≡ preserve
+preserve_is : (reset_id preserve : ℕ) (b : List ℕ) → IsReset reset_id preserve b
+    → get_or b 4 0 ≡ preserve
 preserve_is reset_id preserve b is =
     elim is.1 [
       | inl long ↦ byte_read b _ 4 5 (omega arith) long.1
@@ -44,15 +46,19 @@ how_one how other e = absurd (omega arith)
 head_is : (a c : ℕ) → a ∷ [] ≡ c ∷ [] → a ≡ c
 head_is a c e = cc
 
-size_is : (how : How) (name : List ℕ) (pairs : List Pair) (b : List ℕ) → IsKeywordUpdate how name pairs b → half_at (drop 2 b) 0 ≡ length name
+size_is : (how : How) (name : List ℕ) (pairs : List Pair) (b : List ℕ)
+    → IsKeywordUpdate how name pairs b → half_at (drop 2 b) 0 ≡ length name
 size_is how name pairs b is = half_read (drop 2 b) _ 0 (2 + length name) (length name) (omega arith) is.fields refl (omega (arith, is.keyword.size.1))
 
-name_is : (how : How) (name : List ℕ) (pairs : List Pair) (b : List ℕ) → IsKeywordUpdate how name pairs b → take (length name) (drop 2 (drop 2 b)) ≡ name
+name_is : (how : How) (name : List ℕ) (pairs : List Pair) (b : List ℕ)
+    → IsKeywordUpdate how name pairs b → take (length name) (drop 2 (drop 2 b)) ≡ name
 name_is how name pairs b is =
     sym (inner 2 (length name) (2 + length name) (drop 2 b) (omega arith)) ∙ ap (λ (t : List ℕ). take (length name) (drop 2 t)) is.fields ∙ take_all (length name) name (omega arith)
 
-keyword_one : (how : How) (name : List ℕ) (pairs : List Pair) (how' : How) (name' : List ℕ) (pairs' : List Pair) (b : List ℕ)
-    → IsKeywordUpdate how name pairs b → IsKeywordUpdate how' name' pairs' b → KeywordUpdate how name pairs ≡ KeywordUpdate how' name' pairs'
+keyword_one : (how : How) (name : List ℕ) (pairs : List Pair) (how' : How) (name' : List ℕ)
+    (pairs' : List Pair) (b : List ℕ)
+    → IsKeywordUpdate how name pairs b → IsKeywordUpdate how' name' pairs' b
+    → KeywordUpdate how name pairs ≡ KeywordUpdate how' name' pairs'
 keyword_one how name pairs how' name' pairs' b p q =
     let hows : how ≡ how' = how_one how how' (head_is _ _ (sym p.modify_type ∙ q.modify_type)) in
     let sizes : length name ≡ length name' = sym (size_is how name pairs b p) ∙ size_is how' name' pairs' b q in
@@ -61,7 +67,8 @@ keyword_one how name pairs how' name' pairs' b p q =
     let same : pairs ≡ pairs' = in_turn-one _ IsPair pair_front pair_reads pairs pairs' (drop (padded (4 + length name)) b) p.ranges ranges in
     rw (hows, names, same) refl
 
-pub payload_one : (body other : Body) (b : List ℕ) → IsPayload body b → IsBodyOf (code_of body) b other → body ≡ other
+pub payload_one : (body other : Body) (b : List ℕ) → IsPayload body b
+    → IsBodyOf (code_of body) b other → body ≡ other
 payload_one (Expunge pairs) other b p q = let o = of_expunge b other q in ap (λ xs. Expunge xs) (in_turn-one _ IsPair pair_front pair_reads pairs o.0 b p o.2) ∙ sym o.1
 payload_one (Append rows) other b p q = let o = of_append b other q in ap (λ xs. Append xs) (in_turn-one _ IsNewRow new_row_front new_row_reads rows o.0 b p o.2) ∙ sym o.1
 payload_one (FlagUpdate changes) other b p q = let o = of_flag_update b other q in ap (λ xs. FlagUpdate xs) (in_turn-one _ IsChange change_front change_reads changes o.0 b p o.2) ∙ sym o.1
@@ -112,13 +119,15 @@ spelling_one r s b p q =
 
 -- ---- whatever follows
 
-pub size_read : (r : Record) (b rest : List ℕ) → Spells r b → size_value (b ++ rest) ≡ Some (length b)
+pub size_read : (r : Record) (b rest : List ℕ) → Spells r b
+    → size_value (b ++ rest) ≡ Some (length b)
 size_read r b rest is =
     let e : b ++ rest ≡ size_code (length b) ++ (drop 4 b ++ rest) =
     ap (λ (t : List ℕ). t ++ rest) (sym (take-append-drop 4 b) ∙ ap (λ (t : List ℕ). t ++ drop 4 b) is.size) ∙ append_assoc (size_code (length b)) (drop 4 b) rest in
     ap size_value e ∙ value_of_code (length b) (drop 4 b ++ rest) (omega (arith, is.below)) (spelling_whole r b is)
 
-pub one_reading : (r s : Record) (b c x y : List ℕ) → Spells r b → Spells s c → b ++ x ≡ c ++ y → (b ≡ c) × (r ≡ s)
+pub one_reading : (r s : Record) (b c x y : List ℕ) → Spells r b → Spells s c → b ++ x ≡ c ++ y
+    → (b ≡ c) × (r ≡ s)
 one_reading r s b c x y p q e =
     let sizes : length b ≡ length c = same_Some _ _ (sym (size_read r b x p) ∙ ap size_value e ∙ size_read s c y q) in
     let texts : b ≡ c = sym (take_at b x (length b) refl) ∙ ap (λ (t : List ℕ). take (length b) t) e ∙ take_at c y (length b) (sym sizes) in

@@ -22,7 +22,9 @@ use Rattle.dv_records.proofs.Payloads.{sized_changes, sized_guid_rows, sized_int
 -- ---- a list of items
 
 -- the texts of items, one behind another
-pub texts_in_turn : {A : Type 0} (size : A → ℕ) (Is : A → List ℕ → Type 0) (text : A → List ℕ) → IsSized size Is → (xs : List A) → AllByRecursion (λ x. Is x (text x)) xs → InTurn size Is xs (flat_map text xs)
+pub texts_in_turn : {A : Type 0} (size : A → ℕ) (Is : A → List ℕ → Type 0) (text : A → List ℕ)
+    → IsSized size Is → (xs : List A) → AllByRecursion (λ x. Is x (text x)) xs
+    → InTurn size Is xs (flat_map text xs)
 texts_in_turn size Is text sizes [] all = refl
 texts_in_turn size Is text sizes (x ∷ xs) all =
     let n : length (text x) ≡ size x = sizes.sized x (text x) all.0 in
@@ -32,13 +34,15 @@ texts_in_turn size Is text sizes (x ∷ xs) all =
     subst (InTurn size Is (x ∷ xs)) (sym (flat_map-cons text x xs)) joined
 
 -- items of one size
-pub texts_length : {A : Type 0} (text : A → List ℕ) (n : ℕ) → (xs : List A) → AllByRecursion (λ x. length (text x) ≡ n) xs → length (flat_map text xs) ≡ n * length xs
+pub texts_length : {A : Type 0} (text : A → List ℕ) (n : ℕ) → (xs : List A)
+    → AllByRecursion (λ x. length (text x) ≡ n) xs → length (flat_map text xs) ≡ n * length xs
 texts_length text n [] all = omega arith
 texts_length text n (x ∷ xs) all =
     let others : length (flat_map text xs) ≡ n * length xs = texts_length text n xs all.1 in
     ap length (flat_map-cons text x xs) ∙ omega (arith, length-append (text x) (flat_map text xs), others, mul-suc n (length xs), all.0)
 
-pub all_to : {A : Type 0} (P Q : A → Type 0) → ((x : A) → P x → Q x) → (xs : List A) → AllByRecursion P xs → AllByRecursion Q xs
+pub all_to : {A : Type 0} (P Q : A → Type 0) → ((x : A) → P x → Q x) → (xs : List A)
+    → AllByRecursion P xs → AllByRecursion Q xs
 all_to P Q each [] all = tt
 all_to P Q each (x ∷ xs) all = (each x all.0, all_to P Q each xs all.1)
 
@@ -62,10 +66,12 @@ pair_spelled pair ends = record { fields = refl; ends = ends }
 pub new_row_spelled : (row : NewRow) → IsUid row.uid → IsNewRow row (new_row_text row)
 new_row_spelled row uid = record { size = refl; fields = refl; uid = uid }
 
-pub change_spelled : (change : Change) → AreEnds change.first change.last → IsChange change (change_text change)
+pub change_spelled : (change : Change) → AreEnds change.first change.last
+    → IsChange change (change_text change)
 change_spelled change ends = record { size = refl; fields = refl; ends = ends }
 
-pub guid_row_spelled : (row : GuidRow) → IsUid row.uid × (length row.guid ≡ 16) → IsGuidRow row (guid_row_text row)
+pub guid_row_spelled : (row : GuidRow) → IsUid row.uid × (length row.guid ≡ 16)
+    → IsGuidRow row (guid_row_text row)
 guid_row_spelled row is = record { size = is.1; fields = refl; uid = is.0 }
 
 pub part_spelled : (part : Part) → IsValidPart part → IsPart part (part_text part)
@@ -78,7 +84,8 @@ intro_spelled intro numbers =
     let t = padded_text (intro_head intro) intro.name 20 refl refl in
     record { size = t.0; fields = t.1; numbers = numbers }
 
-pub keyword_spelled : (how : How) (name : List ℕ) (pairs : List Pair) (rest : List ℕ) → IsName name → ArePairs pairs rest → IsKeywordUpdate how name pairs (keyword_text how name ++ rest)
+pub keyword_spelled : (how : How) (name : List ℕ) (pairs : List Pair) (rest : List ℕ) → IsName name
+    → ArePairs pairs rest → IsKeywordUpdate how name pairs (keyword_text how name ++ rest)
 keyword_spelled how name pairs rest keyword ranges =
     let n : ℕ = length name in
     let size : List ℕ = to_le_bytes w16 n in
@@ -97,7 +104,8 @@ keyword_spelled how name pairs rest keyword ranges =
 -- ---- the records
 
 -- a record whose written payload spells its body, and is below 2 ^ 23 bytes with the header
-pub valid_record : (r : Record) → r.top < 16 → IsPayload r.body (payload_text r.body) → length (payload_text r.body) + 8 < 2 ^ 23 → IsRecord r
+pub valid_record : (r : Record) → r.top < 16 → IsPayload r.body (payload_text r.body)
+    → length (payload_text r.body) + 8 < 2 ^ 23 → IsRecord r
 valid_record r top payload below =
     let text : List ℕ = payload_text r.body in
     let n : 8 + length text ≡ length (written r) = omega arith in
@@ -105,10 +113,13 @@ valid_record r top payload below =
     record { spells = spells }
 
 -- items of n bytes each
-items_below : {A : Type 0} (text : A → List ℕ) (n : ℕ) (xs : List A) → AllByRecursion (λ x. length (text x) ≡ n) xs → n * length xs + 8 < 2 ^ 23 → length (flat_map text xs) + 8 < 2 ^ 23
+items_below : {A : Type 0} (text : A → List ℕ) (n : ℕ) (xs : List A)
+    → AllByRecursion (λ x. length (text x) ≡ n) xs → n * length xs + 8 < 2 ^ 23
+    → length (flat_map text xs) + 8 < 2 ^ 23
 items_below text n xs all lt = let e = texts_length text n xs all in omega (arith, e)
 
-pub valid_pairs : (pairs : List Pair) → AllByRecursion (λ pair. AreEnds pair.first pair.last) pairs → ArePairs pairs (flat_map pair_text pairs)
+pub valid_pairs : (pairs : List Pair) → AllByRecursion (λ pair. AreEnds pair.first pair.last) pairs
+    → ArePairs pairs (flat_map pair_text pairs)
 valid_pairs pairs all = texts_in_turn _ IsPair pair_text sized_pairs pairs (all_to _ _ pair_spelled pairs all)
 
 pair_sizes : (pairs : List Pair) → AllByRecursion (λ pair. length (pair_text pair) ≡ 8) pairs
@@ -121,7 +132,9 @@ valid_expunge top pairs lt all below = valid_record (record { top = top; body = 
 pub valid_keyword_reset : (top : ℕ) (pairs : List Pair) → top < 16 → AllByRecursion (λ pair. AreEnds pair.first pair.last) pairs → 8 * length pairs + 8 < 2 ^ 23 → IsRecord (record { top = top; body = KeywordReset pairs })
 valid_keyword_reset top pairs lt all below = valid_record (record { top = top; body = KeywordReset pairs }) lt (valid_pairs pairs all) (items_below pair_text 8 pairs (pair_sizes pairs) below)
 
-pub valid_keyword_update : (top : ℕ) (how : How) (name : List ℕ) (pairs : List Pair) → top < 16 → IsName name → AllByRecursion (λ pair. AreEnds pair.first pair.last) pairs → 8 * length pairs + 300 < 2 ^ 23
+pub valid_keyword_update : (top : ℕ) (how : How) (name : List ℕ) (pairs : List Pair) → top < 16
+    → IsName name → AllByRecursion (λ pair. AreEnds pair.first pair.last) pairs
+    → 8 * length pairs + 300 < 2 ^ 23
     → IsRecord (record { top = top; body = KeywordUpdate how name pairs })
 valid_keyword_update top how name pairs lt keyword all below =
     let t = padded_text (how_code how ∷ 0 ∷ to_le_bytes w16 (length name)) name 4 refl refl in
@@ -138,7 +151,8 @@ pub valid_append : (top : ℕ) (rows : List NewRow) → top < 16 → AllByRecurs
 valid_append top rows lt all below =
     valid_record (record { top = top; body = Append rows }) lt (texts_in_turn _ IsNewRow new_row_text sized_new_rows rows (all_to _ _ new_row_spelled rows all)) (items_below new_row_text 8 rows (new_row_sizes rows) below)
 
-change_sizes : (changes : List Change) → AllByRecursion (λ change. length (change_text change) ≡ 12) changes
+change_sizes : (changes : List Change)
+    → AllByRecursion (λ change. length (change_text change) ≡ 12) changes
 change_sizes [] = tt
 change_sizes (change ∷ changes) = (refl, change_sizes changes)
 
@@ -146,7 +160,8 @@ pub valid_flag_update : (top : ℕ) (changes : List Change) → top < 16 → All
 valid_flag_update top changes lt all below =
     valid_record (record { top = top; body = FlagUpdate changes }) lt (texts_in_turn _ IsChange change_text sized_changes changes (all_to _ _ change_spelled changes all)) (items_below change_text 12 changes (change_sizes changes) below)
 
-guid_row_size : (row : GuidRow) → IsUid row.uid × (length row.guid ≡ 16) → length (guid_row_text row) ≡ 20
+guid_row_size : (row : GuidRow) → IsUid row.uid × (length row.guid ≡ 16)
+    → length (guid_row_text row) ≡ 20
 guid_row_size row is = sized_guid_rows.sized row (guid_row_text row) (guid_row_spelled row is)
 
 pub valid_expunge_guid : (top : ℕ) (rows : List GuidRow) → top < 16 → AllByRecursion (λ row. IsUid row.uid × (length row.guid ≡ 16)) rows → 20 * length rows + 8 < 2 ^ 23 → IsRecord (record { top = top; body = ExpungeGuid rows })
@@ -154,7 +169,8 @@ valid_expunge_guid top rows lt all below =
     valid_record (record { top = top; body = ExpungeGuid rows }) lt (texts_in_turn _ IsGuidRow guid_row_text sized_guid_rows rows (all_to _ _ guid_row_spelled rows all))
     (items_below guid_row_text 20 rows (all_to _ _ guid_row_size rows all) below)
 
-pub valid_parts : (parts : List Part) → AllByRecursion IsValidPart parts → AreParts parts (flat_map part_text parts)
+pub valid_parts : (parts : List Part) → AllByRecursion IsValidPart parts
+    → AreParts parts (flat_map part_text parts)
 valid_parts parts all = texts_in_turn _ IsPart part_text sized_parts parts (all_to _ _ part_spelled parts all)
 
 pub valid_header_update : (top : ℕ) (parts : List Part) → top < 16 → 1 ≤ length parts → AllByRecursion IsValidPart parts → length (flat_map part_text parts) + 8 < 2 ^ 23 → IsRecord (record { top = top; body = HeaderUpdate parts })

@@ -21,7 +21,9 @@ record IsRewritten {A : Type 0} (size : A → ℕ) (Is : A → List ℕ → Type
   is : InTurn size Is xs (flat_map text xs)
   length_is : length (flat_map text xs) ≡ length b
 
-same_length : {A : Type 0} (size : A → ℕ) (Is : A → List ℕ → Type 0) (text : A → List ℕ) → IsSized size Is → (xs : List A) (b : List ℕ) → AllByRecursion (λ x. Is x (text x)) xs → InTurn size Is xs b → length (flat_map text xs) ≡ length b
+same_length : {A : Type 0} (size : A → ℕ) (Is : A → List ℕ → Type 0) (text : A → List ℕ)
+    → IsSized size Is → (xs : List A) (b : List ℕ) → AllByRecursion (λ x. Is x (text x)) xs
+    → InTurn size Is xs b → length (flat_map text xs) ≡ length b
 same_length size Is text sizes [] b all is = sym (ap length is)
 same_length size Is text sizes (x ∷ xs) b all is =
     let n : length (text x) ≡ size x = sizes.sized x (text x) all.0 in
@@ -29,7 +31,9 @@ same_length size Is text sizes (x ∷ xs) b all is =
     let others : length (flat_map text xs) ≡ length (drop (size x) b) = same_length size Is text sizes xs _ all.1 is.1 in
     ap length (flat_map-cons text x xs) ∙ omega (arith, length-append (text x) (flat_map text xs), others, n, front, length-drop (size x) b, length-take (size x) b)
 
-rewritten : {A : Type 0} (size : A → ℕ) (Is : A → List ℕ → Type 0) (text : A → List ℕ) → IsSized size Is → ((x : A) (b : List ℕ) → Is x b → Is x (text x)) → (xs : List A) (b : List ℕ) → InTurn size Is xs b → IsRewritten size Is text xs b
+rewritten : {A : Type 0} (size : A → ℕ) (Is : A → List ℕ → Type 0) (text : A → List ℕ)
+    → IsSized size Is → ((x : A) (b : List ℕ) → Is x b → Is x (text x)) → (xs : List A) (b : List ℕ)
+    → InTurn size Is xs b → IsRewritten size Is text xs b
 rewritten size Is text sizes texts xs b is =
     let all = in_turn-all size Is (λ x. Is x (text x)) texts xs b is in
     record { is = texts_in_turn size Is text sizes xs all; length_is = same_length size Is text sizes xs b all is }
@@ -40,10 +44,12 @@ record IsRewrittenBody (body : Body) (b : List ℕ) : Type 0 where
   is : IsPayload body (payload_text body)
   below : length b + 8 < 2 ^ 23 → length (payload_text body) + 8 < 2 ^ 23
 
-pairs_rewritten : (pairs : List Pair) (b : List ℕ) → ArePairs pairs b → IsRewritten (λ pair. 8) IsPair pair_text pairs b
+pairs_rewritten : (pairs : List Pair) (b : List ℕ) → ArePairs pairs b
+    → IsRewritten (λ pair. 8) IsPair pair_text pairs b
 pairs_rewritten pairs b is = rewritten _ IsPair pair_text sized_pairs (λ pair t p. pair_spelled pair p.ends) pairs b is
 
-parts_rewritten : (parts : List Part) (b : List ℕ) → AreParts parts b → IsRewritten (λ part. padded (4 + length part.bytes)) IsPart part_text parts b
+parts_rewritten : (parts : List Part) (b : List ℕ) → AreParts parts b
+    → IsRewritten (λ part. padded (4 + length part.bytes)) IsPart part_text parts b
 parts_rewritten parts b is = rewritten _ IsPart part_text sized_parts (λ part t p. part_spelled part (record { place = p.place; short = p.short })) parts b is
 
 body_rewritten : (body : Body) (b : List ℕ) → IsPayload body b → IsRewrittenBody body b

@@ -82,7 +82,8 @@ Reads {A = A} Is (Err (Fault f)) = (f ≡ BadPayload) × ((x : A) → Is x → �
 pub record IsReader {A : Type 0} (size : A → ℕ) (Is : A → List ℕ → Type 0) (front : List ℕ → Option A) : Type 0 where
   pub sized : (x : A) (b : List ℕ) → Is x b → length b ≡ size x
   pub positive : (x : A) → 1 ≤ size x
-  pub takes : (x : A) (b : List ℕ) → ((i : ℕ) → slice_index b i < 256) → front b ≡ Some x → Is x (take (size x) b)
+  pub takes : (x : A) (b : List ℕ) → ((i : ℕ) → slice_index b i < 256) → front b ≡ Some x
+      → Is x (take (size x) b)
   pub again : (x : A) (b : List ℕ) → Is x (take (size x) b) → front b ≡ Some x
 
 -- what is done with a keyword, its name, and how many bytes they take

@@ -55,11 +55,14 @@ pub fn decode(alloc: Global, b: &[u8], at: usize) -> Result<(Record, usize), Dec
     // What is read can be written.
     ensures valid { IfOk result (λ x. IsRecord x.0) }
     // What stands there is read, whatever follows it.
-    ensures only { (r : Record) (text rest : List ℕ) → Spells r text → drop at b.now ≡ text ++ rest → Answers result (Ok (r, at + length text)) }
+    ensures only { (r : Record) (text rest : List ℕ) → Spells r text
+        → drop at b.now ≡ text ++ rest
+        → Answers result (Ok (r, at + length text)) }
     // A fault comes by the bytes alone.
     ensures fault { OnFault result (λ f. IsFault f (drop at b.now)) }
     // Where there is a fault, it comes.
-    ensures every { (f : RecordFault) → IsFault f (drop at b.now) → Answers result (Err (end.Fault f)) }
+    ensures every { (f : RecordFault) → IsFault f (drop at b.now)
+        → Answers result (Err (end.Fault f)) }
 {
     let (_, place) = b.split_at(at);
     let (record, size) = read_record(alloc, place)?;
@@ -69,7 +72,8 @@ pub fn decode(alloc: Global, b: &[u8], at: usize) -> Result<(Record, usize), Dec
 /// No spelling begins another, and each is of one record: so what was written is read again,
 /// whatever follows it.
 pub fn one_reading()
-    ensures { (r s : Record) (b c x y : List ℕ) → Spells r b → Spells s c → b ++ x ≡ c ++ y → (b ≡ c) × (r ≡ s) }
+    ensures { (r s : Record) (b c x y : List ℕ) → Spells r b → Spells s c → b ++ x ≡ c ++ y
+        → (b ≡ c) × (r ≡ s) }
 {}
 
 /// A record that has a spelling has a written one.

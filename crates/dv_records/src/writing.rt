@@ -112,7 +112,8 @@ fn write_halves(numbers: &[u16], out: &mut Bytes) -> Result<(), NoMemory>
 // A size of two bytes, so many bytes, and zero bytes up to a multiple of four of them.
 fn write_sized(bytes: &[u8], out: &mut Bytes) -> Result<(), NoMemory>
     requires { IsShort bytes.now }
-    ensures { OnOk result (out.new ≡ out.old ++ to_le_bytes w16 (length bytes.now) ++ bytes.now ++ replicate (padding (length bytes.now)) 0) }
+    ensures { OnOk result (out.new ≡ out.old ++ to_le_bytes w16 (length bytes.now)
+        ++ bytes.now ++ replicate (padding (length bytes.now)) 0) }
 {
     let size = bytes.len();
     let zeros = (4 - size % 4) % 4;

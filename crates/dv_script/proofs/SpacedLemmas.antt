@@ -9,11 +9,13 @@ use Rattle.dv_script.specs.Spaced.{spaced_from, none_of, AddsWords}
 pub pieces : (old mid new a b : List ℕ) → mid ≡ old ++ a → new ≡ mid ++ b → new ≡ old ++ (a ++ b)
 pieces old mid new a b e f = f ∙ ap (λ (t : List ℕ). t ++ b) e ∙ append_assoc old a b
 
-pub spaced-map : {X : Type 0} (f : X → List ℕ) (w : List ℕ) (xs : List X) → spaced (w ∷ map f xs) ≡ w ++ flat_map (λ x. 32 ∷ f x) xs
+pub spaced-map : {X : Type 0} (f : X → List ℕ) (w : List ℕ) (xs : List X)
+    → spaced (w ∷ map f xs) ≡ w ++ flat_map (λ x. 32 ∷ f x) xs
 spaced-map f w [] = sym (append-nil w)
 spaced-map f w (x ∷ xs) = ap (λ (t : List ℕ). w ++ 32 ∷ t) (spaced-map f (f x) xs)
 
-pub with_commas-cons : (n : ℕ) (ns : List ℕ) → with_commas (n ∷ ns) ≡ decimal n ++ flat_map (λ x. 44 ∷ decimal x) ns
+pub with_commas-cons : (n : ℕ) (ns : List ℕ)
+    → with_commas (n ∷ ns) ≡ decimal n ++ flat_map (λ x. 44 ∷ decimal x) ns
 with_commas-cons n [] = sym (append-nil (decimal n))
 with_commas-cons n (m ∷ ns) = append_assoc (decimal n) (44 ∷ []) (with_commas (m ∷ ns)) ∙ ap (λ (t : List ℕ). decimal n ++ 44 ∷ t) (with_commas-cons m ns)
 
@@ -22,12 +24,14 @@ unfolding none_of
 none_of-false [] = refl
 none_of-false (w ∷ ws) = refl
 
-none_of-append : (first : Bool) (ws vs : List (List ℕ)) → none_of first (ws ++ vs) ≡ none_of (none_of first ws) vs
+none_of-append : (first : Bool) (ws vs : List (List ℕ))
+    → none_of first (ws ++ vs) ≡ none_of (none_of first ws) vs
 unfolding none_of
 none_of-append first [] vs = refl
 none_of-append first (w ∷ ws) vs = sym (none_of-false vs)
 
-spaced_from-append : (first : Bool) (ws vs : List (List ℕ)) → spaced_from first (ws ++ vs) ≡ spaced_from first ws ++ spaced_from (none_of first ws) vs
+spaced_from-append : (first : Bool) (ws vs : List (List ℕ))
+    → spaced_from first (ws ++ vs) ≡ spaced_from first ws ++ spaced_from (none_of first ws) vs
 unfolding spaced_from none_of
 spaced_from-append first [] vs = refl
 spaced_from-append first (w ∷ ws) vs =
@@ -43,15 +47,20 @@ pub no_words : (first : Bool) (text : List ℕ) → AddsWords first [] text text
 unfolding spaced_from none_of
 no_words first text = record { written = sym (append-nil text); still = refl }
 
-pub more_words : {first next last : Bool} {ws vs : List (List ℕ)} {a b c : List ℕ} → AddsWords first ws a b next → AddsWords next vs b c last → AddsWords first (ws ++ vs) a c last
+pub more_words : {first next last : Bool} {ws vs : List (List ℕ)} {a b c : List ℕ}
+    → AddsWords first ws a b next → AddsWords next vs b c last → AddsWords first (ws ++ vs) a c last
 more_words {first} {next} {last} {ws} {vs} {a} {b} {c} front behind = record {
   written = pieces a b c (spaced_from first ws) (spaced_from (none_of first ws) vs) front.written (behind.written ∙ ap (λ (n : Bool). b ++ spaced_from n vs) front.still) ∙ ap (λ (t : List ℕ). a ++ t) (sym (spaced_from-append first ws vs));
   still = behind.still ∙ ap (λ (n : Bool). none_of n vs) front.still ∙ sym (none_of-append first ws vs);
 }
 
-pub one_more_word : {first next last : Bool} {a b c : List ℕ} (ws : List (List ℕ)) (i : ℕ) (w : List ℕ) → i < length ws → w ≡ get_or ws i w → AddsWords first (take i ws) a b next → AddsWords next (w ∷ []) b c last → AddsWords first (take (i + 1) ws) a c last
+pub one_more_word : {first next last : Bool} {a b c : List ℕ} (ws : List (List ℕ)) (i : ℕ)
+    (w : List ℕ)
+    → i < length ws → w ≡ get_or ws i w → AddsWords first (take i ws) a b next
+    → AddsWords next (w ∷ []) b c last → AddsWords first (take (i + 1) ws) a c last
 one_more_word ws i w h is front behind = rw (take_more ws i w h, ← is) (more_words front behind)
 
 -- words that begin a text
-pub all_words : {ws : List (List ℕ)} {a b : List ℕ} {last : Bool} → AddsWords true ws a b last → b ≡ a ++ spaced ws
+pub all_words : {ws : List (List ℕ)} {a b : List ℕ} {last : Bool} → AddsWords true ws a b last
+    → b ≡ a ++ spaced ws
 all_words {ws} {a} h = h.written ∙ ap (λ (t : List ℕ). a ++ t) (spaced_from-first ws)

@@ -48,7 +48,8 @@ pub(crate) fn put_around(
 
 // Each number behind the same bytes.
 pub(crate) fn put_numbers(text: &mut Bytes, before: &[u8], numbers: &[u32]) -> Result<(), NoMemory>
-    ensures { OnOk result (text.new ≡ text.old ++ flat_map (λ n. before.now ++ decimal n) numbers.now) }
+    ensures { OnOk result
+        (text.new ≡ text.old ++ flat_map (λ n. before.now ++ decimal n) numbers.now) }
 {
     for number in numbers {
         put_before(text, before, *number as u64)?;

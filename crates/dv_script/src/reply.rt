@@ -102,7 +102,8 @@ fn put_done(
     appended: Option<(u32, u32)>,
     modified: &List<u32>,
 ) -> Result<(), NoMemory>
-    ensures { OnOk result (text.new ≡ text.old ++ reply_text (Done word mark appended modified.now)) }
+    ensures { OnOk result
+        (text.new ≡ text.old ++ reply_text (Done word mark appended modified.now)) }
 {
     put(text, b"OK ")?;
     put_given(text, appended)?;

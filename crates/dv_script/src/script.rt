@@ -15,7 +15,8 @@ const MAX_LINE: usize = 65_536;
 
 /// The lines of a script, without its comments and empty lines, or its first fault.
 pub fn parse(alloc: Global, b: &[u8]) -> Result<List<Line>, ScriptEnd>
-    ensures lines { MatchResult result (λ lines. parsed b.now ≡ Ok lines) (λ e. (e ≡ ScriptEnd.NoMemory) ⊎ (parsed b.now ≡ Err e)) }
+    ensures lines { MatchResult result (λ lines. parsed b.now ≡ Ok lines)
+        (λ e. (e ≡ ScriptEnd.NoMemory) ⊎ (parsed b.now ≡ Err e)) }
     ensures few { IfOk result (λ lines. length lines ≤ length b.now) }
 {
     if b.len() > MAX_SCRIPT {
@@ -36,7 +37,8 @@ pub fn parse(alloc: Global, b: &[u8]) -> Result<List<Line>, ScriptEnd>
 // Adds the line that this text is, unless it is skipped.
 fn add_text(alloc: Global, lines: &mut List<Line>, text: &[u8], line: u32) -> Result<(), ScriptEnd>
     ensures lines { MatchResult result (λ _. with_text lines.old text.now ≡ Some lines.new)
-        (λ e. (e ≡ ScriptEnd.NoMemory) ⊎ ((e ≡ ScriptEnd.BadLine line) × (with_text lines.old text.now ≡ None))) }
+        (λ e. (e ≡ ScriptEnd.NoMemory)
+        ⊎ ((e ≡ ScriptEnd.BadLine line) × (with_text lines.old text.now ≡ None))) }
     ensures few { length lines.new ≤ length lines.old + 1 }
 {
     if text.len() > MAX_LINE {

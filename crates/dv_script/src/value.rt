@@ -87,7 +87,8 @@ fn put_flag(
     bit: u8,
     name: &[u8],
 ) -> Result<bool, NoMemory>
-    ensures { IfOk result (λ next. AddsWords first (flag_when flags bit name.now) text.old text.new next) }
+    ensures { IfOk result
+        (λ next. AddsWords first (flag_when flags bit name.now) text.old text.new next) }
 {
     if flags & bit == 0 {
         return Ok(first);

@@ -26,7 +26,8 @@ pub starts_no : (x : ℕ) → (nat_le 49 x && nat_le x 57) ≡ false → 49 ≤ 
 starts_no x e low high = grind (arith, nat_tests)
 
 -- a number from 1 begins with a digit from 1
-pub number_starts : (n : ℕ) (b : List ℕ) → IsEnd (Number n) b → (49 ≤ get_or b 0 0) × (get_or b 0 0 ≤ 57)
+pub number_starts : (n : ℕ) (b : List ℕ) → IsEnd (Number n) b
+    → (49 ≤ get_or b 0 0) × (get_or b 0 0 ≤ 57)
 number_starts n b is =
     let small : n < 2 ^ 64 = omega (arith, is.1) in
     let first : 48 < get_or b 0 0 = subst (λ t. 48 < get_or t 0 0) (sym is.2) (first_decimal n is.0 small) in
@@ -53,11 +54,13 @@ number_read n b first parses =
     positive (suc v) t at e = omega arith
 
 -- and such a number is parsed
-pub number_parses : {E : Type 0} (n : ℕ) (b : List ℕ) (e : E) → IsEnd (Number n) b → ParsesUnsigned 32 10 b (Err e) → ⊥
+pub number_parses : {E : Type 0} (n : ℕ) (b : List ℕ) (e : E) → IsEnd (Number n) b
+    → ParsesUnsigned 32 10 b (Err e) → ⊥
 number_parses n b e is parses = let same = parse-decimal 32 n b (Err e) is.1 (omega (arith, is.1)) is.2 parses in cc
 
 -- an end has no byte but digits and the star
-pub end_lacks : (byte : ℕ) (end : End) (b : List ℕ) → 42 < byte → (byte < 48) ⊎ (57 < byte) → IsEnd end b → Lacks byte b
+pub end_lacks : (byte : ℕ) (end : End) (b : List ℕ) → 42 < byte → (byte < 48) ⊎ (57 < byte)
+    → IsEnd end b → Lacks byte b
 end_lacks byte (Number n) b above outside is = λ k d less.
     let digits : AllDigits 10 b = subst (AllDigits 10) (sym is.2) (decimal_is_IsNumeral n (omega (arith, is.1))).0.1 in
     let at = digit_at b k digits less in

@@ -26,12 +26,14 @@ no_place k n e = grind (arith, nat_tests)
 pub none_before : (byte : ℕ) (text : List ℕ) → None ≡ position (is byte) text → Lacks byte text
 none_before byte text e = λ k d less. fails_before_first (is byte) text k d (omega (arith, less, no_place (position_or_len (is byte) text) (length text) (sym e)))
 
-pub front_lacks : (byte at : ℕ) (text : List ℕ) → Some at ≡ position (is byte) text → Lacks byte (take at text)
+pub front_lacks : (byte at : ℕ) (text : List ℕ) → Some at ≡ position (is byte) text
+    → Lacks byte (take at text)
 front_lacks byte at text e = λ k d less.
     let below : k < at = omega (arith, less, length-take at text) in
     ap (is byte) (get_or-take at text k d below) ∙ (position-Some (is byte) text at d (sym e)).2 k below
 
-pub parts_at : (byte at : ℕ) (text : List ℕ) → Some at ≡ position (is byte) text → text ≡ take at text ++ byte ∷ drop 1 (drop at text)
+pub parts_at : (byte at : ℕ) (text : List ℕ) → Some at ≡ position (is byte) text
+    → text ≡ take at text ++ byte ∷ drop 1 (drop at text)
 parts_at byte at text e =
     let place = position-Some (is byte) text at 0 (sym e) in
     let here : drop at text ≡ get_or text at 0 ∷ drop (suc at) text = drop-cons text at 0 place.0 in
@@ -47,18 +49,21 @@ same_byte : (byte : ℕ) → is byte byte ≡ true
 same_byte byte = eq-eqb byte byte refl
 
 -- a text without the byte is one piece
-pub one_piece : (byte : ℕ) (text piece : List ℕ) → Lacks byte piece → text ≡ piece → split byte text ≡ piece ∷ []
+pub one_piece : (byte : ℕ) (text piece : List ℕ) → Lacks byte piece → text ≡ piece
+    → split byte text ≡ piece ∷ []
 one_piece byte text piece lacks e = ap (split byte) e ∙ slice_split_none (is byte) piece lacks
 
 -- else the first piece ends before it
-pub first_piece : (byte : ℕ) (text piece rest : List ℕ) → Lacks byte piece → text ≡ piece ++ byte ∷ rest → split byte text ≡ piece ∷ split byte rest
+pub first_piece : (byte : ℕ) (text piece rest : List ℕ) → Lacks byte piece
+    → text ≡ piece ++ byte ∷ rest → split byte text ≡ piece ∷ split byte rest
 first_piece byte text piece rest lacks e = ap (split byte) e ∙ slice_split_at (is byte) piece byte rest lacks (same_byte byte)
 
 -- there is a piece
 pub some_piece : (byte : ℕ) (text : List ℕ) → split byte text ≡ [] → ⊥
 some_piece byte text e = omega (arith, length-slice_split (is byte) text, ap length e)
 
-same_join : (byte : ℕ) (pieces : List (List ℕ)) → joined (byte ∷ []) pieces ≡ join_with_byte byte pieces
+same_join : (byte : ℕ) (pieces : List (List ℕ))
+    → joined (byte ∷ []) pieces ≡ join_with_byte byte pieces
 same_join byte [] = refl
 same_join byte (x ∷ []) = refl
 same_join byte (x ∷ y ∷ xs) = append_assoc x (byte ∷ []) (joined (byte ∷ []) (y ∷ xs)) ∙ ap (λ t. x ++ byte ∷ t) (same_join byte (y ∷ xs))
@@ -68,7 +73,8 @@ pub joined_split : (byte : ℕ) (text : List ℕ) → joined (byte ∷ []) (spli
 joined_split byte text = same_join byte (split byte text) ∙ join_with_byte-slice_split byte text
 
 -- pieces without the byte are those of the text that they join to
-pub split_joined : (byte : ℕ) (pieces : List (List ℕ)) → 1 ≤ length pieces → All (Lacks byte) pieces → split byte (joined (byte ∷ []) pieces) ≡ pieces
+pub split_joined : (byte : ℕ) (pieces : List (List ℕ)) → 1 ≤ length pieces → All (Lacks byte) pieces
+    → split byte (joined (byte ∷ []) pieces) ≡ pieces
 split_joined byte [] some lack = absurd (omega (arith, some))
 split_joined byte (x ∷ []) some lack = slice_split_none (is byte) x (All-head (Lacks byte) x [] lack)
 split_joined byte (x ∷ y ∷ xs) some lack =
@@ -81,21 +87,25 @@ only_piece byte text piece e = ap (joined (byte ∷ [])) (sym e) ∙ joined_spli
 
 -- ---- values of pieces
 
-pub zip_push : {A B : Type 0} (R : A → B → Type 0) (xs : List A) (ys : List B) (x : A) (y : B) → AllZip R xs ys → R x y → AllZip R (xs ++ x ∷ []) (ys ++ y ∷ [])
+pub zip_push : {A B : Type 0} (R : A → B → Type 0) (xs : List A) (ys : List B) (x : A) (y : B)
+    → AllZip R xs ys → R x y → AllZip R (xs ++ x ∷ []) (ys ++ y ∷ [])
 zip_push R [] [] x y all one = (one, tt)
 zip_push R [] (b ∷ ys) x y all one = absurd all
 zip_push R (a ∷ xs) [] x y all one = absurd all
 zip_push R (a ∷ xs) (b ∷ ys) x y all one = (all.0, zip_push R xs ys x y all.1 one)
 
 -- one among the pieces has a value
-pub zip_middle : {A B : Type 0} (R : A → B → Type 0) (xs : List A) (ys : List B) (y : B) (zs : List B) → AllZip R xs (ys ++ y ∷ zs) → (x : A) × R x y
+pub zip_middle : {A B : Type 0} (R : A → B → Type 0) (xs : List A) (ys : List B) (y : B)
+    (zs : List B)
+    → AllZip R xs (ys ++ y ∷ zs) → (x : A) × R x y
 zip_middle R [] [] y zs all = absurd all
 zip_middle R (x ∷ xs) [] y zs all = (x, all.0)
 zip_middle R [] (b ∷ ys) y zs all = absurd all
 zip_middle R (x ∷ xs) (b ∷ ys) y zs all = zip_middle R xs ys y zs all.1
 
 -- where a piece has one value, the pieces have one list of values
-pub zip_one : {A B : Type 0} (R : A → B → Type 0) → ((x z : A) (y : B) → R x y → R z y → x ≡ z) → (xs zs : List A) (ys : List B) → AllZip R xs ys → AllZip R zs ys → xs ≡ zs
+pub zip_one : {A B : Type 0} (R : A → B → Type 0) → ((x z : A) (y : B) → R x y → R z y → x ≡ z)
+    → (xs zs : List A) (ys : List B) → AllZip R xs ys → AllZip R zs ys → xs ≡ zs
 zip_one R one [] [] [] p q = refl
 zip_one R one [] (z ∷ zs) [] p q = absurd q
 zip_one R one (x ∷ xs) zs [] p q = absurd p
@@ -103,12 +113,14 @@ zip_one R one [] zs (y ∷ ys) p q = absurd p
 zip_one R one (x ∷ xs) [] (y ∷ ys) p q = absurd q
 zip_one R one (x ∷ xs) (z ∷ zs) (y ∷ ys) p q = ap (λ v. v ∷ xs) (one x z y p.0 q.0) ∙ ap (λ vs. z ∷ vs) (zip_one R one xs zs ys p.1 q.1)
 
-pub zip_some : {A B : Type 0} (R : A → B → Type 0) (xs : List A) (ys : List B) → AllZip R xs ys → 1 ≤ length xs → 1 ≤ length ys
+pub zip_some : {A B : Type 0} (R : A → B → Type 0) (xs : List A) (ys : List B) → AllZip R xs ys
+    → 1 ≤ length xs → 1 ≤ length ys
 zip_some R [] ys all some = absurd (omega (arith, some))
 zip_some R (x ∷ xs) [] all some = absurd all
 zip_some R (x ∷ xs) (y ∷ ys) all some = omega arith
 
-pub zip_all : {A B : Type 0} (R : A → B → Type 0) (P : B → Type 0) → ((x : A) (y : B) → R x y → P y) → (xs : List A) (ys : List B) → AllZip R xs ys → All P ys
+pub zip_all : {A B : Type 0} (R : A → B → Type 0) (P : B → Type 0) → ((x : A) (y : B) → R x y → P y)
+    → (xs : List A) (ys : List B) → AllZip R xs ys → All P ys
 zip_all R P each [] [] all = λ k d less. absurd (omega (arith, less))
 zip_all R P each [] (y ∷ ys) all = absurd all
 zip_all R P each (x ∷ xs) [] all = absurd all

@@ -35,15 +35,18 @@ span_pieces span b (inl w) =
 span_pieces span b (inr s) = subst (SpanPieces span) (sym (one_piece 58 b b (no_colon span.from b s.1) refl)) s
 
 -- the range of a text without a colon
-pub single_from : (span : Span) (b front : List ℕ) → Lacks 58 front → b ≡ front → IsSpan span b → IsEnd span.from front
+pub single_from : (span : Span) (b front : List ℕ) → Lacks 58 front → b ≡ front → IsSpan span b
+    → IsEnd span.from front
 single_from span b front lacks e is = (subst (SpanPieces span) (one_piece 58 b front lacks e) (span_pieces span b is)).1
 
 -- of one with a colon
-pub wide_from : (span : Span) (b front rest : List ℕ) → Lacks 58 front → b ≡ front ++ 58 ∷ rest → IsSpan span b → IsEnd span.from front × IsEnd span.to rest
+pub wide_from : (span : Span) (b front rest : List ℕ) → Lacks 58 front → b ≡ front ++ 58 ∷ rest
+    → IsSpan span b → IsEnd span.from front × IsEnd span.to rest
 wide_from span b front rest lacks e is =
     by_rest (split 58 rest) refl (subst (SpanPieces span) (first_piece 58 b front rest lacks e) (span_pieces span b is))
   where
-    by_rest : (ps : List (List ℕ)) → split 58 rest ≡ ps → SpanPieces span (front ∷ ps) → IsEnd span.from front × IsEnd span.to rest
+    by_rest : (ps : List (List ℕ)) → split 58 rest ≡ ps → SpanPieces span (front ∷ ps)
+        → IsEnd span.from front × IsEnd span.to rest
     by_rest [] same pieces = absurd (some_piece 58 rest same)
     by_rest (y ∷ []) same pieces = (pieces.0, subst (IsEnd span.to) (only_piece 58 rest y same) pieces.1)
     by_rest (y ∷ z ∷ zs) same pieces = absurd pieces
@@ -52,11 +55,14 @@ same_span : (s t : Span) → s.from ≡ t.from → s.to ≡ t.to → s ≡ t
 same_span s t p q = λ i. record { from = p i; to = q i }
 
 -- no range where no end stands
-pub none_from : (b front : List ℕ) (rest : Option (Bor (List ℕ))) → Lacks 58 front → MatchOption rest (b ≡ front) (λ r. b ≡ front ++ 58 ∷ r.now) → ((end : End) → IsEnd end front → ⊥) → (span : Span) → IsSpan span b → ⊥
+pub none_from : (b front : List ℕ) (rest : Option (Bor (List ℕ))) → Lacks 58 front
+    → MatchOption rest (b ≡ front) (λ r. b ≡ front ++ 58 ∷ r.now)
+    → ((end : End) → IsEnd end front → ⊥) → (span : Span) → IsSpan span b → ⊥
 none_from b front None lacks parts none span is = none span.from (single_from span b front lacks parts is)
 none_from b front (Some r) lacks parts none span is = none span.from (wide_from span b front r.now lacks parts is).0
 
-pub none_to : (b front rest : List ℕ) → Lacks 58 front → b ≡ front ++ 58 ∷ rest → ((end : End) → IsEnd end rest → ⊥) → (span : Span) → IsSpan span b → ⊥
+pub none_to : (b front rest : List ℕ) → Lacks 58 front → b ≡ front ++ 58 ∷ rest
+    → ((end : End) → IsEnd end rest → ⊥) → (span : Span) → IsSpan span b → ⊥
 none_to b front rest lacks parts none span is = none span.to (wide_from span b front rest lacks parts is).1
 
 pub if_none : {A : Type 0} (r : Option A) (P : Type 0) → P → IfNone r P
@@ -107,14 +113,18 @@ pub record IsReadTo (b : List ℕ) (set : List Span) (text : List ℕ) : Type 0 
 pub starts : (b : List ℕ) → IsReadTo b [] b
 starts b = record { pieces = []; each = tt; parts = refl }
 
-pub one_more : (b : List ℕ) (set : List Span) (text piece rest : List ℕ) (span : Span) → IsReadTo b set text → Lacks 44 piece → text ≡ piece ++ 44 ∷ rest → IsSpan span piece → IsReadTo b (set ++ span ∷ []) rest
+pub one_more : (b : List ℕ) (set : List Span) (text piece rest : List ℕ) (span : Span)
+    → IsReadTo b set text → Lacks 44 piece → text ≡ piece ++ 44 ∷ rest → IsSpan span piece
+    → IsReadTo b (set ++ span ∷ []) rest
 one_more b set text piece rest span so_far lacks e is = record {
   pieces = so_far.pieces ++ piece ∷ [];
   each = zip_push IsSpan set so_far.pieces span piece so_far.each is;
   parts = so_far.parts ∙ ap (λ t. so_far.pieces ++ t) (first_piece 44 text piece rest lacks e) ∙ sym (append_assoc so_far.pieces (piece ∷ []) (split 44 rest));
 }
 
-pub last_one : (b : List ℕ) (set : List Span) (text piece : List ℕ) (span : Span) → IsReadTo b set text → Lacks 44 piece → text ≡ piece → IsSpan span piece → IsSet (set ++ span ∷ []) b
+pub last_one : (b : List ℕ) (set : List Span) (text piece : List ℕ) (span : Span)
+    → IsReadTo b set text → Lacks 44 piece → text ≡ piece → IsSpan span piece
+    → IsSet (set ++ span ∷ []) b
 last_one b set text piece span so_far lacks e is =
     let parts : split 44 b ≡ so_far.pieces ++ piece ∷ [] = so_far.parts ∙ ap (λ t. so_far.pieces ++ t) (one_piece 44 text piece lacks e) in
     record {
@@ -125,12 +135,16 @@ last_one b set text piece span so_far lacks e is =
     }
 
 -- a piece that is no range
-pub bad_piece : (b : List ℕ) (set : List Span) (text piece : List ℕ) (more : List (List ℕ)) → IsReadTo b set text → split 44 text ≡ piece ∷ more → ((span : Span) → IsSpan span piece → ⊥) → (others : List Span) → IsSet others b → ⊥
+pub bad_piece : (b : List ℕ) (set : List Span) (text piece : List ℕ) (more : List (List ℕ))
+    → IsReadTo b set text → split 44 text ≡ piece ∷ more → ((span : Span) → IsSpan span piece → ⊥)
+    → (others : List Span) → IsSet others b → ⊥
 bad_piece b set text piece more so_far e none others is =
     let found = zip_middle IsSpan others so_far.pieces piece more (subst (AllZip IsSpan others) (so_far.parts ∙ ap (λ t. so_far.pieces ++ t) e) (set_each others b is)) in
     none found.0 found.1
 
-pub bad_cut : (b : List ℕ) (set : List Span) (text piece : List ℕ) (rest : Option (Bor (List ℕ))) → IsReadTo b set text → Lacks 44 piece → MatchOption rest (text ≡ piece) (λ r. text ≡ piece ++ 44 ∷ r.now)
+pub bad_cut : (b : List ℕ) (set : List Span) (text piece : List ℕ) (rest : Option (Bor (List ℕ)))
+    → IsReadTo b set text → Lacks 44 piece
+    → MatchOption rest (text ≡ piece) (λ r. text ≡ piece ++ 44 ∷ r.now)
     → ((span : Span) → IsSpan span piece → ⊥) → (others : List Span) → IsSet others b → ⊥
 bad_cut b set text piece None so_far lacks parts none others is = bad_piece b set text piece [] so_far (one_piece 44 text piece lacks parts) none others is
 bad_cut b set text piece (Some r) so_far lacks parts none others is = bad_piece b set text piece (split 44 r.now) so_far (first_piece 44 text piece r.now lacks parts) none others is

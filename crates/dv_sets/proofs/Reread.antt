@@ -18,7 +18,9 @@ same_ends (Number m) Star e = cc
 same_ends Star (Number n) e = cc
 same_ends Star Star e = refl
 
-by_test : (span : Span) (t : Bool) → are_equal span.from span.to ≡ t → IsEnd span.from (end_text span.from) → IsEnd span.to (end_text span.to) → IsSpan span (cond t (end_text span.from) (end_text span.from ++ codes ":" ++ end_text span.to))
+by_test : (span : Span) (t : Bool) → are_equal span.from span.to ≡ t
+    → IsEnd span.from (end_text span.from) → IsEnd span.to (end_text span.to)
+    → IsSpan span (cond t (end_text span.from) (end_text span.from ++ codes ":" ++ end_text span.to))
 by_test span true e from to = inr (same_ends span.from span.to e, from)
 by_test span false e from to = inl (record { from = end_text span.from; to = end_text span.to; ends = (from, to); text = refl })
 
@@ -29,7 +31,8 @@ printed_span span b (inr s) = let from = printed_end span.from b s.1 in by_test 
     to_end : (e f : End) → e ≡ f → (t : List ℕ) → IsEnd e t → IsEnd f (end_text f)
     to_end e f same t is = printed_end f t (subst (λ x. IsEnd x t) same is)
 
-printed_spans : (set : List Span) (texts : List (List ℕ)) → AllZip IsSpan set texts → AllZip IsSpan set (map span_text set)
+printed_spans : (set : List Span) (texts : List (List ℕ)) → AllZip IsSpan set texts
+    → AllZip IsSpan set (map span_text set)
 printed_spans [] [] all = tt
 printed_spans [] (t ∷ ts) all = absurd all
 printed_spans (s ∷ set) [] all = absurd all

@@ -17,37 +17,51 @@ use Rattle.dv_sets.proofs.Pieces.{Lacks, split, one_piece, first_piece, joined_s
 
 -- ---- words
 
-lacks_test : (byte : ℕ) (text : List ℕ) → list_all (λ b. not (nat_eq b byte)) text ≡ true → Lacks byte text
+lacks_test : (byte : ℕ) (text : List ℕ) → list_all (λ b. not (nat_eq b byte)) text ≡ true
+    → Lacks byte text
 lacks_test byte [] e = All-nil (λ b. nat_eq b byte ≡ false)
 lacks_test byte (b ∷ text) e = by_test (nat_eq b byte) refl e (lacks_test byte text)
   where
-    by_test : (t : Bool) → nat_eq b byte ≡ t → (not t && list_all (λ x. not (nat_eq x byte)) text) ≡ true → (list_all (λ x. not (nat_eq x byte)) text ≡ true → Lacks byte text) → Lacks byte (b ∷ text)
+    by_test : (t : Bool) → nat_eq b byte ≡ t
+        → (not t && list_all (λ x. not (nat_eq x byte)) text) ≡ true
+        → (list_all (λ x. not (nat_eq x byte)) text ≡ true → Lacks byte text)
+        → Lacks byte (b ∷ text)
     by_test true same f rest = cc
     by_test false same f rest = All-cons (λ x. nat_eq x byte ≡ false) b text same (rest f)
 
 system_lacks : (word : List ℕ) (n : ℕ) → flag_bit word ≡ Some n → Lacks 32 word
 system_lacks word n e = by_answered (bytes_eq word (codes "\\Answered")) refl e
   where
-    is_text : (text : List ℕ) → bytes_eq word text ≡ true → list_all (λ b. not (nat_eq b 32)) text ≡ true → Lacks 32 word
+    is_text : (text : List ℕ) → bytes_eq word text ≡ true
+        → list_all (λ b. not (nat_eq b 32)) text ≡ true → Lacks 32 word
     is_text text same fine = subst (Lacks 32) (sym ((bytes_eq-Decides word text).0 same)) (lacks_test 32 text fine)
 
-    by_draft : (t : Bool) → bytes_eq word (codes "\\Draft") ≡ t → cond t (Some 16) None ≡ Some n → Lacks 32 word
+    by_draft : (t : Bool) → bytes_eq word (codes "\\Draft") ≡ t → cond t (Some 16) None ≡ Some n
+        → Lacks 32 word
     by_draft true same f = is_text (codes "\\Draft") same refl
     by_draft false same f = cc
 
-    by_seen : (t : Bool) → bytes_eq word (codes "\\Seen") ≡ t → cond t (Some 8) (cond (bytes_eq word (codes "\\Draft")) (Some 16) None) ≡ Some n → Lacks 32 word
+    by_seen : (t : Bool) → bytes_eq word (codes "\\Seen") ≡ t
+        → cond t (Some 8) (cond (bytes_eq word (codes "\\Draft")) (Some 16) None) ≡ Some n
+        → Lacks 32 word
     by_seen true same f = is_text (codes "\\Seen") same refl
     by_seen false same f = by_draft (bytes_eq word (codes "\\Draft")) refl f
 
-    by_deleted : (t : Bool) → bytes_eq word (codes "\\Deleted") ≡ t → cond t (Some 4) (cond (bytes_eq word (codes "\\Seen")) (Some 8) (cond (bytes_eq word (codes "\\Draft")) (Some 16) None)) ≡ Some n → Lacks 32 word
+    by_deleted : (t : Bool) → bytes_eq word (codes "\\Deleted") ≡ t
+        → cond t (Some 4) (cond (bytes_eq word (codes "\\Seen")) (Some 8) (cond (bytes_eq word (codes "\\Draft")) (Some 16) None)) ≡ Some n
+        → Lacks 32 word
     by_deleted true same f = is_text (codes "\\Deleted") same refl
     by_deleted false same f = by_seen (bytes_eq word (codes "\\Seen")) refl f
 
-    by_flagged : (t : Bool) → bytes_eq word (codes "\\Flagged") ≡ t → cond t (Some 2) (cond (bytes_eq word (codes "\\Deleted")) (Some 4) (cond (bytes_eq word (codes "\\Seen")) (Some 8) (cond (bytes_eq word (codes "\\Draft")) (Some 16) None))) ≡ Some n → Lacks 32 word
+    by_flagged : (t : Bool) → bytes_eq word (codes "\\Flagged") ≡ t
+        → cond t (Some 2) (cond (bytes_eq word (codes "\\Deleted")) (Some 4) (cond (bytes_eq word (codes "\\Seen")) (Some 8) (cond (bytes_eq word (codes "\\Draft")) (Some 16) None))) ≡ Some n
+        → Lacks 32 word
     by_flagged true same f = is_text (codes "\\Flagged") same refl
     by_flagged false same f = by_deleted (bytes_eq word (codes "\\Deleted")) refl f
 
-    by_answered : (t : Bool) → bytes_eq word (codes "\\Answered") ≡ t → cond t (Some 1) (cond (bytes_eq word (codes "\\Flagged")) (Some 2) (cond (bytes_eq word (codes "\\Deleted")) (Some 4) (cond (bytes_eq word (codes "\\Seen")) (Some 8) (cond (bytes_eq word (codes "\\Draft")) (Some 16) None)))) ≡ Some n → Lacks 32 word
+    by_answered : (t : Bool) → bytes_eq word (codes "\\Answered") ≡ t
+        → cond t (Some 1) (cond (bytes_eq word (codes "\\Flagged")) (Some 2) (cond (bytes_eq word (codes "\\Deleted")) (Some 4) (cond (bytes_eq word (codes "\\Seen")) (Some 8) (cond (bytes_eq word (codes "\\Draft")) (Some 16) None)))) ≡ Some n
+        → Lacks 32 word
     by_answered true same f = is_text (codes "\\Answered") same refl
     by_answered false same f = by_flagged (bytes_eq word (codes "\\Flagged")) refl f
 
@@ -67,7 +81,8 @@ spaced_joined (w ∷ []) = refl
 spaced_joined (w ∷ v ∷ vs) = ap (λ t. w ++ 32 ∷ t) (spaced_joined (v ∷ vs)) ∙ sym (append_assoc w (32 ∷ []) (joined (32 ∷ []) (v ∷ vs)))
 
 -- the words of a text that isn't empty are its pieces
-spaced_split : (words : List (List ℕ)) → 1 ≤ length words → All IsFlag words → split 32 (spaced words) ≡ words
+spaced_split : (words : List (List ℕ)) → 1 ≤ length words → All IsFlag words
+    → split 32 (spaced words) ≡ words
 spaced_split words some all = ap (split 32) (spaced_joined words) ∙ split_joined 32 words some (All-weaker IsFlag (Lacks 32) word_lacks words all)
 
 -- the empty text has no words
@@ -85,7 +100,8 @@ abbrev words_in : List ℕ → List (List ℕ)
 words_in [] = []
 words_in (b ∷ text) = split 32 (b ∷ text)
 
-words_of : (text : List ℕ) (words : List (List ℕ)) → All IsFlag words → spaced words ≡ text → words ≡ words_in text
+words_of : (text : List ℕ) (words : List (List ℕ)) → All IsFlag words → spaced words ≡ text
+    → words ≡ words_in text
 words_of [] words all e = no_words words all e
 words_of (b ∷ text) [] all e = cc
 words_of (b ∷ text) (w ∷ ws) all e = sym (spaced_split (w ∷ ws) (omega arith) all) ∙ ap (split 32) e
@@ -94,11 +110,13 @@ same_inside : (x y : List ℕ) → 40 ∷ x ++ 41 ∷ [] ≡ 40 ∷ y ++ 41 ∷ 
 same_inside x y e = append_cancel_right x y (41 ∷ []) (ap (drop 1) e)
 
 -- the flags of a text are those of its words
-pub flags_words : (flags : ℕ) (keywords : List (List ℕ)) (b text : List ℕ) → b ≡ 40 ∷ text ++ 41 ∷ [] → (is : AreFlags flags keywords b) → is.words ≡ words_in text
+pub flags_words : (flags : ℕ) (keywords : List (List ℕ)) (b text : List ℕ)
+    → b ≡ 40 ∷ text ++ 41 ∷ [] → (is : AreFlags flags keywords b) → is.words ≡ words_in text
 flags_words flags keywords b text e is = words_of text is.words is.each (same_inside (spaced is.words) text (sym is.text ∙ e))
 
 -- no flags without parentheses
-pub no_flags : (b : List ℕ) → ((text : List ℕ) → b ≡ 40 ∷ text ++ 41 ∷ [] → ⊥) → (flags : ℕ) (keywords : List (List ℕ)) → AreFlags flags keywords b → ⊥
+pub no_flags : (b : List ℕ) → ((text : List ℕ) → b ≡ 40 ∷ text ++ 41 ∷ [] → ⊥)
+    → (flags : ℕ) (keywords : List (List ℕ)) → AreFlags flags keywords b → ⊥
 no_flags b none flags keywords is = none (spaced is.words) is.text
 
 -- a text is of one value of flags and one list of keywords
@@ -123,10 +141,12 @@ pub record IsReadTo (b : List ℕ) (flags : ℕ) (keywords : List (List ℕ)) (t
   pub named : ◌≡◌ {A = ℕ × List (List ℕ)} (fold with_flag (0, []) front) (flags, keywords)
   pub parts : split 32 words ≡ front ++ split 32 text
 
-pub starts : (b words : List ℕ) → b ≡ 40 ∷ words ++ 41 ∷ [] → 0 < length words → IsReadTo b 0 [] words
+pub starts : (b words : List ℕ) → b ≡ 40 ∷ words ++ 41 ∷ [] → 0 < length words
+    → IsReadTo b 0 [] words
 starts b words inside some = record { words = words; inside = inside; some = some; front = []; each = All-nil IsFlag; named = refl; parts = refl }
 
-fold_push : (xs : List (List ℕ)) (x : List ℕ) (a : ℕ × List (List ℕ)) → fold with_flag a (xs ++ x ∷ []) ≡ with_flag (fold with_flag a xs) x
+fold_push : (xs : List (List ℕ)) (x : List ℕ) (a : ℕ × List (List ℕ))
+    → fold with_flag a (xs ++ x ∷ []) ≡ with_flag (fold with_flag a xs) x
 fold_push [] x a = refl
 fold_push (y ∷ xs) x a = fold_push xs x (with_flag a y)
 
@@ -134,7 +154,10 @@ fold_push (y ∷ xs) x a = fold_push xs x (with_flag a y)
 abbrev pub Adds : ℕ → List (List ℕ) → List ℕ → ℕ → List (List ℕ) → Type 0
 Adds flags keywords word more others = IsFlag word × ◌≡◌ {A = ℕ × List (List ℕ)} (with_flag (flags, keywords) word) (more, others)
 
-pub one_more : (b : List ℕ) (flags more : ℕ) (keywords others : List (List ℕ)) (text word rest : List ℕ) → IsReadTo b flags keywords text → Lacks 32 word → text ≡ word ++ 32 ∷ rest → Adds flags keywords word more others → IsReadTo b more others rest
+pub one_more : (b : List ℕ) (flags more : ℕ) (keywords others : List (List ℕ))
+    (text word rest : List ℕ)
+    → IsReadTo b flags keywords text → Lacks 32 word → text ≡ word ++ 32 ∷ rest
+    → Adds flags keywords word more others → IsReadTo b more others rest
 one_more b flags more keywords others text word rest so_far lacks e adds = record {
   words = so_far.words;
   inside = so_far.inside;
@@ -145,7 +168,9 @@ one_more b flags more keywords others text word rest so_far lacks e adds = recor
   parts = so_far.parts ∙ ap (λ t. so_far.front ++ t) (first_piece 32 text word rest lacks e) ∙ sym (append_assoc so_far.front (word ∷ []) (split 32 rest));
 }
 
-pub last_one : (b : List ℕ) (flags more : ℕ) (keywords others : List (List ℕ)) (text word : List ℕ) → IsReadTo b flags keywords text → Lacks 32 word → text ≡ word → Adds flags keywords word more others → AreFlags more others b
+pub last_one : (b : List ℕ) (flags more : ℕ) (keywords others : List (List ℕ)) (text word : List ℕ)
+    → IsReadTo b flags keywords text → Lacks 32 word → text ≡ word
+    → Adds flags keywords word more others → AreFlags more others b
 last_one b flags more keywords others text word so_far lacks e adds =
     let parts : split 32 so_far.words ≡ so_far.front ++ word ∷ [] = so_far.parts ∙ ap (λ t. so_far.front ++ t) (one_piece 32 text word lacks e) in
     let joins : so_far.words ≡ spaced (so_far.front ++ word ∷ []) = sym (joined_split 32 so_far.words) ∙ ap (joined (32 ∷ [])) parts ∙ sym (spaced_joined (so_far.front ++ word ∷ [])) in
@@ -157,7 +182,8 @@ last_one b flags more keywords others text word so_far lacks e adds =
     }
 
 -- without words there are no flags
-pub empty_flags : (b words : List ℕ) → b ≡ 40 ∷ words ++ 41 ∷ [] → length words ≡ 0 → AreFlags 0 [] b
+pub empty_flags : (b words : List ℕ) → b ≡ 40 ∷ words ++ 41 ∷ [] → length words ≡ 0
+    → AreFlags 0 [] b
 empty_flags b (x ∷ words) inside e = absurd (omega (arith, e))
 empty_flags b [] inside e = record { words = []; each = All-nil IsFlag; named = refl; text = inside }
 
@@ -166,7 +192,10 @@ words_some [] some = absurd (omega (arith, some))
 words_some (b ∷ words) some = refl
 
 -- a word that is no flag
-pub bad_word : (b : List ℕ) (flags : ℕ) (keywords : List (List ℕ)) (text word : List ℕ) (rest : Option (Bor (List ℕ))) → IsReadTo b flags keywords text → Lacks 32 word → MatchOption rest (text ≡ word) (λ r. text ≡ word ++ 32 ∷ r.now)
+pub bad_word : (b : List ℕ) (flags : ℕ) (keywords : List (List ℕ)) (text word : List ℕ)
+    (rest : Option (Bor (List ℕ)))
+    → IsReadTo b flags keywords text → Lacks 32 word
+    → MatchOption rest (text ≡ word) (λ r. text ≡ word ++ 32 ∷ r.now)
     → (IsFlag word → ⊥) → (f : ℕ) (k : List (List ℕ)) → AreFlags f k b → ⊥
 bad_word b flags keywords text word rest so_far lacks parts none f k is = by_rest rest parts
   where
@@ -176,13 +205,15 @@ bad_word b flags keywords text word rest so_far lacks parts none f k is = by_res
     behind : (others : List (List ℕ)) → split 32 text ≡ word ∷ others → ⊥
     behind others e = none (All-head IsFlag word others (All-behind so_far.front (word ∷ others) (subst (All IsFlag) (whole ∙ ap (λ t. so_far.front ++ t) e) is.each)))
 
-    by_rest : (r : Option (Bor (List ℕ))) → MatchOption r (text ≡ word) (λ x. text ≡ word ++ 32 ∷ x.now) → ⊥
+    by_rest : (r : Option (Bor (List ℕ)))
+        → MatchOption r (text ≡ word) (λ x. text ≡ word ++ 32 ∷ x.now) → ⊥
     by_rest None p = behind [] (one_piece 32 text word lacks p)
     by_rest (Some x) p = behind (split 32 x.now) (first_piece 32 text word x.now lacks p)
 
 -- ---- parentheses
 
-pub inside_is : (b rest text : List ℕ) (n : ℕ) → take 1 b ≡ 40 ∷ [] → rest ≡ drop 1 b → drop n rest ≡ 41 ∷ [] → text ≡ take n rest → b ≡ 40 ∷ text ++ 41 ∷ []
+pub inside_is : (b rest text : List ℕ) (n : ℕ) → take 1 b ≡ 40 ∷ [] → rest ≡ drop 1 b
+    → drop n rest ≡ 41 ∷ [] → text ≡ take n rest → b ≡ 40 ∷ text ++ 41 ∷ []
 inside_is b rest text n first behind last before =
     let front : b ≡ 40 ∷ rest = sym (take-append-drop 1 b) ∙ ap (λ t. t ++ drop 1 b) first ∙ ap (λ t. 40 ∷ t) (sym behind) in
     let end : rest ≡ text ++ 41 ∷ [] = sym (take-append-drop n rest) ∙ ap (λ t. t ++ drop n rest) (sym before) ∙ ap (λ t. text ++ t) last in

@@ -33,7 +33,8 @@ fn is_in_set(set: &[Span], star: u32, n: u32) -> bool
 
 // The first end of a range that is no message number among so many.
 fn missing_of(span: Span, count: u32) -> Option<u32>
-    ensures { result ≡ find (λ n. nat_eq n 0 || nat_lt count n) (end_value count span.from ∷ end_value count span.to ∷ []) }
+    ensures { result ≡ find (λ n. nat_eq n 0 || nat_lt count n)
+        (end_value count span.from ∷ end_value count span.to ∷ []) }
 {
     let from = end_value(span.from, count);
     if from == 0 || from > count {
@@ -75,8 +76,12 @@ fn largest_uid(rows: &[Shown]) -> u32
 /// ranges, of which sets mostly have few.
 pub fn numbers(alloc: Global, set: &List<Span>, rows: &List<Shown>) -> Result<List<u32>, SetEnd>
     requires { length rows.now < 2 ^ 32 }
-    ensures missing { (view : View) (n : ℕ) → view.rows ≡ rows.now → missing_end set.now view ≡ Some n → result ≡ Err (set_end.NoMessage n) }
-    ensures named { (view : View) → view.rows ≡ rows.now → missing_end set.now view ≡ None → Chooses result (Ok (map (λ row. row.0) (named_by_number set.now view))) }
+    ensures missing { (view : View) (n : ℕ) → view.rows ≡ rows.now
+        → missing_end set.now view ≡ Some n
+        → result ≡ Err (set_end.NoMessage n) }
+    ensures named { (view : View) → view.rows ≡ rows.now
+        → missing_end set.now view ≡ None
+        → Chooses result (Ok (map (λ row. row.0) (named_by_number set.now view))) }
 {
     let count = rows.len() as u32;
     if let Some(n) = missing_end(set.as_slice(), count) {
@@ -98,7 +103,8 @@ pub fn numbers(alloc: Global, set: &List<Span>, rows: &List<Shown>) -> Result<Li
 /// sets mostly have few.
 pub fn uids(alloc: Global, set: &List<Span>, rows: &List<Shown>) -> Result<List<u32>, NoMemory>
     requires { length rows.now < 2 ^ 32 }
-    ensures { (view : View) → view.rows ≡ rows.now → IfOk result (λ numbers. numbers ≡ map (λ row. row.0) (named_by_uid set.now view)) }
+    ensures { (view : View) → view.rows ≡ rows.now
+        → IfOk result (λ numbers. numbers ≡ map (λ row. row.0) (named_by_uid set.now view)) }
 {
     let star = largest_uid(rows.as_slice());
     let mut numbers = List::new(alloc);

@@ -12,7 +12,8 @@ use std::alloc::Global;
 
 // What stands in parentheses.
 fn inside(b: &[u8]) -> Option<&[u8]>
-    ensures { MatchOption result ((text : List ℕ) → b.now ≡ 40 ∷ text ++ 41 ∷ [] → ⊥) (λ text. b.now ≡ 40 ∷ text.now ++ 41 ∷ []) }
+    ensures { MatchOption result ((text : List ℕ) → b.now ≡ 40 ∷ text ++ 41 ∷ [] → ⊥)
+        (λ text. b.now ≡ 40 ∷ text.now ++ 41 ∷ []) }
 {
     let Some(rest) = b.strip_prefix(b"(") else {
         return None;
@@ -57,7 +58,8 @@ fn add_flag(
     flags: u8,
     keywords: &mut List<Bytes>,
 ) -> Result<u8, ParseEnd>
-    ensures ok { IfOk result (λ more. IsFlag word.now × (with_flag (flags, keywords.old) word.now ≡ (more, keywords.new))) }
+    ensures ok { IfOk result (λ more. IsFlag word.now
+        × (with_flag (flags, keywords.old) word.now ≡ (more, keywords.new))) }
     ensures bad { OnBad result (IsFlag word.now → ⊥) }
 {
     if let Some(bit) = flag_bit(word) {
@@ -79,11 +81,14 @@ pub fn parse_flags(alloc: Global, b: &[u8]) -> Result<(u8, List<Bytes>), ParseEn
     // What is read is what the text says.
     ensures found { IfOk result (λ x. AreFlags x.0 x.1 b.now) }
     // The flags of a text are read.
-    ensures only { (flags : ℕ) (keywords : List (List ℕ)) → AreFlags flags keywords b.now → Answers result (Ok (flags, keywords)) }
+    ensures only { (flags : ℕ) (keywords : List (List ℕ)) → AreFlags flags keywords b.now
+        → Answers result (Ok (flags, keywords)) }
     // A bad text is of no flags.
-    ensures bad { OnBad result ((flags : ℕ) (keywords : List (List ℕ)) → AreFlags flags keywords b.now → ⊥) }
+    ensures bad { OnBad result
+        ((flags : ℕ) (keywords : List (List ℕ)) → AreFlags flags keywords b.now → ⊥) }
     // A text of no flags is bad.
-    ensures every { ((flags : ℕ) (keywords : List (List ℕ)) → AreFlags flags keywords b.now → ⊥) → Answers result (Err parse_end.Bad) }
+    ensures every { ((flags : ℕ) (keywords : List (List ℕ)) → AreFlags flags keywords b.now → ⊥)
+        → Answers result (Err parse_end.Bad) }
 {
     let Some(words) = inside(b) else {
         return Err(ParseEnd::Bad);

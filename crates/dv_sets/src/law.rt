@@ -5,7 +5,8 @@ ghost use Rattle.dv_formats.specs.Scripts.{AreFlags, IsSet};
 
 /// A text is of one set.
 pub fn one_set()
-    ensures { (set other : List Span) (b : List ℕ) → IsSet set b → IsSet other b → set ≡ other }
+    ensures { (set other : List Span) (b : List ℕ) → IsSet set b → IsSet other b
+        → set ≡ other }
 {}
 
 /// What is printed of a set that has a text is a text of that set, so that it is read back.
@@ -15,5 +16,8 @@ pub fn written_set_is_read()
 
 /// A text names one value of the flags and one list of keywords.
 pub fn one_flags()
-    ensures { (flags bits : ℕ) (keywords names : List (List ℕ)) (b : List ℕ) → AreFlags flags keywords b → AreFlags bits names b → (flags ≡ bits) × (keywords ≡ names) }
+    ensures { (flags bits : ℕ) (keywords names : List (List ℕ)) (b : List ℕ)
+        → AreFlags flags keywords b
+        → AreFlags bits names b
+        → (flags ≡ bits) × (keywords ≡ names) }
 {}

@@ -42,7 +42,8 @@ fn put_span(text: &mut Bytes, span: Span) -> Result<(), NoMemory>
 
 // Each range behind a comma.
 fn put_others(text: &mut Bytes, spans: &[Span]) -> Result<(), NoMemory>
-    ensures { OnOk result (text.new ≡ text.old ++ flat_map (λ span. 44 ∷ span_text span) spans.now) }
+    ensures { OnOk result
+        (text.new ≡ text.old ++ flat_map (λ span. 44 ∷ span_text span) spans.now) }
 {
     for span in spans {
         text.push(b',')?;
@@ -75,7 +76,8 @@ fn put_word(text: &mut Bytes, word: &[u8]) -> Result<(), NoMemory>
 }
 
 fn put_flag(text: &mut Bytes, flags: u8, bit: u8, name: &[u8]) -> Result<(), NoMemory>
-    ensures { OnOk result (text.new ≡ text.old ++ flat_map (λ word. word ++ 32 ∷ []) (flag_when flags bit name.now)) }
+    ensures { OnOk result (text.new
+        ≡ text.old ++ flat_map (λ word. word ++ 32 ∷ []) (flag_when flags bit name.now)) }
 {
     if flags & bit != 0 {
         put_word(text, name)?;
@@ -84,7 +86,8 @@ fn put_flag(text: &mut Bytes, flags: u8, bit: u8, name: &[u8]) -> Result<(), NoM
 }
 
 fn put_system_flags(text: &mut Bytes, flags: u8) -> Result<(), NoMemory>
-    ensures { OnOk result (text.new ≡ text.old ++ flat_map (λ word. word ++ 32 ∷ []) (flag_words flags)) }
+    ensures { OnOk result
+        (text.new ≡ text.old ++ flat_map (λ word. word ++ 32 ∷ []) (flag_words flags)) }
 {
     put_flag(text, flags, 1, b"\\Answered")?;
     put_flag(text, flags, 2, b"\\Flagged")?;
@@ -94,7 +97,8 @@ fn put_system_flags(text: &mut Bytes, flags: u8) -> Result<(), NoMemory>
 }
 
 fn put_keywords(text: &mut Bytes, keywords: &[Bytes]) -> Result<(), NoMemory>
-    ensures { OnOk result (text.new ≡ text.old ++ flat_map (λ word. word ++ 32 ∷ []) keywords.now) }
+    ensures { OnOk result
+        (text.new ≡ text.old ++ flat_map (λ word. word ++ 32 ∷ []) keywords.now) }
 {
     for keyword in keywords {
         put_word(text, keyword.as_slice())?;
@@ -104,7 +108,8 @@ fn put_keywords(text: &mut Bytes, keywords: &[Bytes]) -> Result<(), NoMemory>
 
 // Closes a list of words, and takes away the space behind the last one.
 fn close(text: Bytes) -> Result<Bytes, NoMemory>
-    ensures { (words : List (List ℕ)) → text ≡ 40 ∷ flat_map (λ word. word ++ 32 ∷ []) words → IfOk result (λ closed. closed ≡ codes "(" ++ spaced words ++ codes ")") }
+    ensures { (words : List (List ℕ)) → text ≡ 40 ∷ flat_map (λ word. word ++ 32 ∷ []) words
+        → IfOk result (λ closed. closed ≡ codes "(" ++ spaced words ++ codes ")") }
 {
     let len = text.len();
     let mut bytes = text.into_vec();

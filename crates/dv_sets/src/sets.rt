@@ -72,7 +72,8 @@ pub fn parse_set(alloc: Global, b: &[u8]) -> Result<List<Span>, ParseEnd>
     // A bad text is of no set.
     ensures bad { OnBad result ((set : List Span) → IsSet set b.now → ⊥) }
     // A text of no set is bad.
-    ensures every { ((set : List Span) → IsSet set b.now → ⊥) → Answers result (Err parse_end.Bad) }
+    ensures every { ((set : List Span) → IsSet set b.now → ⊥)
+        → Answers result (Err parse_end.Bad) }
 {
     let mut set = List::new(alloc);
     let mut text = b;

@@ -1,63 +1,21 @@
 -- What a crash may leave after one call more.
-use Rattle.std.proofs.Common.{◌≡◌, ◌⊎◌, ℕ, ◌+◌, ◌/◌, ◌<◌, ◌≤◌, Bool, true, false, cond, List, [], ◌∷◌, ◌++◌, length, map, Option, Some, None, Result, Ok, Err, OnOk, refl, sym, ◌∙◌, ap, subst, arith, inl, inr, ⊎_elim}
-use Rattle.std.specs.Prelude.{fold}
-use Rattle.std.proofs.lemmas.Bool.{eqb-true, eq-eqb}
-use Rattle.std.proofs.lemmas.List.{same_lists, get_or_default, length-take}
+use Rattle.std.proofs.Common.{◌≡◌, ◌⊎◌, ℕ, ◌<◌, ◌≤◌, Bool, true, false, cond, List, [], ◌∷◌, ◌++◌, length, map, Option, Some, None, Result, Ok, Err, OnOk, refl, sym, ◌∙◌, ap, subst, arith, inl, inr, ⊎_elim}
+use Rattle.std.proofs.lemmas.List.{same_lists, get_or_default}
 use Rattle.dv_shelf.specs.declared.shelf.Name.{Name}
 use Rattle.dv_shelf.specs.declared.shelf.Failed.{Failed}
 use Rattle.dv_shelf.specs.declared.record.Deed.{Deed}
 use Rattle.dv_shelf.specs.declared.record.Deed.TheVariants.{Write, Sync, Replace, Remove}
-use Rattle.dv_shelf.specs.Folders.{Folder, with_file, same_name, name_number, ChangesOnly, TornFile, IsEither}
+use Rattle.dv_shelf.specs.declared.record.Outcome.{Outcome}
+use Rattle.dv_shelf.specs.declared.record.Outcome.TheVariants.{Done, Hidden, Shown}
+use Rattle.dv_shelf.specs.Folders.{Folder, with_file, same_name, ChangesOnly, TornFile, IsEither}
 use Rattle.dv_shelf.specs.Crashes.{Follows, FollowsNone}
-use Rattle.dv_shelf.specs.Disks.{Made, Version, Gone, There, Versions, Disk, version_bytes, version_written, versions_then, settled, settled_version, stuck, as_read, disk_then, disk_after, new_disk, files_after}
-use Rattle.dv_shelf.specs.Images.{IsTornImage, IsFileImage, IsImageOfOne, IsOneImage, IsLoose, LeftBy}
+use Rattle.dv_shelf.specs.Disks.{Made, Version, Versions, Disk, version_written, versions_then, versions_put, settled, settled_version, stuck, as_read, disk_then, disk_after, files_after}
+use Rattle.dv_shelf.specs.Images.{IsFileImage, IsImageOfOne, IsOneImage, IsLoose, LeftBy}
 use Rattle.dv_shelf.proofs.DiskLemmas.{disk_more}
 use Rattle.dv_shelf.proofs.ShelfLemmas.{Grew, call_made, same_torn, sync_reads}
-use Rattle.dv_shelf.proofs.Torn.{one_name, patched_torn}
-use Rattle.dv_shelf.proofs.TornImages.{version_torn, furthest-push}
-
--- what a read gives is one of the images
-
-pub stuck_short : (done : Bool) (bytes : List ℕ) → length (stuck done bytes) ≤ length bytes
-stuck_short true bytes = omega arith
-stuck_short false bytes = omega (arith, length-take (length bytes / 2) bytes)
-
-whole_image : (bytes : List ℕ) → IsTornImage bytes (length bytes) [] bytes
-whole_image bytes = record { firm = λ k firm. refl; no_shorter = omega arith; no_longer = omega arith }
-
-settled_readable : (file : Option (List ℕ)) → IsFileImage (settled_version file) (version_bytes (settled_version file))
-settled_readable None = tt
-settled_readable (Some bytes) = whole_image bytes
-
-written_readable : (at n : ℕ) (stuck : List ℕ) (version : Version) → length stuck ≤ n → IsFileImage version (version_bytes version) → IsFileImage (version_written at n stuck version) (version_bytes (version_written at n stuck version))
-written_readable at n stuck Gone le is = let torn = patched_torn [] at stuck in record { firm = λ k firm. refl; no_shorter = omega arith; no_longer = omega (arith, torn.no_longer) }
-written_readable at n stuck (There bytes base written new) le is =
-    let torn = patched_torn bytes at stuck in
-    let more = furthest-push written (record { from = at; upto = at + n }) in
-    record { firm = λ k firm. refl; no_shorter = omega (arith, torn.no_shorter, is.no_shorter); no_longer = omega (arith, torn.no_longer, is.no_longer, more) }
-
-abbrev pub Readable : Versions → Type 0
-Readable versions = IsFileImage versions.first (as_read versions)
-
-then_readable : (deed : Deed) (done : Bool) (bytes : List ℕ) (versions : Versions) → Readable versions → Readable (versions_then deed done bytes versions)
-then_readable (Write at) done bytes versions is = written_readable at (length bytes) (stuck done bytes) versions.first (stuck_short done bytes) is
-then_readable Sync true bytes versions is = settled_readable (as_read versions)
-then_readable Sync false bytes versions is = is
-then_readable Replace true bytes versions is = settled_readable (Some bytes)
-then_readable Replace false bytes versions is = is
-then_readable Remove true bytes versions is = settled_readable None
-then_readable Remove false bytes versions is = is
-
-fold_readable : (calls : List Made) (disk : Disk) → ((n : Name) → Readable (disk n)) → (n : Name) → Readable (fold disk_then disk calls n)
-fold_readable [] disk is n = is n
-fold_readable (made ∷ calls) disk is n = fold_readable calls (disk_then disk made) (λ m. one (same_name made.name m) m (is m)) n
-  where
-    one : (b : Bool) (m : Name) → Readable (disk m) → Readable (cond b (versions_then made.deed made.done made.bytes (disk m)) (disk m))
-    one true m is = then_readable made.deed made.done made.bytes (disk m) is
-    one false m is = is
-
-pub readable : (calls : List Made) (n : Name) → Readable (disk_after calls n)
-readable calls n = fold_readable calls new_disk (λ m. tt) n
+use Rattle.dv_shelf.proofs.FolderLemmas.{Step, same_is, is_same, with_changes}
+use Rattle.dv_shelf.specs.Laws.{Readable, readable, stuck_short}
+use Rattle.dv_shelf.proofs.TornImages.{version_torn}
 
 -- a file without loose ranges has one image
 
@@ -77,7 +35,7 @@ pub settled_only : (file image : Option (List ℕ)) → IsOneImage (settled file
 settled_only file image is = ⊎_elim (settled_version_only file image) (λ none. absurd none) is
 
 -- an image of one of a file's states before a call, from which a step leads to an image after it
-abbrev pub Before : Versions → (Option (List ℕ) → Option (List ℕ) → Type 0) → Option (List ℕ) → Type 0
+abbrev pub Before : Versions → (Step) → Option (List ℕ) → Type 0
 Before versions step file = (old : Option (List ℕ)) × IsOneImage versions old × step old file
 
 others_torn : (at n : ℕ) (stuck : List ℕ) (versions : List Version) (file : Option (List ℕ)) → length stuck ≤ n → IsImageOfOne (map (version_written at n stuck) versions) file
@@ -86,9 +44,9 @@ others_torn at n stuck [] file le is = absurd is
 others_torn at n stuck (version ∷ versions) file le (inl is) = let was = version_torn at n stuck version file le is in (was.0, inl was.1, was.2)
 others_torn at n stuck (version ∷ versions) file le (inr is) = let was = others_torn at n stuck versions file le is in (was.0, inr was.1, was.2)
 
-write_before : (at : ℕ) (done : Bool) (bytes : List ℕ) (versions : Versions) (file : Option (List ℕ)) → IsOneImage (versions_then (Write at) done bytes versions) file → Before versions (TornFile at (length bytes)) file
-write_before at done bytes versions file (inl is) = let was = version_torn at (length bytes) (stuck done bytes) versions.first file (stuck_short done bytes) is in (was.0, inl was.1, was.2)
-write_before at done bytes versions file (inr is) = let was = others_torn at (length bytes) (stuck done bytes) versions.others file (stuck_short done bytes) is in (was.0, inr was.1, was.2)
+write_before : (at : ℕ) (outcome : Outcome) (bytes : List ℕ) (versions : Versions) (file : Option (List ℕ)) → IsOneImage (versions_then (Write at) outcome bytes versions) file → Before versions (TornFile at (length bytes)) file
+write_before at outcome bytes versions file (inl is) = let was = version_torn at (length bytes) (stuck outcome bytes) versions.first file (stuck_short outcome bytes) is in (was.0, inl was.1, was.2)
+write_before at outcome bytes versions file (inr is) = let was = others_torn at (length bytes) (stuck outcome bytes) versions.others file (stuck_short outcome bytes) is in (was.0, inr was.1, was.2)
 
 -- one state more
 one_more : (versions : List Version) (version : Version) (file : Option (List ℕ)) → IsImageOfOne (versions ++ version ∷ []) file → IsImageOfOne versions file ⊎ IsFileImage version file
@@ -106,28 +64,27 @@ added_before : (that : Option (List ℕ)) (versions : Versions) (file : Option (
 added_before that versions file readable (inl is) = (file, inl is, inl refl)
 added_before that versions file readable (inr is) = ⊎_elim (λ old. (file, inr old, inl refl)) (λ new. new_before that versions file readable (settled_version_only that file new)) (one_more versions.others (settled_version that) file is)
 
-replace_before : (done : Bool) (bytes : List ℕ) (versions : Versions) (file : Option (List ℕ)) → Readable versions → IsOneImage (versions_then Replace done bytes versions) file → Before versions (IsEither (Some bytes)) file
-replace_before true bytes versions file readable is = new_before (Some bytes) versions file readable (settled_only (Some bytes) file is)
-replace_before false bytes versions file readable is = added_before (Some bytes) versions file readable is
+put_before : (outcome : Outcome) (that : Option (List ℕ)) (versions : Versions) (file : Option (List ℕ)) → Readable versions
+    → IsOneImage (versions_put outcome that versions) file → Before versions (IsEither that) file
+put_before Done that versions file readable is = new_before that versions file readable (settled_only that file is)
+put_before Hidden that versions file readable is = added_before that versions file readable is
+put_before Shown that versions file readable (inl is) = new_before that versions file readable (settled_version_only that file is)
+put_before Shown that versions file readable (inr (inl old)) = (file, inl old, inl refl)
+put_before Shown that versions file readable (inr (inr old)) = (file, inr old, inl refl)
 
-remove_before : (done : Bool) (bytes : List ℕ) (versions : Versions) (file : Option (List ℕ)) → Readable versions → IsOneImage (versions_then Remove done bytes versions) file → Before versions (IsEither None) file
-remove_before true bytes versions file readable is = new_before None versions file readable (settled_only None file is)
-remove_before false bytes versions file readable is = added_before None versions file readable is
-
-sync_before : (done : Bool) (bytes : List ℕ) (versions : Versions) (file : Option (List ℕ)) → Readable versions → IsOneImage (versions_then Sync done bytes versions) file → IsOneImage versions file
-sync_before true bytes versions file readable is = subst (IsOneImage versions) (sym (settled_only (as_read versions) file is)) (inl readable)
-sync_before false bytes versions file readable is = is
+sync_before : (outcome : Outcome) (bytes : List ℕ) (versions : Versions) (file : Option (List ℕ)) → Readable versions
+    → IsOneImage (versions_then Sync outcome bytes versions) file → IsOneImage versions file
+sync_before Done bytes versions file readable is = subst (IsOneImage versions) (sym (settled_only (as_read versions) file is)) (inl readable)
+sync_before Hidden bytes versions file readable is = is
+sync_before Shown bytes versions file readable is = is
 
 -- an image after a call is one before it, but for the one file
 
-same_is : (a b : Name) → same_name a b ≡ true → a ≡ b
-same_is a b is = one_name a b (eqb-true _ _ is)
-
-pub image_there : (calls : List Made) (made : Made) (c : Folder) → LeftBy (calls ++ made ∷ []) c → IsOneImage (versions_then made.deed made.done made.bytes (disk_after calls made.name)) (c made.name)
+pub image_there : (calls : List Made) (made : Made) (c : Folder) → LeftBy (calls ++ made ∷ []) c → IsOneImage (versions_then made.deed made.outcome made.bytes (disk_after calls made.name)) (c made.name)
 unfolding LeftBy
 image_there calls made c left =
     let here : IsOneImage (disk_then (disk_after calls) made made.name) (c made.name) = subst (λ (d : Disk). IsOneImage (d made.name) (c made.name)) (disk_more calls made) (left made.name) in
-    rw (eq-eqb (name_number made.name) (name_number made.name) refl) at here
+    rw (is_same made.name made.name refl) at here
 
 image_else : (calls : List Made) (made : Made) (c : Folder) (n : Name) → same_name made.name n ≡ false → LeftBy (calls ++ made ∷ []) c → IsOneImage (disk_after calls n) (c n)
 unfolding LeftBy
@@ -144,71 +101,61 @@ image_with calls made c old left is n = by_name (same_name made.name n) refl
     by_name true same = subst (λ (m : Name). IsOneImage (disk_after calls m) old) (same_is made.name n same) is
     by_name false other = image_else calls made c n other left
 
-with_changes : (c : Folder) (name : Name) (old : Option (List ℕ)) (step : Option (List ℕ) → Option (List ℕ) → Type 0) → step old (c name) → ChangesOnly name step (with_file c name old) c
-with_changes c name old step here = record {
-  there = rw (eq-eqb (name_number name) (name_number name) refl) here;
-  others = λ n other. sym (untouched (same_name name n) old (c n) (λ is. other (sym (same_is name n is))));
-}
-  where
-    untouched : (t : Bool) (x y : Option (List ℕ)) → (t ≡ true → ⊥) → cond t x y ≡ y
-    untouched true x y never = absurd (never refl)
-    untouched false x y never = refl
-
-step_follows : (calls : List Made) (made : Made) (step : Option (List ℕ) → Option (List ℕ) → Type 0)
-    → ((file : Option (List ℕ)) → IsOneImage (versions_then made.deed made.done made.bytes (disk_after calls made.name)) file → Before (disk_after calls made.name) step file)
+step_follows : (calls : List Made) (made : Made) (step : Step)
+    → ((file : Option (List ℕ)) → IsOneImage (versions_then made.deed made.outcome made.bytes (disk_after calls made.name)) file → Before (disk_after calls made.name) step file)
     → Follows (ChangesOnly made.name step) (LeftBy calls) (LeftBy (calls ++ made ∷ []))
 step_follows calls made step back c left =
     let was = back (c made.name) (image_there calls made c left) in
-    (with_file c made.name was.0, image_with calls made c was.0 left was.1, with_changes c made.name was.0 step was.2)
+    (with_file c made.name was.0, image_with calls made c was.0 left was.1, with_changes c made.name step was.0 was.2)
 
-stays_follows : (calls now : List Made) (name : Name) (step : Option (List ℕ) → Option (List ℕ) → Type 0) → ((file : Option (List ℕ)) → step file file) → now ≡ calls → Follows (ChangesOnly name step) (LeftBy calls) (LeftBy now)
+stays_follows : (calls now : List Made) (name : Name) (step : Step) → ((file : Option (List ℕ)) → step file file) → now ≡ calls → Follows (ChangesOnly name step) (LeftBy calls) (LeftBy now)
 stays_follows calls now name step same is c left = (c, subst (λ (l : List Made). LeftBy l c) is left, record { there = same (c name); others = λ n other. refl })
 
 -- what a crash may leave after each writing call
 
-crash : (r : Result (Unit {0}) Failed) (old new : List Made) (name : Name) (deed : Deed) (bytes : List ℕ) (step : Option (List ℕ) → Option (List ℕ) → Type 0) → ((file : Option (List ℕ)) → step file file)
-    → ((done : Bool) (file : Option (List ℕ)) → IsOneImage (versions_then deed done bytes (disk_after old name)) file → Before (disk_after old name) step file)
+crash : (r : Result (Unit {0}) Failed) (old new : List Made) (name : Name) (deed : Deed) (bytes : List ℕ) (step : Step) → ((file : Option (List ℕ)) → step file file)
+    → ((outcome : Outcome) (file : Option (List ℕ)) → IsOneImage (versions_then deed outcome bytes (disk_after old name)) file → Before (disk_after old name) step file)
     → Grew r old new name deed bytes → Follows (ChangesOnly name step) (LeftBy old) (LeftBy new)
 crash (Ok u) old new name deed bytes step same back grew =
-    subst (λ (l : List Made). Follows (ChangesOnly name step) (LeftBy old) (LeftBy l)) (sym grew.ok) (step_follows old (call_made name deed bytes true) step (back true))
+    subst (λ (l : List Made). Follows (ChangesOnly name step) (LeftBy old) (LeftBy l)) (sym grew.ok) (step_follows old (call_made name deed bytes Done) step (back Done))
 crash (Err e) old new name deed bytes step same back grew =
-    ⊎_elim (stays_follows old new name step same) (λ more. subst (λ (l : List Made). Follows (ChangesOnly name step) (LeftBy old) (LeftBy l)) (sym more) (step_follows old (call_made name deed bytes false) step (back false))) grew.err
+    ⊎_elim (stays_follows old new name step same) (λ more. subst (λ (l : List Made). Follows (ChangesOnly name step) (LeftBy old) (LeftBy l)) (sym more.1) (step_follows old (call_made name deed bytes more.0) step (back more.0))) grew.err
 
 pub write_crash : (r : Result (Unit {0}) Failed) (old new : List Made) (name : Name) (at : ℕ) (bytes : List ℕ) → Grew r old new name (Write at) bytes → Follows (ChangesOnly name (TornFile at (length bytes))) (LeftBy old) (LeftBy new)
-write_crash r old new name at bytes grew = crash r old new name (Write at) bytes (TornFile at (length bytes)) (same_torn at (length bytes)) (λ done file. write_before at done bytes (disk_after old name) file) grew
+write_crash r old new name at bytes grew = crash r old new name (Write at) bytes (TornFile at (length bytes)) (same_torn at (length bytes)) (λ outcome file. write_before at outcome bytes (disk_after old name) file) grew
 
 pub replace_crash : (r : Result (Unit {0}) Failed) (old new : List Made) (name : Name) (bytes : List ℕ) → Grew r old new name Replace bytes → Follows (ChangesOnly name (IsEither (Some bytes))) (LeftBy old) (LeftBy new)
-replace_crash r old new name bytes grew = crash r old new name Replace bytes (IsEither (Some bytes)) (λ file. inl refl) (λ done file. replace_before done bytes (disk_after old name) file (readable old name)) grew
+replace_crash r old new name bytes grew = crash r old new name Replace bytes (IsEither (Some bytes)) (λ file. inl refl) (λ outcome file. put_before outcome (Some bytes) (disk_after old name) file (readable old name)) grew
 
 pub remove_crash : (r : Result (Unit {0}) Failed) (old new : List Made) (name : Name) (bytes : List ℕ) → Grew r old new name Remove bytes → Follows (ChangesOnly name (IsEither None)) (LeftBy old) (LeftBy new)
-remove_crash r old new name bytes grew = crash r old new name Remove bytes (IsEither None) (λ file. inl refl) (λ done file. remove_before done bytes (disk_after old name) file (readable old name)) grew
+remove_crash r old new name bytes grew = crash r old new name Remove bytes (IsEither None) (λ file. inl refl) (λ outcome file. put_before outcome None (disk_after old name) file (readable old name)) grew
 
 -- a sync adds no image
-sync_one : (old : List Made) (name : Name) (bytes : List ℕ) (done : Bool) → FollowsNone (LeftBy old) (LeftBy (old ++ call_made name Sync bytes done ∷ []))
+sync_one : (old : List Made) (name : Name) (bytes : List ℕ) (outcome : Outcome) → FollowsNone (LeftBy old) (LeftBy (old ++ call_made name Sync bytes outcome ∷ []))
 unfolding LeftBy
-sync_one old name bytes done c left n = by_name (same_name name n) refl
+sync_one old name bytes outcome c left n = by_name (same_name name n) refl
   where
     by_name : (b : Bool) → same_name name n ≡ b → IsOneImage (disk_after old n) (c n)
-    by_name true same = subst (λ (m : Name). IsOneImage (disk_after old m) (c m)) (same_is name n same) (sync_before done bytes (disk_after old name) (c name) (readable old name) (image_there old (call_made name Sync bytes done) c left))
-    by_name false other = image_else old (call_made name Sync bytes done) c n other left
+    by_name true same = subst (λ (m : Name). IsOneImage (disk_after old m) (c m)) (same_is name n same) (sync_before outcome bytes (disk_after old name) (c name) (readable old name) (image_there old (call_made name Sync bytes outcome) c left))
+    by_name false other = image_else old (call_made name Sync bytes outcome) c n other left
 
 pub sync_crash : (r : Result (Unit {0}) Failed) (old new : List Made) (name : Name) (bytes : List ℕ) → Grew r old new name Sync bytes → FollowsNone (LeftBy old) (LeftBy new)
-sync_crash (Ok u) old new name bytes grew = subst (λ (l : List Made). FollowsNone (LeftBy old) (LeftBy l)) (sym grew.ok) (sync_one old name bytes true)
+sync_crash (Ok u) old new name bytes grew = subst (λ (l : List Made). FollowsNone (LeftBy old) (LeftBy l)) (sym grew.ok) (sync_one old name bytes Done)
 sync_crash (Err e) old new name bytes grew =
-    ⊎_elim (λ same. subst (λ (l : List Made). FollowsNone (LeftBy old) (LeftBy l)) (sym same) (λ c left. left)) (λ more. subst (λ (l : List Made). FollowsNone (LeftBy old) (LeftBy l)) (sym more) (sync_one old name bytes false)) grew.err
+    ⊎_elim (λ same. subst (λ (l : List Made). FollowsNone (LeftBy old) (LeftBy l)) (sym same) (λ c left. left)) (λ more. subst (λ (l : List Made). FollowsNone (LeftBy old) (LeftBy l)) (sym more.1) (sync_one old name bytes more.0)) grew.err
 
 -- what is durable after Ok
 
 pub replace_durable : (r : Result (Unit {0}) Failed) (old new : List Made) (name : Name) (bytes : List ℕ) → Grew r old new name Replace bytes → OnOk r ((c : Folder) → LeftBy new c → c name ≡ Some bytes)
-replace_durable (Ok u) old new name bytes grew = λ c left. settled_only (Some bytes) (c name) (image_there old (call_made name Replace bytes true) c (subst (λ (l : List Made). LeftBy l c) grew.ok left))
+replace_durable (Ok u) old new name bytes grew = λ c left. settled_only (Some bytes) (c name) (image_there old (call_made name Replace bytes Done) c (subst (λ (l : List Made). LeftBy l c) grew.ok left))
 replace_durable (Err e) old new name bytes grew = tt
 
 pub remove_durable : (r : Result (Unit {0}) Failed) (old new : List Made) (name : Name) (bytes : List ℕ) → Grew r old new name Remove bytes → OnOk r ((c : Folder) → LeftBy new c → c name ≡ None)
-remove_durable (Ok u) old new name bytes grew = λ c left. settled_only None (c name) (image_there old (call_made name Remove bytes true) c (subst (λ (l : List Made). LeftBy l c) grew.ok left))
+remove_durable (Ok u) old new name bytes grew = λ c left. settled_only None (c name) (image_there old (call_made name Remove bytes Done) c (subst (λ (l : List Made). LeftBy l c) grew.ok left))
 remove_durable (Err e) old new name bytes grew = tt
 
 pub sync_durable : (r : Result (Unit {0}) Failed) (old new : List Made) (name : Name) (bytes : List ℕ) → Grew r old new name Sync bytes → OnOk r ((c : Folder) → LeftBy new c → c name ≡ files_after new name)
 sync_durable (Ok u) old new name bytes grew = λ c left.
-    let was : c name ≡ files_after old name = settled_only (files_after old name) (c name) (image_there old (call_made name Sync bytes true) c (subst (λ (l : List Made). LeftBy l c) grew.ok left)) in
+    let was : c name ≡ files_after old name = settled_only (files_after old name) (c name) (image_there old (call_made name Sync bytes Done) c (subst (λ (l : List Made). LeftBy l c) grew.ok left)) in
     was ∙ sym (ap (λ (f : Folder). f name) (sync_reads (Ok u) old new name bytes grew))
 sync_durable (Err e) old new name bytes grew = tt

@@ -1,29 +1,22 @@
 -- Which files are there.
-use Rattle.std.proofs.Common.{◌≡◌, ◌≢◌, ◌⊎◌, ℕ, ◌+◌, ◌<◌, suc, zero, Bool, true, false, List, [], ◌∷◌, ◌++◌, length, take, map, fold, get_or, is_some, IsSome, Contains, refl, sym, ap, subst, arith, inl, inr, ⊎_elim}
+use Rattle.std.proofs.Common.{◌≡◌, ◌≢◌, ◌⊎◌, ℕ, ◌+◌, ◌<◌, suc, zero, Bool, true, false, List, [], ◌∷◌, ◌++◌, length, take, map, fold, get_or, is_some, IsSome, Contains, refl, sym, subst, arith, inl, inr, ⊎_elim}
 use Rattle.std.specs.Prelude.{AllPairs}
-use Rattle.std.proofs.lemmas.Bool.{eqb-true, eq-eqb}
 use Rattle.std.proofs.lemmas.List.{map-append, take_more}
 use Rattle.std.proofs.lemmas.List.Elements.{Contains-append_right, Contains-append_left, Contains-push, Contains-push_cases}
 use Rattle.std.proofs.lemmas.List.Quantifiers.{all_pairs_push}
 use Rattle.dv_shelf.specs.declared.shelf.Name.{Name}
 use Rattle.dv_shelf.specs.declared.record.Call.{Call}
-use Rattle.dv_shelf.specs.Folders.{Folder, Lists, same_name, has_name, name_number, names_then}
+use Rattle.dv_shelf.specs.Folders.{Folder, Lists, same_name, has_name, names_then}
 use Rattle.dv_shelf.specs.Disks.{Disk, disk_then, new_disk, files_after, as_read}
 use Rattle.dv_shelf.specs.Records.{made_call}
 use Rattle.dv_shelf.specs.Samples.{AreNamesWith}
-use Rattle.dv_shelf.proofs.Torn.{one_name}
+use Rattle.dv_shelf.proofs.FolderLemmas.{same_is, is_same}
 
 -- the names of the files among those that calls name
 pub record ListsOf (folder : Folder) (calls : List Call) (names : List Name) : Type 0 where
   pub there : (n : Name) → Contains names n → IsSome (folder n)
   pub all : (n : Name) → IsSome (folder n) → Contains (map (λ c. c.name) calls) n → Contains names n
   pub once : AllPairs (λ a b. a ≢ b) names
-
-same_is : (a b : Name) → same_name a b ≡ true → a ≡ b
-same_is a b is = one_name a b (eqb-true _ _ is)
-
-is_same : (a b : Name) → a ≡ b → same_name a b ≡ true
-is_same a b is = eq-eqb (name_number a) (name_number b) (ap name_number is)
 
 has-Contains : (names : List Name) (name : Name) → has_name names name ≡ true → Contains names name
 has-Contains [] name is = absurd (cc)

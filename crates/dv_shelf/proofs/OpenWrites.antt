@@ -3,18 +3,20 @@ use Rattle.std.proofs.Common.{◌≡◌, ◌⊎◌, ℕ, ◌+◌, ◌<◌, ◌�
 use Rattle.std.specs.Prelude.{fold, unwrap_or}
 use Rattle.std.specs.List.{list_any}
 use Rattle.std.proofs.lemmas.List.{take-append-drop, drop_more}
-use Rattle.std.proofs.lemmas.Bool.{eqb-true, eq-eqb}
 use Rattle.dv_shelf.specs.declared.shelf.Name.{Name}
 use Rattle.dv_shelf.specs.declared.record.Deed.{Deed}
 use Rattle.dv_shelf.specs.declared.record.Deed.TheVariants.{Write, Sync, Replace, Remove}
-use Rattle.dv_shelf.specs.Folders.{with_file, patched, same_name, name_number}
+use Rattle.dv_shelf.specs.declared.record.Outcome.{Outcome}
+use Rattle.dv_shelf.specs.declared.record.Outcome.TheVariants.{Done, Hidden, Shown}
+use Rattle.dv_shelf.specs.Folders.{with_file, patched, same_name}
 use Rattle.dv_shelf.specs.Disks.{Made, Range, Version, Gone, There, Versions, Disk, version_bytes, version_written, versions_then, stuck, disk_then, disk_after, new_disk, files_after, settles_file}
 use Rattle.dv_shelf.specs.Images.{Covers, furthest, IsFileImage, IsOneImage, LeftBy, settles}
 use Rattle.dv_shelf.specs.Samples.{IsUnsynced, torn_file}
 use Rattle.dv_shelf.proofs.DiskLemmas.{fold-append}
-use Rattle.dv_shelf.proofs.ImageLemmas.{readable, stuck_short}
-use Rattle.dv_shelf.proofs.Torn.{one_name, patched_torn}
-use Rattle.dv_shelf.proofs.TornImages.{furthest-push, patched_elsewhere}
+use Rattle.dv_shelf.specs.Laws.{readable, stuck_short, furthest-push}
+use Rattle.dv_shelf.proofs.FolderLemmas.{same_is, is_same}
+use Rattle.dv_shelf.proofs.Torn.{patched_torn}
+use Rattle.dv_shelf.proofs.TornImages.{patched_elsewhere}
 
 -- the files as a read gives them, with an image at one name, are an image
 pub image_put : (calls : List Made) (name : Name) (file : Option (List ℕ)) → IsOneImage (disk_after calls name) file → LeftBy calls (with_file (files_after calls) name file)
@@ -22,7 +24,7 @@ unfolding LeftBy
 image_put calls name file is n = by_name (same_name name n) refl
   where
     by_name : (b : Bool) → same_name name n ≡ b → IsOneImage (disk_after calls n) (cond b file (files_after calls n))
-    by_name true same = subst (λ (m : Name). IsOneImage (disk_after calls m) file) (one_name name n (eqb-true _ _ same)) is
+    by_name true same = subst (λ (m : Name). IsOneImage (disk_after calls m) file) (same_is name n same) is
     by_name false away = inl (readable calls n)
 
 -- what a write keeps of a state, calls that don't settle the file keep
@@ -45,17 +47,22 @@ first_keeps P keeps (made ∷ calls) disk name none is = first_keeps P keeps cal
         or_left true b is = is
         or_left false b is = refl
 
-    one : (deed : Deed) (done : Bool) (bytes : List ℕ) (versions : Versions) → settles_file name made.name deed done ≡ false → same_name made.name name ≡ true → P versions.first → P (versions_then deed done bytes versions).first
-    one (Write at) done bytes versions none same is = keeps versions.first at (length bytes) (stuck done bytes) (stuck_short done bytes) is
-    one Sync false bytes versions none same is = is
-    one Replace false bytes versions none same is = is
-    one Remove false bytes versions none same is = is
-    one Sync true bytes versions none same is = absurd (cc)
-    one Replace true bytes versions none same is = absurd (cc)
-    one Remove true bytes versions none same is = absurd (cc)
+    one : (deed : Deed) (outcome : Outcome) (bytes : List ℕ) (versions : Versions)
+        → settles_file name made.name deed outcome ≡ false → same_name made.name name ≡ true
+        → P versions.first → P (versions_then deed outcome bytes versions).first
+    one (Write at) outcome bytes versions none same is = keeps versions.first at (length bytes) (stuck outcome bytes) (stuck_short outcome bytes) is
+    one Sync Hidden bytes versions none same is = is
+    one Sync Shown bytes versions none same is = is
+    one Replace Hidden bytes versions none same is = is
+    one Remove Hidden bytes versions none same is = is
+    one Sync Done bytes versions none same is = absurd (cc)
+    one Replace Done bytes versions none same is = absurd (cc)
+    one Replace Shown bytes versions none same is = absurd (cc)
+    one Remove Done bytes versions none same is = absurd (cc)
+    one Remove Shown bytes versions none same is = absurd (cc)
 
-    by_name : (b : Bool) → same_name made.name name ≡ b → P (cond b (versions_then made.deed made.done made.bytes (disk name)) (disk name)).first
-    by_name true same = one made.deed made.done made.bytes (disk name) here_none same is
+    by_name : (b : Bool) → same_name made.name name ≡ b → P (cond b (versions_then made.deed made.outcome made.bytes (disk name)) (disk name)).first
+    by_name true same = one made.deed made.outcome made.bytes (disk name) here_none same is
     by_name false away = is
 
 Covers-more : (written : List Range) (range : Range) (k : ℕ) → Covers written k → Covers (written ++ range ∷ []) k
@@ -141,14 +148,14 @@ over_written at bytes (There old base ranges new) is written =
 -- what holds of a state just after an unsynced write, and is kept by writes, holds of the state now
 after_keeps : (P : Version → Type 0) → ((version : Version) (at n : ℕ) (bytes : List ℕ) → length bytes ≤ n → P version → P (version_written at n bytes version))
     → (calls : List Made) (i : ℕ) (made : Made) (at : ℕ) → i < length calls → IsUnsynced calls i made at
-    → P (version_written at (length made.bytes) (stuck made.done made.bytes) (disk_after (take i calls) made.name).first) → P (disk_after calls made.name).first
+    → P (version_written at (length made.bytes) (stuck made.outcome made.bytes) (disk_after (take i calls) made.name).first) → P (disk_after calls made.name).first
 after_keeps P keeps calls i made at lt unsynced is =
     let name = made.name in
     let later = drop (i + 1) calls in
     let split : calls ≡ take i calls ++ made ∷ later = sym (take-append-drop i calls) ∙ ap (λ (l : List Made). take i calls ++ l) (drop_more calls i made lt ∙ ap (λ (m : Made). m ∷ later) unsynced.there) in
     let parts : disk_after calls ≡ fold disk_then (disk_then (disk_after (take i calls)) made) later = ap disk_after split ∙ fold-append disk_then new_disk (take i calls) (made ∷ later) in
-    let Q : Deed → Type 0 = λ deed. P (versions_then deed made.done made.bytes (disk_after (take i calls) name)).first in
-    let here : P (disk_then (disk_after (take i calls)) made name).first = rw (eq-eqb (name_number name) (name_number name) refl) (subst Q (sym unsynced.write) is) in
+    let Q : Deed → Type 0 = λ deed. P (versions_then deed made.outcome made.bytes (disk_after (take i calls) name)).first in
+    let here : P (disk_then (disk_after (take i calls)) made name).first = rw (is_same name name refl) (subst Q (sym unsynced.write) is) in
     subst (λ (d : Disk). P (d name).first) (sym parts) (first_keeps P keeps later (disk_then (disk_after (take i calls)) made) name unsynced.later here)
 
 -- the bytes before an unsynced write are an image
@@ -156,12 +163,12 @@ pub old_image : (calls : List Made) (i : ℕ) (made : Made) (at : ℕ) → i < l
 old_image calls i made at lt unsynced =
     let file = files_after (take i calls) made.name in
     inl (after_keeps (λ v. IsFileImage v file) (image_keeps file) calls i made at lt unsynced
-    (image_keeps file (disk_after (take i calls) made.name).first at (length made.bytes) (stuck made.done made.bytes) (stuck_short made.done made.bytes) (readable (take i calls) made.name)))
+    (image_keeps file (disk_after (take i calls) made.name).first at (length made.bytes) (stuck made.outcome made.bytes) (stuck_short made.outcome made.bytes) (readable (take i calls) made.name)))
 
 -- and so are its bytes with any first one
 pub torn_image : (calls : List Made) (i : ℕ) (made : Made) (at : ℕ) → i < length calls → IsUnsynced calls i made at → (first : ℕ) → IsOneImage (disk_after calls made.name) (torn_file calls made at first)
 torn_image calls i made at lt unsynced first =
     let written : IsWritten at (length made.bytes) (disk_after calls made.name).first =
-    after_keeps (IsWritten at (length made.bytes)) (written_keeps at (length made.bytes)) calls i made at lt unsynced (written_here at (length made.bytes) (disk_after (take i calls) made.name).first (stuck made.done made.bytes)) in
+    after_keeps (IsWritten at (length made.bytes)) (written_keeps at (length made.bytes)) calls i made at lt unsynced (written_here at (length made.bytes) (disk_after (take i calls) made.name).first (stuck made.outcome made.bytes)) in
     let long : length made.bytes ≡ length (first ∷ drop 1 made.bytes) = omega (arith, length-drop 1 made.bytes, unsynced.some) in
     inl (over_written at (first ∷ drop 1 made.bytes) (disk_after calls made.name).first (readable calls made.name) (subst (λ (n : ℕ). IsWritten at n (disk_after calls made.name).first) long written))

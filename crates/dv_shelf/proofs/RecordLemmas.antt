@@ -15,7 +15,7 @@ same_call bytes more call le =
     let long : call.len ≤ length (drop call.from bytes) = grind (arith, length-drop) in
     let same : take call.len (drop call.from (bytes ++ more)) ≡ take call.len (drop call.from bytes) =
     ap (take call.len) (drop-append-le call.from bytes more (omega arith)) ∙ take-append-le call.len (drop call.from bytes) more long in
-    let P : List ℕ → Made = λ b. record { name = call.name; deed = call.deed; done = call.done; bytes = b } in
+    let P : List ℕ → Made = λ b. record { name = call.name; deed = call.deed; outcome = call.outcome; bytes = b } in
     ap P same
 
 pub same_calls : (bytes more : List ℕ) (calls : List Call) → ((call : Call) → Contains calls call → call.from + call.len ≤ length bytes) → map (made_call (bytes ++ more)) calls ≡ map (made_call bytes) calls
@@ -27,9 +27,9 @@ same_calls bytes more (call ∷ calls) within =
 
 -- a new call has the bytes behind the old ones
 pub one_call_more : (bytes more : List ℕ) (calls : List Call) (call : Call) → ((call : Call) → Contains calls call → call.from + call.len ≤ length bytes) → call.from ≡ length bytes → call.len ≡ length more
-    → map (made_call (bytes ++ more)) (calls ++ call ∷ []) ≡ map (made_call bytes) calls ++ record { name = call.name; deed = call.deed; done = call.done; bytes = more } ∷ []
+    → map (made_call (bytes ++ more)) (calls ++ call ∷ []) ≡ map (made_call bytes) calls ++ record { name = call.name; deed = call.deed; outcome = call.outcome; bytes = more } ∷ []
 one_call_more bytes more calls call within from len =
-    let P : List ℕ → List Made = λ b. map (made_call bytes) calls ++ record { name = call.name; deed = call.deed; done = call.done; bytes = b } ∷ [] in
+    let P : List ℕ → List Made = λ b. map (made_call bytes) calls ++ record { name = call.name; deed = call.deed; outcome = call.outcome; bytes = b } ∷ [] in
     let there : take call.len (drop call.from (bytes ++ more)) ≡ more = ap (take call.len) (drop_at bytes more call.from (sym from)) ∙ take_all call.len more (omega arith) in
     map-append (made_call (bytes ++ more)) calls (call ∷ [])
     ∙ ap (λ (l : List Made). l ++ made_call (bytes ++ more) call ∷ []) (same_calls bytes more calls within)
@@ -55,10 +55,10 @@ drop-map f zero xs = refl
 drop-map f (suc n) [] = refl
 drop-map f (suc n) (x ∷ xs) = drop-map f n xs
 
-any_settles-map : (bytes : List ℕ) (calls : List Call) (name : Name) → list_any (settles name) (map (made_call bytes) calls) ≡ list_any (λ c. settles_file name c.name c.deed c.done) calls
+any_settles-map : (bytes : List ℕ) (calls : List Call) (name : Name) → list_any (settles name) (map (made_call bytes) calls) ≡ list_any (λ c. settles_file name c.name c.deed c.outcome) calls
 any_settles-map bytes [] name = refl
-any_settles-map bytes (call ∷ calls) name = ap (λ (b : Bool). settles_file name call.name call.deed call.done || b) (any_settles-map bytes calls name)
+any_settles-map bytes (call ∷ calls) name = ap (λ (b : Bool). settles_file name call.name call.deed call.outcome || b) (any_settles-map bytes calls name)
 
 -- the calls of a record and their bytes settle the same files
-pub later_settles : (bytes : List ℕ) (calls : List Call) (from : ℕ) (name : Name) → list_any (settles name) (drop from (map (made_call bytes) calls)) ≡ list_any (λ c. settles_file name c.name c.deed c.done) (drop from calls)
+pub later_settles : (bytes : List ℕ) (calls : List Call) (from : ℕ) (name : Name) → list_any (settles name) (drop from (map (made_call bytes) calls)) ≡ list_any (λ c. settles_file name c.name c.deed c.outcome) (drop from calls)
 later_settles bytes calls from name = ap (list_any (settles name)) (drop-map (made_call bytes) from calls) ∙ any_settles-map bytes (drop from calls) name

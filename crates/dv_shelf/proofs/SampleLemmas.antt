@@ -3,13 +3,12 @@ use Rattle.std.proofs.Common.{◌≡◌, ℕ, ◌+◌, ◌<◌, ◌≤◌, Bool,
 use Rattle.std.proofs.Math.Path.{fun_ext}
 use Rattle.std.proofs.lemmas.List.{take_more, take_all}
 use Rattle.std.proofs.lemmas.List.Folds.{list_any-append}
-use Rattle.std.proofs.lemmas.Bool.{eqb-true}
 use Rattle.dv_shelf.specs.declared.shelf.Name.{Name}
 use Rattle.dv_shelf.specs.Folders.{Folder, folder_of, no_files, with_file, file_list, same_name, has_name}
 use Rattle.dv_shelf.proofs.DiskLemmas.{fold-append}
 use Rattle.dv_shelf.proofs.NameLemmas.{has_none}
 use Rattle.dv_shelf.specs.Samples.{AreNamesWith}
-use Rattle.dv_shelf.proofs.Torn.{one_name}
+use Rattle.dv_shelf.proofs.FolderLemmas.{same_is}
 
 -- a list that shows the files of these names and no others
 abbrev pub ShowsOnly : Folder → List Name → List (Name × List ℕ) → Type 0
@@ -17,9 +16,6 @@ ShowsOnly folder names image = (n : Name) → folder_of image n ≡ cond (has_na
 
 pub shows_none : (folder : Folder) → ShowsOnly folder [] []
 shows_none folder n = refl
-
-same_is : (a b : Name) → same_name a b ≡ true → a ≡ b
-same_is a b is = one_name a b (eqb-true _ _ is)
 
 has-push : (names : List Name) (other n : Name) (b : Bool) → same_name other n ≡ b → has_name (names ++ other ∷ []) n ≡ has_name names n || b
 has-push names other n b is = list_any-append (λ m. same_name m n) names (other ∷ []) ∙ ap (λ (t : Bool). has_name names n || t) (or_false (same_name other n) ∙ is)

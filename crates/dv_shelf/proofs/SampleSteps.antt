@@ -1,5 +1,5 @@
 -- Sample images, call by call.
-use Rattle.std.proofs.Common.{◌≡◌, ◌⊎◌, ℕ, ◌+◌, ◌<◌, ◌≤◌, suc, zero, Bool, true, false, not, ◌&&◌, nat_lt, List, [], ◌∷◌, ◌++◌, length, take, drop, map, get_or, Option, Some, refl, sym, ◌∙◌, ap, subst, arith, inl, inr, ⊎_elim, length-append, length-drop}
+use Rattle.std.proofs.Common.{◌≡◌, ◌⊎◌, ℕ, ◌+◌, ◌<◌, ◌≤◌, suc, zero, Bool, true, false, not, ◌&&◌, nat_lt, List, [], ◌∷◌, ◌++◌, length, take, drop, map, get_or, Option, refl, sym, ◌∙◌, ap, subst, arith, inl, inr, ⊎_elim, length-append, length-drop}
 use Rattle.std.specs.Prelude.{All, Any}
 use Rattle.std.proofs.Math.ListN.{get_or-append}
 use Rattle.std.specs.List.{list_any}
@@ -11,13 +11,13 @@ use Rattle.dv_shelf.specs.declared.shelf.Name.{Name}
 use Rattle.dv_shelf.specs.declared.record.Deed.TheVariants.{Write}
 use Rattle.dv_shelf.specs.declared.shelf.Name.TheVariants.{Log}
 use Rattle.dv_shelf.specs.declared.record.Call.{Call}
-use Rattle.dv_shelf.specs.Folders.{folder_of, with_file, contents, patched}
+use Rattle.dv_shelf.specs.Folders.{folder_of, with_file}
 use Rattle.dv_shelf.specs.Records.{made_call}
-use Rattle.dv_shelf.proofs.ImageLemmas.{readable}
-use Rattle.dv_shelf.proofs.ShelfLemmas.{with_same}
+use Rattle.dv_shelf.specs.Laws.{readable}
+use Rattle.dv_shelf.proofs.FolderLemmas.{with_same}
 use Rattle.dv_shelf.specs.Disks.{Made, disk_after, files_after}
 use Rattle.dv_shelf.specs.Images.{IsOneImage, LeftBy, settles}
-use Rattle.dv_shelf.specs.Samples.{Images, IsUnsynced, ShowWrite, HasImage, AreSamples, AddsImage, AddsImages, AddsSamples, first_bytes, torn_file}
+use Rattle.dv_shelf.specs.Samples.{Images, IsUnsynced, ShowWrite, HasImage, AreSamples, AddsImage, AddsImages, AddsSamples, first_bytes, sample_files, torn_file, torn_with}
 use Rattle.dv_shelf.proofs.OpenWrites.{image_put, old_image, torn_image}
 
 any_more : {X : Type 0} (P : X → Type 0) (xs ys : List X) → Any P xs → Any P (xs ++ ys)
@@ -104,28 +104,28 @@ samples_more calls i old new lt upto (inl (none, same)) = subst (SamplesUpto cal
     by_last : (j : ℕ) → j < i + 1 → (j < i) ⊎ (j ≡ i)
     by_last j le = grind arith
 samples_more calls i old new lt upto (inr (made, (at, (unsynced, adds)))) = record {
-  each = images_each calls made.name (files_after (take i calls) made.name ∷ map (torn_file calls made at) (first_bytes made.bytes)) old new adds each upto.each;
-  files = images_mono (λ image. folder_of image ≡ files_after calls) calls made.name (files_after (take i calls) made.name ∷ map (torn_file calls made at) (first_bytes made.bytes)) old new adds upto.files;
+  each = images_each calls made.name (sample_files calls i made at) old new adds each upto.each;
+  files = images_mono (λ image. folder_of image ≡ files_after calls) calls made.name (sample_files calls i made at) old new adds upto.files;
   writes = λ j other at' le is. ⊎_elim (λ less. kept other j at' (upto.writes j other at' less is)) (λ last. last_write other at' j last is) (by_last j le);
 }
   where
     by_last : (j : ℕ) → j < i + 1 → (j < i) ⊎ (j ≡ i)
     by_last j le = grind arith
 
-    each : (file : Option (List ℕ)) → OneOf (files_after (take i calls) made.name ∷ map (torn_file calls made at) (first_bytes made.bytes)) file → IsOneImage (disk_after calls made.name) file
+    each : (file : Option (List ℕ)) → OneOf (sample_files calls i made at) file → IsOneImage (disk_after calls made.name) file
     each file (inl is) = subst (IsOneImage (disk_after calls made.name)) (sym is) (old_image calls i made at lt unsynced)
     each file (inr is) = torn_each calls made at (first_bytes made.bytes) (torn_image calls i made at lt unsynced) file is
 
     more : (name : Name) (file : Option (List ℕ)) → HasImage calls name file old → HasImage calls name file new
-    more name file has = images_mono (λ image. folder_of image ≡ with_file (files_after calls) name file) calls made.name (files_after (take i calls) made.name ∷ map (torn_file calls made at) (first_bytes made.bytes)) old new adds has
+    more name file has = images_mono (λ image. folder_of image ≡ with_file (files_after calls) name file) calls made.name (sample_files calls i made at) old new adds has
 
     kept : (other : Made) (j at' : ℕ) → ShowWrite calls j other at' old → ShowWrite calls j other at' new
     kept other j at' shows = record { old = more other.name _ shows.old; torn = λ first has. more other.name _ (shows.torn first has) }
 
     here : ShowWrite calls i made at new
     here = record {
-      old = images_have calls made.name (files_after (take i calls) made.name ∷ map (torn_file calls made at) (first_bytes made.bytes)) old new adds _ (inl refl);
-      torn = λ first has. images_have calls made.name (files_after (take i calls) made.name ∷ map (torn_file calls made at) (first_bytes made.bytes)) old new adds _ (inr (first_shown calls made at (first_bytes made.bytes) first has.0 has.1 has.2));
+      old = images_have calls made.name (sample_files calls i made at) old new adds _ (inl refl);
+      torn = λ first has. images_have calls made.name (sample_files calls i made at) old new adds _ (inr (first_shown calls made at (first_bytes made.bytes) first has.0 has.1 has.2));
     }
 
     last_write : (other : Made) (at' j : ℕ) → j ≡ i → IsUnsynced calls j other at' → ShowWrite calls j other at' new
@@ -159,7 +159,7 @@ not_open bytes calls i call images lt there within closed = inl ((λ made at is.
 pub written_samples : (bytes : List ℕ) (calls : List Call) (i : ℕ) (call : Call) (at : ℕ) (file : Option (List ℕ)) (shown : List ℕ) (old mid new : Images) → i < length calls → get_or calls i call ≡ call → call.deed ≡ Write at
     → call.from + call.len ≤ length bytes → nat_lt 0 call.len && not (list_any (settles call.name) (drop (i + 1) (map (made_call bytes) calls))) ≡ true
     → (let made = map (made_call bytes) calls in file ≡ files_after (take i made) call.name → shown ≡ (made_call bytes call).bytes → AddsImage made call.name file old mid
-    → AddsImages made call.name (map (λ first. Some (patched (contents (files_after made) call.name) at (first ∷ drop 1 shown))) (first_bytes shown)) mid new → AddsSamples made i old new)
+    → AddsImages made call.name (map (torn_with made call.name at (drop 1 shown)) (first_bytes shown)) mid new → AddsSamples made i old new)
 written_samples bytes calls i call at file shown old mid new lt there write within unsettled is_file is_shown one torn =
     let made = made_call bytes call in
     let all = map (made_call bytes) calls in
@@ -179,7 +179,7 @@ written_samples bytes calls i call at file shown old mid new lt there write with
           (
             mid,
             subst (λ (f : Option (List ℕ)). AddsImage all call.name f old mid) is_file one,
-            subst (λ (b : List ℕ). AddsImages all call.name (map (λ first. Some (patched (contents (files_after all) call.name) at (first ∷ drop 1 b))) (first_bytes b)) mid new) is_shown torn,
+            subst (λ (b : List ℕ). AddsImages all call.name (map (torn_with all call.name at (drop 1 b)) (first_bytes b)) mid new) is_shown torn,
           ),
         ),
       ),
@@ -190,9 +190,9 @@ written_samples bytes calls i call at file shown old mid new lt there write with
     and_true true false is = (refl, refl)
     and_true false b is = absurd (cc)
 
-pub torn_with : (calls : List Made) (name : Name) (at first : ℕ) (rest bytes : List ℕ) (old new : Images) → rest ≡ drop 1 bytes → AddsImage calls name (Some (patched (contents (files_after calls) name) at (first ∷ rest))) old new
-    → AddsImage calls name (Some (patched (contents (files_after calls) name) at (first ∷ drop 1 bytes))) old new
-torn_with calls name at first rest bytes old new is adds = subst (λ (r : List ℕ). AddsImage calls name (Some (patched (contents (files_after calls) name) at (first ∷ r))) old new) is adds
+pub torn_rest : (calls : List Made) (name : Name) (at first : ℕ) (rest bytes : List ℕ) (old new : Images) → rest ≡ drop 1 bytes
+    → AddsImage calls name (torn_with calls name at rest first) old new → AddsImage calls name (torn_with calls name at (drop 1 bytes) first) old new
+torn_rest calls name at first rest bytes old new is adds = subst (λ (r : List ℕ). AddsImage calls name (torn_with calls name at r first) old new) is adds
 
 pub length-made : (bytes : List ℕ) (calls : List Call) → length (map (made_call bytes) calls) ≡ length calls
 length-made bytes [] = refl

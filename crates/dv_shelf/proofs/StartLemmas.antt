@@ -7,6 +7,7 @@ use Rattle.dv_shelf.specs.Folders.{Folder, no_files, with_file, folder_of, same_
 use Rattle.dv_shelf.specs.Crashes.{Only}
 use Rattle.dv_shelf.specs.Disks.{Made, Versions, Disk, as_read, settled, disk_then, new_disk, files_after, put_call}
 use Rattle.dv_shelf.specs.Images.{IsOneImage, LeftBy}
+use Rattle.dv_shelf.proofs.DiskLemmas.{settled_reads}
 use Rattle.dv_shelf.proofs.ImageLemmas.{settled_only}
 
 put_reads : (files : List (Name × List ℕ)) (disk : Disk) (folder : Folder) (n : Name) → ((m : Name) → as_read (disk m) ≡ folder m)
@@ -21,24 +22,21 @@ put_reads (file ∷ files) disk folder n same = put_reads files (disk_then disk 
 pub put_files : (files : List (Name × List ℕ)) → files_after (map put_call files) ≡ folder_of files
 put_files files = fun_ext (λ n. put_reads files new_disk no_files n (λ m. refl))
 
-abbrev IsSettled : Versions → Type 0
-IsSettled versions = (file : Option (List ℕ)) × (versions ≡ settled file)
+-- a file has one state, without loose ranges
+abbrev HasOneState : Versions → Type 0
+HasOneState versions = (file : Option (List ℕ)) × (versions ≡ settled file)
 
-put_settles : (files : List (Name × List ℕ)) (disk : Disk) (n : Name) → ((m : Name) → IsSettled (disk m)) → IsSettled (fold disk_then disk (map put_call files) n)
+put_settles : (files : List (Name × List ℕ)) (disk : Disk) (n : Name) → ((m : Name) → HasOneState (disk m)) → HasOneState (fold disk_then disk (map put_call files) n)
 put_settles [] disk n is = is n
 put_settles (file ∷ files) disk n is = put_settles files (disk_then disk (put_call file)) n (λ m. one m (same_name file.0 m))
   where
-    one : (m : Name) (b : Bool) → IsSettled (cond b (settled (Some file.1)) (disk m))
+    one : (m : Name) (b : Bool) → HasOneState (cond b (settled (Some file.1)) (disk m))
     one m true = (Some file.1, refl)
     one m false = is m
 
-settled_reads : (file : Option (List ℕ)) → as_read (settled file) ≡ file
-settled_reads None = refl
-settled_reads (Some bytes) = refl
-
 pub put_only : (calls : List Made) (files : List (Name × List ℕ)) → calls ≡ map put_call files → Only (files_after calls) (LeftBy calls)
 unfolding LeftBy
-put_only calls files is c left = fun_ext (λ n. one n (subst (λ (l : List Made). IsSettled (fold disk_then new_disk l n)) (sym is) (put_settles files new_disk n (λ m. (None, refl)))))
+put_only calls files is c left = fun_ext (λ n. one n (subst (λ (l : List Made). HasOneState (fold disk_then new_disk l n)) (sym is) (put_settles files new_disk n (λ m. (None, refl)))))
   where
-    one : (n : Name) → IsSettled (fold disk_then new_disk calls n) → c n ≡ files_after calls n
+    one : (n : Name) → HasOneState (fold disk_then new_disk calls n) → c n ≡ files_after calls n
     one n (file, same) = settled_only file (c n) (subst (λ (v : Versions). IsOneImage v (c n)) same (left n)) ∙ sym (ap as_read same ∙ settled_reads file)

@@ -1,11 +1,11 @@
 -- A write that is done at once is one that a crash may cut short.
-use Rattle.std.proofs.Common.{◌≡◌, ℕ, suc, zero, ◌+◌, ◌-◌, ◌≤◌, min, Bool, true, false, cond, eqb, Option, Some, None, List, [], ◌∷◌, ◌++◌, length, take, drop, replicate, refl, sym, ◌∙◌, ap, arith, length-append, length-drop}
+use Rattle.std.proofs.Common.{◌≡◌, ℕ, suc, zero, ◌+◌, ◌-◌, ◌≤◌, min, Option, Some, None, List, [], ◌∷◌, ◌++◌, length, take, drop, replicate, refl, ap, ◌∙◌, arith, length-append}
 use Rattle.std.specs.Prelude.{unwrap_or}
-use Rattle.std.proofs.lemmas.Bool.{eqb-true, eq-eqb}
 use Rattle.std.proofs.lemmas.List.{drop_at, take-append-le, length-take, length-replicate}
 use Rattle.dv_shelf.specs.declared.shelf.Name.{Name}
-use Rattle.dv_shelf.specs.declared.shelf.Name.TheVariants as name
-use Rattle.dv_shelf.specs.Folders.{Folder, patched, contents, with_file, name_number, Torn, TornFile, ChangesOnly}
+use Rattle.dv_shelf.specs.Folders.{Folder, patched, contents, with_file, Torn, TornFile, ChangesOnly}
+use Rattle.dv_shelf.specs.Laws.{patched_length}
+use Rattle.dv_shelf.proofs.FolderLemmas.{file_changes}
 
 take-take : (m n : ℕ) (xs : List ℕ) → m ≤ n → take m (take n xs) ≡ take m xs
 take-take zero n xs le = refl
@@ -21,34 +21,18 @@ patched_torn old at bytes =
     let rest = drop (at + length bytes) old in
     let long : length a ≡ at = omega (arith, length-take at (old ++ zeros), length-append old zeros, length-replicate {A = ℕ} (at - length old) 0) in
     let both : length (a ++ bytes) ≡ at + length bytes = omega (arith, length-append a bytes) in
-    let all = length-append (a ++ bytes) rest in
-    let less = length-drop (at + length bytes) old in
+    let size = patched_length old at bytes in
     record {
       before = take-append-le m (a ++ bytes) rest (omega (arith, both)) ∙ take-append-le m a bytes (omega arith) ∙ take-take m at (old ++ zeros) (omega arith) ∙ take-append-le m old zeros (omega arith);
       behind = drop_at (a ++ bytes) rest (at + length bytes) both;
-      no_shorter = omega (arith, all, less, both);
-      no_longer = omega (arith, all, less, both);
+      no_shorter = size.no_shorter;
+      no_longer = size.no_longer;
     }
 
 torn_file : (file : Option (List ℕ)) (at : ℕ) (bytes : List ℕ) → TornFile at (length bytes) file (Some (patched (unwrap_or file []) at bytes))
 torn_file None at bytes = patched_torn [] at bytes
 torn_file (Some old) at bytes = patched_torn old at bytes
 
--- two names with one number are one
-pub one_name : (a b : Name) → name_number a ≡ name_number b → a ≡ b
-one_name name.Index name.Index is = refl
-one_name name.Log name.Log is = refl
-one_name name.Log2 name.Log2 is = refl
-one_name name.Cache name.Cache is = refl
-one_name (name.Mail m) (name.Mail n) is = ap (λ (k : ℕ). name.Mail k) (omega arith)
-one_name a b is = absurd (omega arith)
-
-pub patched_changes : (folder : Folder) (n : Name) (at : ℕ) (bytes : List ℕ) → ChangesOnly n (TornFile at (length bytes)) folder (with_file folder n (Some (patched (contents folder n) at bytes)))
-patched_changes folder n at bytes = record {
-  there = rw (eq-eqb (name_number n) (name_number n) refl) (torn_file (folder n) at bytes);
-  others = λ m other. untouched (eqb (name_number n) (name_number m)) _ (folder m) (λ is. other (one_name m n (sym (eqb-true _ _ is))));
-}
-  where
-    untouched : (t : Bool) (x y : Option (List ℕ)) → (t ≡ true → ⊥) → cond t x y ≡ y
-    untouched true x y not = absurd (not refl)
-    untouched false x y not = refl
+pub patched_changes : (folder : Folder) (n : Name) (at : ℕ) (bytes : List ℕ)
+    → ChangesOnly n (TornFile at (length bytes)) folder (with_file folder n (Some (patched (contents folder n) at bytes)))
+patched_changes folder n at bytes = file_changes folder n (TornFile at (length bytes)) _ (torn_file (folder n) at bytes)

@@ -7,16 +7,13 @@ use Rattle.std.proofs.lemmas.List.FromFn.{length-map-range_with_len, get_or-map-
 use Rattle.dv_shelf.specs.Folders.{patched, Torn, TornFile}
 use Rattle.dv_shelf.specs.Disks.{Range, Version, Gone, There, version_written}
 use Rattle.dv_shelf.specs.Images.{Covers, IsLoose, furthest, IsTornImage, IsFileImage}
+use Rattle.dv_shelf.specs.Laws.{furthest-push}
 
 Covers-old : (written : List Range) (range : Range) (k : ℕ) → Covers (written ++ range ∷ []) k → Covers written k ⊎ ((range.from ≤ k) × (k < range.upto))
 Covers-old [] range k (inl here) = inr here
 Covers-old [] range k (inr none) = absurd none
 Covers-old (r ∷ written) range k (inl here) = inl (inl here)
 Covers-old (r ∷ written) range k (inr later) = ⊎_elim (λ old. inl (inr old)) (λ here. inr here) (Covers-old written range k later)
-
-pub furthest-push : (written : List Range) (range : Range) → furthest (written ++ range ∷ []) ≡ max (furthest written) range.upto
-furthest-push [] range = omega arith
-furthest-push (r ∷ written) range = let more = furthest-push written range in omega (arith, more)
 
 -- a place outside the written bytes keeps its byte, or its lack of one
 pub patched_elsewhere : (old : List ℕ) (at : ℕ) (bytes : List ℕ) (k : ℕ) → (k < at) ⊎ (at + length bytes ≤ k) → get_or (patched old at bytes) k 0 ≡ get_or old k 0

@@ -36,7 +36,8 @@ after_fault failures = record failures { faults = counted failures.faults 1 }
 
 -- a call was answered, with an error or not
 abbrev pub after_answer : Failures → Bool → Failures
-after_answer failures failed = if failed then after_fault (after_call failures) else after_call failures
+after_answer failures failed =
+    if failed then after_fault (after_call failures) else after_call failures
 
 -- no call was made yet
 abbrev pub untried : List ℕ → Option ℕ → Failures

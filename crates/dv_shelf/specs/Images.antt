@@ -21,8 +21,10 @@ furthest (range ∷ ranges) = max range.upto (furthest ranges)
 -- An image of a file with this base length and these ranges written since: it agrees with the
 -- file but for loose places, and is no shorter than the base length and no longer than the
 -- larger of it and the furthest end.
-pub record IsTornImage (bytes : List ℕ) (base : ℕ) (written : List Range) (image : List ℕ) : Type 0 where
-  pub firm : (place : ℕ) → (IsLoose base written place → ⊥) → slice_index image place ≡ slice_index bytes place
+pub record IsTornImage (bytes : List ℕ) (base : ℕ) (written : List Range) (image : List ℕ)
+    : Type 0 where
+  pub firm : (place : ℕ) → (IsLoose base written place → ⊥)
+      → slice_index image place ≡ slice_index bytes place
   pub no_shorter : base ≤ length image
   pub no_longer : length image ≤ max base (furthest written)
 
@@ -55,6 +57,6 @@ LeftBy calls folder = IsImage (disk_after calls) folder
 abbrev pub LeftSince : List Made → ℕ → Folder → Type 0
 LeftSince calls t folder = (k : ℕ) × (t ≤ k) × (k ≤ length calls) × LeftBy (take k calls) folder
 
--- whether a call leaves the file of a name without loose ranges
+-- whether a call leaves the file of a name, as a read gives it, without loose ranges
 abbrev pub settles : Name → Made → Bool
-settles file made = settles_file file made.name made.deed made.done
+settles file made = settles_file file made.name made.deed made.outcome

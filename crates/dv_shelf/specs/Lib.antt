@@ -9,6 +9,7 @@ pub mod MemClocks
 pub mod Disks
 pub mod Images
 pub mod Records
+pub mod Outcomes
 pub mod MemShelves
 pub mod Laws
 pub mod Rooms

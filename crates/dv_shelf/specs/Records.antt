@@ -6,7 +6,12 @@ use Rattle.dv_shelf.specs.Disks.{Made}
 
 -- a call with its bytes
 abbrev pub made_call : List ℕ → Call → Made
-made_call bytes call = record { name = call.name; deed = call.deed; done = call.done; bytes = take call.len (drop call.from bytes) }
+made_call bytes call = record {
+  name = call.name;
+  deed = call.deed;
+  outcome = call.outcome;
+  bytes = take call.len (drop call.from bytes);
+}
 
 -- the calls that it holds, in turn
 abbrev pub made_calls : Record → List Made

@@ -1,5 +1,5 @@
-ghost use Rattle.std.specs.Prelude.{◌≡◌, ◌≢◌, ◌↔◌, ◌≤◌, IsErr, is_err};
-ghost use Rattle.dv_shelf.specs.Causes.{Rose, HasCause};
+ghost use Rattle.std.specs.Prelude.{◌≡◌, ◌≢◌, ◌↔◌, IsErr, is_err};
+ghost use Rattle.dv_shelf.specs.Causes.{HasCause};
 ghost use Rattle.dv_shelf.specs.Failures.{turn_of, after_call, after_fault, after_answer, untried, is_behind, is_listed};
 
 use crate::Failed;
@@ -54,13 +54,14 @@ impl Failures {
         }
     }
 
-    /// Counts a fault.
-    pub fn count_fault(&mut self)
+    /// Counts a fault, and answers it.
+    pub fn fail(&mut self) -> Result<(), Failed>
+        ensures err { IsErr result }
         ensures counted { self.new ≡ after_fault self.old }
-        ensures rose { Rose self.old.faults self.new.faults }
-        ensures later { self.old.faults ≤ self.new.faults }
+        ensures cause { HasCause self.old.faults self.new.faults result }
     {
         self.faults = self.faults.saturating_add(1);
+        Err(Failed)
     }
 
     /// Counts a call, and a fault where it is one of those that fail.
@@ -72,8 +73,7 @@ impl Failures {
         if self.count_call() == Turn::Passes {
             Ok(())
         } else {
-            self.count_fault();
-            Err(Failed)
+            self.fail()
         }
     }
 }

@@ -3,7 +3,7 @@ ghost use Rattle.dv_shelf.specs.Folders.{patched, same_name, has_name, name_numb
 ghost use Rattle.dv_shelf.specs.Disks.{file_then, stuck};
 
 use crate::Name;
-use crate::record::Deed;
+use crate::record::{Deed, Outcome, is_done, is_seen};
 use dv_model::{Bytes, List, NoMemory};
 use std::alloc::Global;
 
@@ -64,10 +64,10 @@ fn front(alloc: Global, old: &[u8], at: usize) -> Result<Bytes, NoMemory>
 }
 
 /// The bytes of a write that reads see after it.
-fn stuck(done: bool, bytes: &[u8]) -> &[u8]
-    ensures { result.now ≡ stuck done bytes.now }
+fn stuck(outcome: Outcome, bytes: &[u8]) -> &[u8]
+    ensures { result.now ≡ stuck outcome bytes.now }
 {
-    if done {
+    if is_done(outcome) {
         return bytes;
     }
     let (front, _) = bytes.split_at(bytes.len() / 2);
@@ -78,23 +78,23 @@ fn stuck(done: bool, bytes: &[u8]) -> &[u8]
 pub fn file_then(
     alloc: Global,
     deed: Deed,
-    done: bool,
+    outcome: Outcome,
     bytes: &[u8],
     file: Option<Bytes>,
 ) -> Result<Option<Bytes>, NoMemory>
-    ensures { IfOk result (λ made. made ≡ file_then deed done bytes.now file) }
+    ensures { IfOk result (λ made. made ≡ file_then deed outcome bytes.now file) }
 {
     match deed {
-        Deed::Write { at } => Ok(Some(written(alloc, at, stuck(done, bytes), file)?)),
+        Deed::Write { at } => Ok(Some(written(alloc, at, stuck(outcome, bytes), file)?)),
         Deed::Sync => Ok(file),
         Deed::Replace => {
-            if done {
+            if is_seen(outcome) {
                 Ok(Some(List::from_slice(alloc, bytes)?))
             } else {
                 Ok(file)
             }
         }
-        Deed::Remove => { if done { Ok(None) } else { Ok(file) } }
+        Deed::Remove => { if is_seen(outcome) { Ok(None) } else { Ok(file) } }
     }
 }
 

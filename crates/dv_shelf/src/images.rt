@@ -1,10 +1,10 @@
 ghost use Rattle.std.specs.Prelude.{◌≡◌, ◌+◌, ◌<◌, ◌≤◌, [], ◌∷◌, ◌++◌, length, map, drop, slice_index_or, not, nat_lt, ◌&&◌, IfOk, OnOk};
 ghost use Rattle.std.specs.List.{list_any};
 ghost use Rattle.dv_shelf.specs.Images.{settles};
-ghost use Rattle.dv_shelf.specs.Folders.{folder_of, with_file, contents, patched, file_list};
+ghost use Rattle.dv_shelf.specs.Folders.{folder_of, with_file, file_list};
 ghost use Rattle.dv_shelf.specs.Disks.{files_after};
 ghost use Rattle.dv_shelf.specs.Records.{made_call, made_calls};
-ghost use Rattle.dv_shelf.specs.Samples.{AreSamples, AddsImage, AddsImages, AddsSamples, AreNamesWith, first_bytes};
+ghost use Rattle.dv_shelf.specs.Samples.{AreSamples, AddsImage, AddsImages, AddsSamples, AreNamesWith, first_bytes, torn_with};
 
 use crate::Name;
 use crate::files::{has_name, same_name, written};
@@ -73,7 +73,8 @@ impl Record {
     /// Whether the i-th call was handed some bytes, and no later one has settled its file.
     fn is_open(&self, i: usize, call: &Call) -> bool
         requires { i < length self.now.calls.items }
-        ensures { result ≡ (nat_lt 0 call.now.len && not (list_any (settles call.now.name) (drop (i + 1) (made_calls self.now)))) }
+        ensures { result ≡ (nat_lt 0 call.now.len
+            && not (list_any (settles call.now.name) (drop (i + 1) (made_calls self.now)))) }
     {
         call.len > 0 && self.is_unsynced(i + 1, call.name)
     }
@@ -88,7 +89,9 @@ impl Record {
         bytes: &[u8],
     ) -> Result<(), NoMemory>
         requires { 0 < length bytes.now }
-        ensures { OnOk result (AddsImages (made_calls self.now) name (map (λ first. Some (patched (contents (files_after (made_calls self.now)) name) at (first ∷ drop 1 bytes.now))) (first_bytes bytes.now)) images.old images.new) }
+        ensures { OnOk result (AddsImages (made_calls self.now) name
+            (map (torn_with (made_calls self.now) name at (drop 1 bytes.now))
+            (first_bytes bytes.now)) images.old images.new) }
     {
         let (_, rest) = bytes.split_at(1);
         self.add_torn(alloc, images, name, at, bytes[0], rest)?;
@@ -107,7 +110,8 @@ impl Record {
         first: u8,
         rest: &[u8],
     ) -> Result<(), NoMemory>
-        ensures { OnOk result (AddsImage (made_calls self.now) name (Some (patched (contents (files_after (made_calls self.now)) name) at (first ∷ rest.now))) images.old images.new) }
+        ensures { OnOk result (AddsImage (made_calls self.now) name
+            (torn_with (made_calls self.now) name at rest.now first) images.old images.new) }
     {
         let mut bytes = List::new(alloc);
         bytes.push(first)?;
@@ -124,7 +128,8 @@ impl Record {
         name: Name,
         file: &Option<Bytes>,
     ) -> Result<(), NoMemory>
-        ensures { OnOk result (AddsImage (made_calls self.now) name file.now images.old images.new) }
+        ensures { OnOk result
+            (AddsImage (made_calls self.now) name file.now images.old images.new) }
     {
         let image = self.image(alloc, name, file)?;
         images.push(image)?;
@@ -132,7 +137,8 @@ impl Record {
     }
 
     fn image(&self, alloc: Global, name: Name, file: &Option<Bytes>) -> Result<Folder, NoMemory>
-        ensures { IfOk result (λ image. folder_of image ≡ with_file (files_after (made_calls self.now)) name file.now) }
+        ensures { IfOk result (λ image. folder_of image
+            ≡ with_file (files_after (made_calls self.now)) name file.now) }
     {
         let names = self.names_with(alloc, name)?;
         let mut image = List::new(alloc);
@@ -145,7 +151,8 @@ impl Record {
 
     /// The names of the files that are there, and this one.
     fn names_with(&self, alloc: Global, name: Name) -> Result<List<Name>, NoMemory>
-        ensures { IfOk result (λ names. AreNamesWith (files_after (made_calls self.now)) name names) }
+        ensures { IfOk result (λ names.
+            AreNamesWith (files_after (made_calls self.now)) name names) }
     {
         let mut names = self.names(alloc)?;
         if has_name(names.as_slice(), name) {
@@ -163,7 +170,8 @@ impl Record {
         name: Name,
         file: &Option<Bytes>,
     ) -> Result<Option<Bytes>, NoMemory>
-        ensures { IfOk result (λ made. made ≡ with_file (files_after (made_calls self.now)) name file.now other) }
+        ensures { IfOk result (λ made. made
+            ≡ with_file (files_after (made_calls self.now)) name file.now other) }
     {
         if same_name(name, other) {
             copy_file(alloc, file)

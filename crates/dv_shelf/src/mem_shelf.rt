@@ -1,9 +1,10 @@
-ghost use Rattle.std.specs.Prelude.{◌≡◌, ◌≢◌, ◌↔◌, ◌+◌, ◌^◌, ◌<◌, ◌≤◌, [], length, Some, None, map, IfOk, OnOk, OnErr, is_err, IsErr, IsErrOf};
+ghost use Rattle.std.specs.Prelude.{◌≡◌, ◌≢◌, ◌↔◌, ◌+◌, ◌^◌, ◌<◌, ◌≤◌, [], length, Some, None, true, map, IfOk, OnOk, OnErr, is_err, IsErr, IsErrOf};
 ghost use Rattle.dv_shelf.specs.Causes.{HasCause, HasCauseOf};
 ghost use Rattle.dv_shelf.specs.Folders.{counted, mail_reads_of};
+ghost use Rattle.dv_shelf.specs.Outcomes.{outcome_then};
 
 use crate::failures::{Failures, Turn};
-use crate::record::{Deed, Record};
+use crate::record::{Deed, Outcome, Record, is_done};
 use crate::{Failed, Name, Shelf, ShelfFault};
 use dv_model::{Bytes, List, NoMemory};
 use std::alloc::Global;
@@ -16,21 +17,23 @@ pub type Folder = List<(Name, Bytes)>;
 pub struct MemShelf {
     record: Record,
     failures: Failures,
+    /// Of a replace or remove that fails, reads see what it made.
+    shows_failed: bool,
     mail_reads: u64,
 }
 
 impl MemShelf {
-    ghost use Rattle.dv_shelf.specs.Failures.{untried, turn_of, after_answer, after_fault};
-    ghost use Rattle.dv_shelf.specs.MemShelves.{calls_of, files_of, shelf_room, IsAnswered};
+    ghost use Rattle.dv_shelf.specs.Failures.{turn_of, after_answer};
+    ghost use Rattle.dv_shelf.specs.MemShelves.{call_count, calls_of, faults_of, files_of, images_of, IsAnswered, IsUntried};
     ghost use Rattle.dv_shelf.specs.Folders.{no_files, folder_of};
-    ghost use Rattle.dv_shelf.specs.Crashes.{Only};
+    ghost use Rattle.dv_shelf.specs.Crashes.{IsSettled};
     ghost use Rattle.dv_shelf.specs.Disks.{put_call};
     ghost use Rattle.dv_shelf.specs.Samples.{AreSamples};
-    ghost use Rattle.dv_shelf.specs.Images.{LeftBy};
 
     /// An empty folder with room for so many bytes: a writing call takes 64 and one for each
     /// byte. The calls that `fails` lists fail, of which the first is number 1, those behind the
-    /// first `stop`, and writing calls for which no room is left.
+    /// first `stop`, and writing calls for which no room is left. Of a replace or remove that
+    /// fails reads see nothing.
     pub fn new(
         alloc: Global,
         room: u32,
@@ -38,21 +41,20 @@ impl MemShelf {
         stop: Option<u32>,
     ) -> Result<MemShelf, NoMemory>
         ensures files { IfOk result (λ shelf. files_of shelf ≡ no_files) }
-        ensures settled { IfOk result (λ shelf. Only (files_of shelf) (LeftBy (calls_of shelf))) }
-        ensures calls { IfOk result (λ shelf. calls_of shelf ≡ []) }
-        ensures room { IfOk result (λ shelf. shelf_room shelf ≡ room) }
-        ensures fails { IfOk result (λ shelf. shelf.failures ≡ untried fails stop) }
-        ensures reads { IfOk result (λ shelf. shelf.mail_reads ≡ 0) }
+        ensures settled { IfOk result (λ shelf. IsSettled files_of images_of shelf) }
+        ensures untried { IfOk result (λ shelf. IsUntried shelf [] room fails stop) }
     {
         Ok(MemShelf {
             record: Record::new(alloc, room as usize)?,
             failures: Failures::new(fails, stop),
+            shows_failed: false,
             mail_reads: 0,
         })
     }
 
-    /// A folder with these files, of which the last counts where a name stands twice. Its room
-    /// and its calls are as those of `new`.
+    /// A folder with these files, of which the last counts where a name stands twice. Its room,
+    /// beside what the files take, and its calls are as those of `new`. Want of memory is the only
+    /// reason of its error.
     pub fn of(
         alloc: Global,
         folder: &Folder,
@@ -61,17 +63,32 @@ impl MemShelf {
         stop: Option<u32>,
     ) -> Result<MemShelf, NoMemory>
         ensures files { IfOk result (λ shelf. files_of shelf ≡ folder_of folder.now) }
-        ensures settled { IfOk result (λ shelf. Only (files_of shelf) (LeftBy (calls_of shelf))) }
-        ensures calls { IfOk result (λ shelf. calls_of shelf ≡ map put_call folder.now) }
-        ensures room { IfOk result (λ shelf. shelf_room shelf ≡ room) }
-        ensures fails { IfOk result (λ shelf. shelf.failures ≡ untried fails stop) }
-        ensures reads { IfOk result (λ shelf. shelf.mail_reads ≡ 0) }
+        ensures settled { IfOk result (λ shelf. IsSettled files_of images_of shelf) }
+        ensures untried { IfOk result (λ shelf.
+            IsUntried shelf (map put_call folder.now) room fails stop) }
     {
         Ok(MemShelf {
             record: Record::of(alloc, folder.as_slice(), room as usize)?,
             failures: Failures::new(fails, stop),
+            shows_failed: false,
             mail_reads: 0,
         })
+    }
+
+    /// The same shelf, but from now on reads see what a replace or remove that fails has made.
+    pub fn showing_failed(self) -> MemShelf
+        ensures { result ≡ record self { shows_failed = true } }
+    {
+        let mut shelf = self;
+        shelf.shows_failed = true;
+        shelf
+    }
+
+    /// How many calls it has had, those that failed among them; it stops at the end of its type.
+    pub fn call_count(&self) -> u64
+        ensures { result ≡ call_count self.now }
+    {
+        self.failures.calls
     }
 
     /// Sample images for tests: the files as a read gives them, and for each unsynced write of
@@ -86,32 +103,25 @@ impl MemShelf {
     /// A writing call.
     fn write(&mut self, name: Name, deed: Deed, bytes: &[u8]) -> Result<(), Failed>
         ensures made { IsAnswered self.old self.new result name deed bytes.now }
-        ensures cause { HasCause self.old.failures.faults self.new.failures.faults result }
+        ensures cause { HasCause (faults_of self.old) (faults_of self.new) result }
     {
         let turn = self.failures.count_call();
         if turn == Turn::Stopped || !self.record.fits(bytes.len()) {
-            return self.fail();
+            return self.failures.fail();
         }
-        let done = turn == Turn::Passes;
-        self.record.add(name, deed, done, bytes);
-        if done { Ok(()) } else { self.fail() }
-    }
-
-    /// Counts a fault.
-    fn fail(&mut self) -> Result<(), Failed>
-        ensures err { IsErr result }
-        ensures counted { self.new ≡ record self.old { failures = after_fault self.old.failures } }
-        ensures cause { HasCause self.old.failures.faults self.new.failures.faults result }
-    {
-        self.failures.count_fault();
-        Err(Failed)
+        let outcome = outcome_of(turn, self.shows_failed);
+        self.record.add(name, deed, outcome, bytes);
+        if is_done(outcome) {
+            Ok(())
+        } else {
+            self.failures.fail()
+        }
     }
 }
 
 impl Shelf for MemShelf {
-    ghost use Rattle.dv_shelf.specs.Images.{LeftBy, LeftSince};
     ghost use Rattle.dv_shelf.specs.Failures.{turn_of};
-    ghost use Rattle.dv_shelf.specs.MemShelves.{calls_of, files_of, IsAnswered, IsLook};
+    ghost use Rattle.dv_shelf.specs.MemShelves.{calls_of, faults_of, files_of, images_of, images_since, moment_of, IsAnswered, IsLook};
     ghost use Rattle.dv_shelf.specs.Folders.{Folder, with_file, contents, patched, Lists, ChangesOnly, TornFile, IsEither};
     ghost use Rattle.dv_shelf.specs.Crashes.{Follows, FollowsNone, Elapses};
     ghost use Rattle.dv_shelf.specs.Laws.{files_left, left_now, left_last};
@@ -120,13 +130,13 @@ impl Shelf for MemShelf {
 
     ghost files = { files_of };
 
-    ghost may_leave = { λ s. LeftBy (calls_of s) };
+    ghost may_leave = { images_of };
 
-    ghost moment = { λ s. length (calls_of s) };
+    ghost moment = { moment_of };
 
-    ghost left_since = { λ s. LeftSince (calls_of s) };
+    ghost left_since = { images_since };
 
-    ghost fault_count = { λ s. s.failures.faults };
+    ghost fault_count = { faults_of };
 
     ghost mail_reads = { λ s. s.mail_reads };
 
@@ -137,14 +147,20 @@ impl Shelf for MemShelf {
     ghost only_now = { λ s c told had. left_last (calls_of s) c had };
 
     fn read(&mut self, alloc: Global, name: Name) -> Result<Option<Bytes>, ShelfFault>
+        // What the trait says.
         ensures found { IfOk result (λ bytes. bytes ≡ files_of self.old name) }
         ensures files { files_of self.new ≡ files_of self.old }
-        ensures crash { FollowsNone (LeftBy (calls_of self.old)) (LeftBy (calls_of self.new)) }
-        ensures time { Elapses (length (calls_of self.old)) (length (calls_of self.new)) (LeftSince (calls_of self.old)) (LeftSince (calls_of self.new)) (LeftBy (calls_of self.new)) }
+        ensures crash { FollowsNone (images_of self.old) (images_of self.new) }
+        ensures time { Elapses (moment_of self.old) (moment_of self.new)
+            (images_since self.old) (images_since self.new) (images_of self.new) }
         ensures reads { self.new.mail_reads ≡ counted self.old.mail_reads (mail_reads_of name) }
-        ensures cause { HasCauseOf ShelfFault.Failed self.old.failures.faults self.new.failures.faults result }
+        ensures cause { HasCauseOf ShelfFault.Failed
+            (faults_of self.old) (faults_of self.new) result }
+
+        // Exactly the listed calls and those behind the stop fail.
         ensures seen { IsLook self.old self.new }
-        ensures fails { IsErrOf result ShelfFault.Failed ↔ (turn_of self.old.failures ≢ Turn.Passes) }
+        ensures fails { IsErrOf result ShelfFault.Failed
+            ↔ (turn_of self.old.failures ≢ Turn.Passes) }
     {
         self.mail_reads = count_read(self.mail_reads, name);
         let Ok(()) = self.failures.call() else {
@@ -157,14 +173,20 @@ impl Shelf for MemShelf {
     }
 
     fn list(&mut self, alloc: Global) -> Result<List<Name>, ShelfFault>
+        // What the trait says.
         ensures found { IfOk result (λ names. Lists (files_of self.old) names) }
         ensures files { files_of self.new ≡ files_of self.old }
-        ensures crash { FollowsNone (LeftBy (calls_of self.old)) (LeftBy (calls_of self.new)) }
-        ensures time { Elapses (length (calls_of self.old)) (length (calls_of self.new)) (LeftSince (calls_of self.old)) (LeftSince (calls_of self.new)) (LeftBy (calls_of self.new)) }
+        ensures crash { FollowsNone (images_of self.old) (images_of self.new) }
+        ensures time { Elapses (moment_of self.old) (moment_of self.new)
+            (images_since self.old) (images_since self.new) (images_of self.new) }
         ensures reads { self.new.mail_reads ≡ self.old.mail_reads }
-        ensures cause { HasCauseOf ShelfFault.Failed self.old.failures.faults self.new.failures.faults result }
+        ensures cause { HasCauseOf ShelfFault.Failed
+            (faults_of self.old) (faults_of self.new) result }
+
+        // Exactly the listed calls and those behind the stop fail.
         ensures seen { IsLook self.old self.new }
-        ensures fails { IsErrOf result ShelfFault.Failed ↔ (turn_of self.old.failures ≢ Turn.Passes) }
+        ensures fails { IsErrOf result ShelfFault.Failed
+            ↔ (turn_of self.old.failures ≢ Turn.Passes) }
     {
         let Ok(()) = self.failures.call() else {
             return Err(ShelfFault::Failed);
@@ -176,50 +198,76 @@ impl Shelf for MemShelf {
     }
 
     fn write_at(&mut self, name: Name, at: u32, bytes: &[u8]) -> Result<(), Failed>
-        ensures ok { OnOk result (files_of self.new ≡ with_file (files_of self.old) name (Some (patched (contents (files_of self.old) name) at bytes.now))) }
-        ensures err { OnErr result (ChangesOnly name (TornFile at (length bytes.now)) (files_of self.old) (files_of self.new)) }
-        ensures crash { Follows (ChangesOnly name (TornFile at (length bytes.now))) (LeftBy (calls_of self.old)) (LeftBy (calls_of self.new)) }
-        ensures time { Elapses (length (calls_of self.old)) (length (calls_of self.new)) (LeftSince (calls_of self.old)) (LeftSince (calls_of self.new)) (LeftBy (calls_of self.new)) }
+        // What the trait says.
+        ensures ok { OnOk result (files_of self.new ≡ with_file (files_of self.old) name
+            (Some (patched (contents (files_of self.old) name) at bytes.now))) }
+        ensures err { OnErr result (ChangesOnly name (TornFile at (length bytes.now))
+            (files_of self.old) (files_of self.new)) }
+        ensures crash { Follows (ChangesOnly name (TornFile at (length bytes.now)))
+            (images_of self.old) (images_of self.new) }
+        ensures time { Elapses (moment_of self.old) (moment_of self.new)
+            (images_since self.old) (images_since self.new) (images_of self.new) }
         ensures reads { self.new.mail_reads ≡ self.old.mail_reads }
-        ensures cause { HasCause self.old.failures.faults self.new.failures.faults result }
+        ensures cause { HasCause (faults_of self.old) (faults_of self.new) result }
+
+        // What is kept of it, and when it fails.
         ensures made { IsAnswered self.old self.new result name (Deed.Write at) bytes.now }
     {
         self.write(name, Deed::Write { at }, bytes)
     }
 
     fn sync(&mut self, name: Name) -> Result<(), Failed>
-        ensures durable { OnOk result ((c : Folder) → LeftBy (calls_of self.new) c → c name ≡ files_of self.new name) }
+        // What the trait says.
+        ensures durable { OnOk result ((c : Folder) → images_of self.new c →
+            c name ≡ files_of self.new name) }
         ensures files { files_of self.new ≡ files_of self.old }
-        ensures crash { FollowsNone (LeftBy (calls_of self.old)) (LeftBy (calls_of self.new)) }
-        ensures time { Elapses (length (calls_of self.old)) (length (calls_of self.new)) (LeftSince (calls_of self.old)) (LeftSince (calls_of self.new)) (LeftBy (calls_of self.new)) }
+        ensures crash { FollowsNone (images_of self.old) (images_of self.new) }
+        ensures time { Elapses (moment_of self.old) (moment_of self.new)
+            (images_since self.old) (images_since self.new) (images_of self.new) }
         ensures reads { self.new.mail_reads ≡ self.old.mail_reads }
-        ensures cause { HasCause self.old.failures.faults self.new.failures.faults result }
+        ensures cause { HasCause (faults_of self.old) (faults_of self.new) result }
+
+        // What is kept of it, and when it fails.
         ensures made { IsAnswered self.old self.new result name Deed.Sync [] }
     {
         self.write(name, Deed::Sync, &[])
     }
 
     fn replace(&mut self, name: Name, bytes: &[u8]) -> Result<(), Failed>
-        ensures ok { OnOk result (files_of self.new ≡ with_file (files_of self.old) name (Some bytes.now)) }
-        ensures err { OnErr result (ChangesOnly name (IsEither (Some bytes.now)) (files_of self.old) (files_of self.new)) }
-        ensures durable { OnOk result ((c : Folder) → LeftBy (calls_of self.new) c → c name ≡ Some bytes.now) }
-        ensures crash { Follows (ChangesOnly name (IsEither (Some bytes.now))) (LeftBy (calls_of self.old)) (LeftBy (calls_of self.new)) }
-        ensures time { Elapses (length (calls_of self.old)) (length (calls_of self.new)) (LeftSince (calls_of self.old)) (LeftSince (calls_of self.new)) (LeftBy (calls_of self.new)) }
+        // What the trait says.
+        ensures ok { OnOk result (files_of self.new
+            ≡ with_file (files_of self.old) name (Some bytes.now)) }
+        ensures err { OnErr result (ChangesOnly name (IsEither (Some bytes.now))
+            (files_of self.old) (files_of self.new)) }
+        ensures durable { OnOk result ((c : Folder) → images_of self.new c →
+            c name ≡ Some bytes.now) }
+        ensures crash { Follows (ChangesOnly name (IsEither (Some bytes.now)))
+            (images_of self.old) (images_of self.new) }
+        ensures time { Elapses (moment_of self.old) (moment_of self.new)
+            (images_since self.old) (images_since self.new) (images_of self.new) }
         ensures reads { self.new.mail_reads ≡ self.old.mail_reads }
-        ensures cause { HasCause self.old.failures.faults self.new.failures.faults result }
+        ensures cause { HasCause (faults_of self.old) (faults_of self.new) result }
+
+        // What is kept of it, and when it fails.
         ensures made { IsAnswered self.old self.new result name Deed.Replace bytes.now }
     {
         self.write(name, Deed::Replace, bytes)
     }
 
     fn remove(&mut self, name: Name) -> Result<(), Failed>
+        // What the trait says.
         ensures ok { OnOk result (files_of self.new ≡ with_file (files_of self.old) name None) }
-        ensures err { OnErr result (ChangesOnly name (IsEither None) (files_of self.old) (files_of self.new)) }
-        ensures durable { OnOk result ((c : Folder) → LeftBy (calls_of self.new) c → c name ≡ None) }
-        ensures crash { Follows (ChangesOnly name (IsEither None)) (LeftBy (calls_of self.old)) (LeftBy (calls_of self.new)) }
-        ensures time { Elapses (length (calls_of self.old)) (length (calls_of self.new)) (LeftSince (calls_of self.old)) (LeftSince (calls_of self.new)) (LeftBy (calls_of self.new)) }
+        ensures err { OnErr result (ChangesOnly name (IsEither None)
+            (files_of self.old) (files_of self.new)) }
+        ensures durable { OnOk result ((c : Folder) → images_of self.new c → c name ≡ None) }
+        ensures crash { Follows (ChangesOnly name (IsEither None))
+            (images_of self.old) (images_of self.new) }
+        ensures time { Elapses (moment_of self.old) (moment_of self.new)
+            (images_since self.old) (images_since self.new) (images_of self.new) }
         ensures reads { self.new.mail_reads ≡ self.old.mail_reads }
-        ensures cause { HasCause self.old.failures.faults self.new.failures.faults result }
+        ensures cause { HasCause (faults_of self.old) (faults_of self.new) result }
+
+        // What is kept of it, and when it fails.
         ensures made { IsAnswered self.old self.new result name Deed.Remove [] }
     {
         self.write(name, Deed::Remove, &[])
@@ -227,6 +275,19 @@ impl Shelf for MemShelf {
 
     fn faults(&self) -> u64 {
         self.failures.faults
+    }
+}
+
+/// What comes of a writing call that isn't behind the stop.
+fn outcome_of(turn: Turn, shows_failed: bool) -> Outcome
+    ensures { result ≡ outcome_then turn shows_failed }
+{
+    if turn == Turn::Passes {
+        Outcome::Done
+    } else if shows_failed {
+        Outcome::Shown
+    } else {
+        Outcome::Hidden
     }
 }
 

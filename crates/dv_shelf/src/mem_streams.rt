@@ -122,14 +122,15 @@ impl Sink for MemSink {
         ensures cause { HasCause (sink_faults self.old) (sink_faults self.new) result }
 
         // Exactly the listed calls fail, and those for which there is no room.
-        ensures fails { IsErr result ↔ ((turn_of self.old.failures ≢ Turn.Passes) ⊎ (room_left self.old < length bytes.now)) }
+        ensures fails { IsErr result ↔ ((turn_of self.old.failures ≢ Turn.Passes)
+            ⊎ (room_left self.old < length bytes.now)) }
         ensures counted { self.new.failures ≡ after_answer self.old.failures (is_err result) }
-        ensures room { room_left self.new + length (bytes_taken self.new) ≡ room_left self.old + length (bytes_taken self.old) }
+        ensures room { room_left self.new + length (bytes_taken self.new)
+            ≡ room_left self.old + length (bytes_taken self.old) }
     {
         self.failures.call()?;
         if self.room - self.taken.len() < bytes.len() {
-            self.failures.count_fault();
-            return Err(Failed);
+            return self.failures.fail();
         }
         match self.taken.extend_from_slice(bytes) {
             Ok(()) => Ok(()),

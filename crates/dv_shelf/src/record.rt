@@ -1,6 +1,6 @@
-ghost use Rattle.std.specs.Prelude.{◌≡◌, ◌↔◌, ◌+◌, ◌-◌, ◌*◌, ◌^◌, ◌<◌, ◌≤◌, [], ◌∷◌, ◌++◌, length, take, drop, map, sum_by, not, if◌then◌else◌, is_some, IfOk, IsTrue, OnOk, Contains, vec_len, vec_capacity};
+ghost use Rattle.std.specs.Prelude.{◌≡◌, ◌↔◌, ◌+◌, ◌-◌, ◌*◌, ◌^◌, ◌<◌, ◌≤◌, [], ◌∷◌, ◌++◌, length, take, drop, map, sum_by, not, if◌then◌else◌, is_some, IfOk, IsTrue, min, OnOk, Contains, vec_len, vec_capacity};
 ghost use Rattle.dv_shelf.specs.Folders.{same_name};
-ghost use Rattle.dv_shelf.specs.Disks.{there_then, settles_file};
+ghost use Rattle.dv_shelf.specs.Disks.{is_done, is_seen, there_then, settles_file};
 ghost use Rattle.std.specs.List.{list_any};
 ghost use Rattle.dv_shelf.specs.Rooms.{file_room};
 ghost use Rattle.dv_shelf.specs.declared.record.Call.{Call};
@@ -19,13 +19,23 @@ pub enum Deed {
     Remove,
 }
 
+/// What came of a writing call.
+#[derive(Clone, Copy, PartialEq, Eq)]
+pub enum Outcome {
+    /// It answered Ok.
+    Done,
+    /// It failed. Reads see half the bytes of a write, and nothing of a replace or remove.
+    Hidden,
+    /// It failed. Reads see half the bytes of a write, and what a replace or remove made.
+    Shown,
+}
+
 /// A writing call, as the record keeps it.
 #[derive(Clone, Copy)]
 pub struct Call {
     pub name: Name,
     pub deed: Deed,
-    /// Whether it answered Ok.
-    pub done: bool,
+    pub outcome: Outcome,
     /// Where its bytes begin among those of the record, and their number.
     pub from: usize,
     pub len: usize,
@@ -39,7 +49,8 @@ pub struct Record {
     left: usize,
     ghost room_for_calls: { 64 * vec_len calls + left ≤ 64 * vec_capacity calls },
     ghost room_for_bytes: { vec_len bytes + left ≤ vec_capacity bytes },
-    ghost within: { (call : Call) → Contains calls.items call → call.from + call.len ≤ length bytes.items },
+    ghost within: { (call : Call) → Contains calls.items call →
+        call.from + call.len ≤ length bytes.items },
 }
 
 /// What a call takes of the room beside its bytes.
@@ -53,7 +64,6 @@ impl Record {
 
     /// An empty record with this room.
     pub fn new(alloc: Global, room: usize) -> Result<Record, NoMemory>
-        requires { room < 2 ^ 41 }
         ensures calls { IfOk result (λ made. made_calls made ≡ []) }
         ensures room { IfOk result (λ made. room_left made ≡ room) }
     {
@@ -66,13 +76,12 @@ impl Record {
 
     /// The record that puts these files there, with this room for more.
     pub fn of(alloc: Global, files: &[(Name, Bytes)], room: usize) -> Result<Record, NoMemory>
-        requires { room < 2 ^ 40 }
         ensures calls { IfOk result (λ made. made_calls made ≡ map put_call files.now) }
         ensures room { IfOk result (λ made. room_left made ≡ room) }
     {
-        let mut made = Record::new(alloc, files_room(files)? + room)?;
+        let mut made = Record::new(alloc, files_room(files).saturating_add(room))?;
         for file in files {
-            made.add(file.0, Deed::Replace, true, file.1.as_slice());
+            made.add(file.0, Deed::Replace, Outcome::Done, file.1.as_slice());
         }
         Ok(made)
     }
@@ -85,9 +94,10 @@ impl Record {
     }
 
     /// Adds a call that fits.
-    pub fn add(&mut self, name: Name, deed: Deed, done: bool, bytes: &[u8])
+    pub fn add(&mut self, name: Name, deed: Deed, outcome: Outcome, bytes: &[u8])
         requires { 64 + length bytes.now ≤ room_left self.old }
-        ensures calls { made_calls self.new ≡ made_calls self.old ++ record { name = name; deed = deed; done = done; bytes = bytes.now } ∷ [] }
+        ensures calls { made_calls self.new ≡ made_calls self.old
+            ++ record { name = name; deed = deed; outcome = outcome; bytes = bytes.now } ∷ [] }
         ensures room { room_left self.new + 64 + length bytes.now ≡ room_left self.old }
     {
         let from = self.bytes.len();
@@ -95,7 +105,7 @@ impl Record {
         let call = Call {
             name,
             deed,
-            done,
+            outcome,
             from,
             len,
         };
@@ -127,10 +137,12 @@ impl Record {
         file: Option<Bytes>,
     ) -> Result<Option<Bytes>, NoMemory>
         requires { call.now.from + call.now.len ≤ length self.now.bytes.items }
-        ensures { IfOk result (λ made. made ≡ (if same_name call.now.name name then file_then call.now.deed call.now.done (made_call self.now.bytes.items call.now).bytes file else file)) }
+        ensures { IfOk result (λ made. made
+            ≡ (if same_name call.now.name name then file_then call.now.deed call.now.outcome
+            (made_call self.now.bytes.items call.now).bytes file else file)) }
     {
         if same_name(call.name, name) {
-            file_then(alloc, call.deed, call.done, self.bytes_of(call), file)
+            file_then(alloc, call.deed, call.outcome, self.bytes_of(call), file)
         } else {
             Ok(file)
         }
@@ -201,7 +213,8 @@ impl Record {
 
     /// Adds the name of a file that is there, unless the list has it.
     fn add_name(&self, names: &mut List<Name>, name: Name) -> Result<(), NoMemory>
-        ensures { OnOk result (names.new ≡ names_then (files_after (made_calls self.now)) names.old name) }
+        ensures { OnOk result (names.new
+            ≡ names_then (files_after (made_calls self.now)) names.old name) }
     {
         if self.has(name) && !has_name(names.as_slice(), name) {
             names.push(name)?;
@@ -210,23 +223,20 @@ impl Record {
     }
 }
 
-/// The room that calls which put these files there take.
-fn files_room(files: &[(Name, Bytes)]) -> Result<usize, NoMemory>
-    ensures sum { IfOk result (λ room. room ≡ sum_by file_room files.now) }
-    ensures bound { IfOk result (λ room. room < 2 ^ 40) }
+/// The room that calls which put these files there take; it stops at the end of its type.
+fn files_room(files: &[(Name, Bytes)]) -> usize
+    ensures { result ≡ min (sum_by file_room files.now) usize.MAX }
 {
-    let mut room = 0;
+    let mut room: usize = 0;
     for file in files {
-        room += CALL_ROOM + file.1.as_slice().len();
-        if room >= 1 << 40 {
-            return Err(NoMemory);
-        }
+        room = room.saturating_add(file.1.as_slice().len().saturating_add(CALL_ROOM));
     }
-    Ok(room)
+    room
 }
 
 fn has_after(call: Call, name: Name, has: bool) -> bool
-    ensures { result ≡ (if same_name call.name name then there_then call.deed call.done has else has) }
+    ensures { result
+        ≡ (if same_name call.name name then there_then call.deed call.outcome has else has) }
 {
     if !same_name(call.name, name) {
         return has;
@@ -234,23 +244,47 @@ fn has_after(call: Call, name: Name, has: bool) -> bool
     match call.deed {
         Deed::Write { .. } => true,
         Deed::Sync => has,
-        Deed::Replace => call.done || has,
-        Deed::Remove => !call.done && has,
+        Deed::Replace => is_seen(call.outcome) || has,
+        Deed::Remove => !is_seen(call.outcome) && has,
     }
 }
 
-/// Whether a call leaves the file of this name without loose ranges.
+/// Whether reads see what a replace or remove made.
+pub fn is_seen(outcome: Outcome) -> bool
+    ensures { result ≡ is_seen outcome }
+{
+    match outcome {
+        Outcome::Done => true,
+        Outcome::Hidden => false,
+        Outcome::Shown => true,
+    }
+}
+
+/// Whether a call answered Ok.
+pub fn is_done(outcome: Outcome) -> bool
+    ensures { result ≡ is_done outcome }
+{
+    match outcome {
+        Outcome::Done => true,
+        Outcome::Hidden => false,
+        Outcome::Shown => false,
+    }
+}
+
+/// Whether a call leaves the file of this name, as a read gives it, without loose ranges.
 fn settles(call: Call, name: Name) -> bool
-    ensures { result ≡ settles_file name call.name call.deed call.done }
+    ensures { result ≡ settles_file name call.name call.deed call.outcome }
 {
     match call.deed {
         Deed::Write { .. } => false,
-        _ => call.done && same_name(call.name, name),
+        Deed::Sync => is_done(call.outcome) && same_name(call.name, name),
+        Deed::Replace => is_seen(call.outcome) && same_name(call.name, name),
+        Deed::Remove => is_seen(call.outcome) && same_name(call.name, name),
     }
 }
 
 fn any_settles(calls: &[Call], name: Name) -> bool
-    ensures { result ≡ list_any (λ c. settles_file name c.name c.deed c.done) calls.now }
+    ensures { result ≡ list_any (λ c. settles_file name c.name c.deed c.outcome) calls.now }
 {
     calls.iter().any(|call| settles(*call, name))
 }

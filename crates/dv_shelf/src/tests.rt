@@ -1,5 +1,5 @@
 use crate::{Clock, Folder, MemClock, MemShelf, MemSink, MemSource, Name, Shelf, Sink, Source};
-use dv_model::List;
+use dv_model::{Bytes, List};
 use std::alloc::{AllocError, Global};
 use std::test::Fail;
 
@@ -145,18 +145,123 @@ fn a_write_that_fails_may_be_there(rt: HostRuntime) -> Result<(), Fail> {
     Ok(())
 }
 
+/// A file, where the call answers Ok.
+fn file_of(alloc: Global, shelf: &mut MemShelf, name: Name) -> Result<Option<Bytes>, Fail> {
+    Ok(shelf.read(alloc, name).ok().ok_or("a read that fails")?)
+}
+
+/// Whether the log has these bytes.
+fn log_is(alloc: Global, shelf: &mut MemShelf, bytes: &[u8]) -> Result<bool, Fail> {
+    match file_of(alloc, shelf, Name::Log)? {
+        Some(log) => Ok(log.as_slice() == bytes),
+        None => Ok(false),
+    }
+}
+
+/// The log with the bytes `old`, of which the next calls fail.
+fn old_log(alloc: Global, fails: &[u32]) -> Result<MemShelf, Fail> {
+    let mut shelf = MemShelf::new(alloc, 1000, numbers(alloc, fails)?, None)?;
+    shelf
+        .replace(Name::Log, b"old")
+        .ok()
+        .ok_or("a replace that fails")?;
+    Ok(shelf)
+}
+
 #[test]
 fn a_replace_that_fails_is_not_read(rt: HostRuntime) -> Result<(), Fail> {
     let alloc = rt.alloc();
-    let mut shelf = MemShelf::new(alloc, 1000, numbers(alloc, &[2])?, None)?;
-    assert!(rt; shelf.replace(Name::Log, b"old").is_ok());
-    assert!(rt; shelf.replace(Name::Log, b"new").is_err());
-    let log = shelf
-        .read(alloc, Name::Log)
-        .ok()
-        .ok_or("memory")?
-        .ok_or("absent")?;
-    assert!(rt; log.as_slice() == b"old".as_slice());
+    let mut shelf = old_log(alloc, &[2])?;
+    assert!(rt; shelf.replace(Name::Log, b"newer").is_err());
+    assert!(rt; log_is(alloc, &mut shelf, b"old")?);
+    assert!(rt; shelf.write_at(Name::Log, 3, b"er").is_ok());
+    assert!(rt; log_is(alloc, &mut shelf, b"older")?);
+    Ok(())
+}
+
+#[test]
+fn a_remove_that_fails_is_not_read(rt: HostRuntime) -> Result<(), Fail> {
+    let alloc = rt.alloc();
+    let mut shelf = old_log(alloc, &[2])?;
+    assert!(rt; shelf.remove(Name::Log).is_err());
+    assert!(rt; log_is(alloc, &mut shelf, b"old")?);
+    assert_eq!(rt; shelf.list(alloc).ok().ok_or("memory")?.len(), 1);
+    let images = shelf.images(alloc)?;
+    assert_eq!(rt; images.len(), 1);
+    assert!(rt; shows_log(&images, 0, b"old"));
+    Ok(())
+}
+
+#[test]
+fn a_replace_that_fails_may_be_read(rt: HostRuntime) -> Result<(), Fail> {
+    let alloc = rt.alloc();
+    let mut shelf = old_log(alloc, &[3])?.showing_failed();
+    assert!(rt; shelf.write_at(Name::Log, 0, b"O").is_ok());
+    assert!(rt; shelf.replace(Name::Log, b"newer").is_err());
+    assert!(rt; log_is(alloc, &mut shelf, b"newer")?);
+    assert_eq!(rt; shelf.faults(), 1);
+    let images = shelf.images(alloc)?;
+    assert_eq!(rt; images.len(), 1);
+    assert!(rt; shows_log(&images, 0, b"newer"));
+    assert!(rt; shelf.write_at(Name::Log, 0, b"N").is_ok());
+    let images = shelf.images(alloc)?;
+    assert_eq!(rt; images.len(), 6);
+    assert!(rt; shows_log(&images, 0, b"Newer"));
+    assert!(rt; shows_log(&images, 1, b"newer"));
+    assert!(rt; shows_log(&images, 5, b"7ewer"));
+    Ok(())
+}
+
+#[test]
+fn a_remove_that_fails_may_be_read(rt: HostRuntime) -> Result<(), Fail> {
+    let alloc = rt.alloc();
+    let mut shelf = old_log(alloc, &[2, 5])?.showing_failed();
+    assert!(rt; shelf.remove(Name::Log).is_err());
+    assert!(rt; file_of(alloc, &mut shelf, Name::Log)?.is_none());
+    assert!(rt; shelf.list(alloc).ok().ok_or("memory")?.is_empty());
+    let images = shelf.images(alloc)?;
+    assert_eq!(rt; images.len(), 1);
+    assert!(rt; images.get(0).is_empty());
+    assert!(rt; shelf.write_at(Name::Log, 1, b"abcd").is_err());
+    assert!(rt; log_is(alloc, &mut shelf, b"\0ab")?);
+    assert_eq!(rt; shelf.faults(), 2);
+    Ok(())
+}
+
+#[test]
+fn each_call_is_counted(rt: HostRuntime) -> Result<(), Fail> {
+    let alloc = rt.alloc();
+    let mut shelf = MemShelf::new(alloc, 100, numbers(alloc, &[2])?, Some(6))?;
+    assert_eq!(rt; shelf.call_count(), 0);
+    assert!(rt; shelf.write_at(Name::Log, 0, b"a").is_ok());
+    assert!(rt; shelf.list(alloc).is_err());
+    assert!(rt; shelf.read(alloc, Name::Log).is_ok());
+    assert!(rt; shelf.sync(Name::Log).is_err());
+    assert_eq!(rt; shelf.call_count(), 4);
+    assert!(rt; shelf.replace(Name::Cache, b"").is_err());
+    assert!(rt; shelf.remove(Name::Index).is_err());
+    assert!(rt; shelf.read(alloc, Name::Log).is_err());
+    assert_eq!(rt; shelf.call_count(), 7);
+    assert_eq!(rt; shelf.faults(), 5);
+    Ok(())
+}
+
+#[test]
+fn many_files_are_put_there(rt: HostRuntime) -> Result<(), Fail> {
+    let alloc = rt.alloc();
+    let mut folder = List::new(alloc);
+    for n in 0..200u32 {
+        let mut text = List::new(alloc);
+        for _ in 0..n * 10 {
+            text.push(b'x')?;
+        }
+        folder.push((Name::Mail(n), text))?;
+    }
+    let mut shelf = MemShelf::of(alloc, &folder, 0, List::new(alloc), None)?;
+    assert_eq!(rt; shelf.list(alloc).ok().ok_or("memory")?.len(), 200);
+    let last = file_of(alloc, &mut shelf, Name::Mail(199))?.ok_or("absent")?;
+    assert_eq!(rt; last.len(), 1990);
+    assert!(rt; shelf.sync(Name::Mail(0)).is_err());
     Ok(())
 }
 

@@ -27,7 +27,7 @@ pub returns-in-Ok-clause-crash : goal.returns-in-Ok-clause-crash
 returns-in-Ok-clause-crash g c = λ tells clock_tells only.
     let S = g.S.Shelf in
     let before = S.files c.args.shelf.now in
-    let t1 = c.is_new.ensures.told tells in
+    let t1 = tells in
     let n = c.stamp-now.result in
     let n-is : n ≡ stamp (g.C.Clock.upcoming c.args.clock.now 0) = c.stamp-now.ensures.is ∙ ap stamp (c.now.ensures.reading clock_tells) in
     let fresh : IsNew before = search rules in
@@ -39,7 +39,7 @@ pub returns-clause-crash : goal.returns-clause-crash
 returns-clause-crash g c = λ tells clock_tells only.
     let S = g.S.Shelf in
     let before = S.files c.args.shelf.now in
-    let t1 = c.is_new.ensures.told tells in
+    let t1 = tells in
     let n = c.stamp-now.result in
     let n-is : n ≡ stamp (g.C.Clock.upcoming c.args.clock.now 0) = c.stamp-now.ensures.is ∙ ap stamp (c.now.ensures.reading clock_tells) in
     let fresh : IsNew before = search rules in
@@ -51,4 +51,4 @@ pub returns-in-Ok-clause-rest : goal.returns-in-Ok-clause-rest
 returns-in-Ok-clause-rest g c = λ tells.
     let made = c.new_serving.ensures in
     made_rests c.new_serving.result c.as_slice.result.now (g.S.Shelf.may_leave c.replace.new.self) made.serving made.journal
-    (c.as_slice.ensures ∙ c.in_ok-text.ensures ∙ ap (λ (k : ℕ). log_text (new_header k) (validity_record k ∷ [])) (sym made.validity)) (c.in-Ok.ensures.durable (c.is_new.ensures.told tells))
+    (c.as_slice.ensures ∙ c.in_ok-text.ensures ∙ ap (λ (k : ℕ). log_text (new_header k) (validity_record k ∷ [])) (sym made.validity)) (c.in-Ok.ensures.durable tells)

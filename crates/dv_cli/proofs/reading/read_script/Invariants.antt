@@ -5,7 +5,7 @@ use Rattle.dv_cli.proofs.reading.read_script.Given as goal
 abbrev pub invariant-loop-script : goal.invariant-loop-script
 invariant-loop-script g l = record {
   size : length l.text ≤ read_limit;
-  so_far : g.I.Source.tells l.initial.script → g.I.Source.tells l.script × (g.I.Source.left l.initial.script ≡ l.text ++ g.I.Source.left l.script);
+  so_far : g.I.Source.tells → g.I.Source.left l.initial.script ≡ l.text ++ g.I.Source.left l.script;
   later : g.I.Source.fault_count l.initial.script ≤ g.I.Source.fault_count l.script;
 }
 

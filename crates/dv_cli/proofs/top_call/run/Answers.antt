@@ -21,15 +21,15 @@ returns-clause-refused_output g c = λ good tells out_tells fault is.
     let bad = c.whole-end.ensures.refused good tells fault is in
     refuses c.whole-end.result.end c.conclude-status.result (g.I.Source.left c.args.script.now) fault (g.I.Source.fault_count c.args.script.now) (g.I.Source.fault_count c.whole-end.new.script)
     (g.O.Sink.taken c.args.out.now) (g.O.Sink.taken c.conclude-status.new.out) is bad.0
-    (subst (λ (l : List ℕ). Concludes c.whole-end.result.end c.conclude-status.result l (g.O.Sink.taken c.conclude-status.new.out)) (ap g.O.Sink.taken bad.1.out_stays) (c.conclude-status.ensures.text (c.whole-end.ensures.out_told out_tells)))
+    (subst (λ (l : List ℕ). Concludes c.whole-end.result.end c.conclude-status.result l (g.O.Sink.taken c.conclude-status.new.out)) (ap g.O.Sink.taken bad.1.out_stays) (c.conclude-status.ensures.text out_tells))
 
 pub returns-clause-serial : goal.returns-clause-serial
 returns-clause-serial g c = λ good tells clock_tells out_tells lines is.
     let clock = g.C.Clock.upcoming c.args.clock in
     let base = g.S.Shelf.fault_count c.args.shelf in
     let counts = counts_of base (g.S.Shelf.fault_count c.whole-end.new.shelf) (g.I.Source.fault_count c.args.script.now) (g.I.Source.fault_count c.whole-end.new.script) in
-    let has_mailbox : Type 0 = g.S.Shelf.tells c.args.shelf → IsNew (g.S.Shelf.files c.args.shelf) → ⊥ in
-    let new_there : Type 0 = g.S.Shelf.tells c.args.shelf → IsNew (g.S.Shelf.files c.args.shelf) in
+    let has_mailbox : Type 0 = g.S.Shelf.tells → IsNew (g.S.Shelf.files c.args.shelf) → ⊥ in
+    let new_there : Type 0 = g.S.Shelf.tells → IsNew (g.S.Shelf.files c.args.shelf) in
     let served = parsed_served (g.I.Source.left c.args.script.now) lines is in
     let e = c.whole-end.result.end in
     let status = c.conclude-status.result in
@@ -37,11 +37,11 @@ returns-clause-serial g c = λ good tells clock_tells out_tells lines is.
     let old = g.O.Sink.taken c.args.out.now in
     let mid = g.O.Sink.taken c.whole-end.new.out in
     let new = g.O.Sink.taken c.conclude-status.new.out in
-    let done = c.conclude-status.ensures.text (c.whole-end.ensures.out_told out_tells) in
+    let done = c.conclude-status.ensures.text out_tells in
     ⊎_elim
     (λ early. unread clock base counts has_mailbox lines served status journal old new e (g.I.Source.left c.args.script.now) is early.0 early.1.no_entries
     (subst (λ (l : List ℕ). Concludes e status l new) (ap g.O.Sink.taken early.1.out_stays) done))
-    (λ run. folder_serial clock base counts has_mailbox lines served status journal (g.O.Sink.tells c.args.out.now) (g.S.Shelf.tells c.args.shelf) new_there
+    (λ run. folder_serial clock base counts has_mailbox lines served status journal (g.O.Sink.tells) (g.S.Shelf.tells) new_there
     (g.O.Sink.fault_count c.args.out.now) (g.O.Sink.fault_count c.whole-end.new.out) old mid new (g.S.Shelf.files c.args.shelf) (g.S.Shelf.files c.whole-end.new.shelf) e run out_tells
     (end_cause e counts (g.O.Sink.fault_count c.args.out.now) (g.O.Sink.fault_count c.whole-end.new.out) _ _ new_there has_mailbox c.whole-end.ensures.cause
     (ends_folder clock lines e journal _ _ old mid _ _ run)) done)
@@ -58,7 +58,7 @@ returns-clause-found g c = λ clock_tells tells script_tells zero.
     let by : (r : Result (List Line) ScriptEnd) → parsed script ≡ r → Found = λ r is.
     elim r as (λ (x : Result (List Line) ScriptEnd). parsed script ≡ x → Found) [
       | Ok lines ↦ λ is. ⊎_elim (λ early. absurd (not_answered e script _ _ early.0 answered))
-          (λ run. folder_found clock lines (parsed_served script lines is) c.whole-end.result.journal (g.O.Sink.tells c.args.out.now) (g.S.Shelf.tells c.args.shelf) (g.O.Sink.taken c.args.out.now) (g.O.Sink.taken c.whole-end.new.out)
+          (λ run. folder_found clock lines (parsed_served script lines is) c.whole-end.result.journal (g.O.Sink.tells) (g.S.Shelf.tells) (g.O.Sink.taken c.args.out.now) (g.O.Sink.taken c.whole-end.new.out)
           (g.S.Shelf.files c.args.shelf) (g.S.Shelf.files c.whole-end.new.shelf) e run tells answered)
           (c.whole-end.ensures.run good script_tells clock_tells lines is)
       | Err fault ↦ λ is. absurd (not_answered e script _ _ (c.whole-end.ensures.refused good script_tells fault is).0 answered)
@@ -70,7 +70,7 @@ returns-clause-folder g c = λ good script_tells clock_tells tells lines is.
     let clock = g.C.Clock.upcoming c.args.clock in
     let script = g.I.Source.left c.args.script.now in
     ⊎_elim (λ early. inl (early.1.no_entries, ap g.S.Shelf.files early.1.shelf_stays))
-    (λ run. folder_left clock lines (parsed_served script lines is) c.whole-end.result.journal (g.O.Sink.tells c.args.out.now) (g.S.Shelf.tells c.args.shelf) (g.O.Sink.taken c.args.out.now) (g.O.Sink.taken c.whole-end.new.out)
+    (λ run. folder_left clock lines (parsed_served script lines is) c.whole-end.result.journal (g.O.Sink.tells) (g.S.Shelf.tells) (g.O.Sink.taken c.args.out.now) (g.O.Sink.taken c.whole-end.new.out)
     (g.S.Shelf.files c.args.shelf) (g.S.Shelf.files c.whole-end.new.shelf) c.whole-end.result.end run tells c.conclude-status.result c.conclude-status.ensures.status)
     (c.whole-end.ensures.run good script_tells clock_tells lines is)
 
@@ -90,12 +90,12 @@ returns-clause-output g c = λ script_tells tells clock_tells out_tells there ne
     let counts = counts_of (g.S.Shelf.fault_count c.args.shelf) (g.S.Shelf.fault_count c.whole-end.new.shelf) source source_now in
     let mid_stayed : Rose out out_mid → ⊥ = λ rose. out_stayed (rose_later out out_mid out_now c.conclude-status.ensures.later rose) in
     let after_stayed : Rose out_mid out_now → ⊥ = λ rose. out_stayed (rose_earlier out out_mid out_now c.whole-end.ensures.later.1 rose) in
-    let refuses_by : ScriptEnd → Type 0 = λ f. g.I.Source.tells c.args.script.now → (f ≡ script_end.NoMemory) ⊎ (parsed script ≡ Err f) in
-    let new_there : Type 0 = g.S.Shelf.tells c.args.shelf → IsNew (g.S.Shelf.files c.args.shelf) in
-    let not_there : Type 0 = g.S.Shelf.tells c.args.shelf → IsNew (g.S.Shelf.files c.args.shelf) → ⊥ in
+    let refuses_by : ScriptEnd → Type 0 = λ f. g.I.Source.tells → (f ≡ script_end.NoMemory) ⊎ (parsed script ≡ Err f) in
+    let new_there : Type 0 = g.S.Shelf.tells → IsNew (g.S.Shelf.files c.args.shelf) in
+    let not_there : Type 0 = g.S.Shelf.tells → IsNew (g.S.Shelf.files c.args.shelf) → ⊥ in
     let not_seven : status ≡ 7 → ⊥ = not_failed e status counts out out_mid out_now words refuses_by new_there not_there c.whole-end.ensures.cause mid_stayed after_stayed c.conclude-status.ensures.cause in
-    let wrote = wrote_all e status mid (g.O.Sink.taken c.conclude-status.new.out) not-four not_seven (c.conclude-status.ensures.text (c.whole-end.ensures.out_told out_tells)) in
-    output_is words script (g.C.Clock.upcoming c.args.clock) counts out out_mid source source_now refuses_by new_there not_there (g.O.Sink.tells c.args.out.now) (g.S.Shelf.tells c.args.shelf) c.whole-end.result.journal
+    let wrote = wrote_all e status mid (g.O.Sink.taken c.conclude-status.new.out) not-four not_seven (c.conclude-status.ensures.text out_tells) in
+    output_is words script (g.C.Clock.upcoming c.args.clock) counts out out_mid source source_now refuses_by new_there not_there (g.O.Sink.tells) (g.S.Shelf.tells) c.whole-end.result.journal
     old mid (g.O.Sink.taken c.conclude-status.new.out) (g.S.Shelf.files c.args.shelf) (g.S.Shelf.files c.whole-end.new.shelf) out_tells tells (λ f why. why script_tells) (λ is. is tells) (λ is. is tells)
     shelf_stayed source_stayed mid_stayed there e new c.whole-end.ensures.cause
     (λ bad. ap g.O.Sink.taken (c.whole-end.ensures.usage bad).1.out_stays)

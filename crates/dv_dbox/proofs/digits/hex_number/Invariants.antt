@@ -1,6 +1,6 @@
 use Rattle.std.proofs.Common.{◌≡◌, ◌<◌, ◌^◌, drop}
 use Rattle.std.specs.Str.Parse.{digits_value, digits_value_after}
-use Rattle.dv_model.specs.BoxTexts.{are_hex}
+use Rattle.dv_dbox.specs.BoxTexts.{are_hex}
 use Rattle.dv_dbox.proofs.digits.hex_number.Given as goal
 
 abbrev pub invariant-loop-b : goal.invariant-loop-b

@@ -1,6 +1,6 @@
 use Rattle.std.proofs.Common.{◌≡◌, drop}
 use Rattle.std.specs.List.{list_all}
-use Rattle.dv_model.specs.BoxTexts.{is_item}
+use Rattle.dv_dbox.specs.BoxTexts.{is_item}
 use Rattle.dv_dbox.specs.Reading.{texts}
 use Rattle.dv_dbox.proofs.items.are_items.Given as goal
 

@@ -1,5 +1,5 @@
 use Rattle.std.proofs.Common.{◌≡◌, Result, Ok, sym, ◌∙◌}
-use Rattle.dv_model.specs.BoxTexts.{BoxContent, BoxFault}
+use Rattle.dv_dbox.specs.BoxTexts.{BoxContent, BoxFault}
 use Rattle.dv_dbox.proofs.Again.{read_again}
 use Rattle.dv_dbox.proofs.law.reading_is_one.Goals as goal
 

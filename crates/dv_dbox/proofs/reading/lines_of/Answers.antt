@@ -2,7 +2,7 @@ use Rattle.std.proofs.Common.{◌≡◌, ◌<◌, [], ◌∷◌, ◌++◌, lengt
 use Rattle.std.specs.Option.{ok_or}
 use Rattle.std.proofs.lemmas.Bool.{eqb-false, eqb-true}
 use Rattle.std.proofs.lemmas.List.{map_push}
-use Rattle.dv_model.specs.BoxTexts.{BadMetadata}
+use Rattle.dv_dbox.specs.BoxTexts.{BadMetadata}
 use Rattle.dv_dbox.specs.Reading.{texts}
 use Rattle.dv_dbox.proofs.Lines.{ends, goes_on, is_done}
 use Rattle.dv_dbox.proofs.reading.lines_of.Goals as goal

@@ -1,6 +1,6 @@
 use Rattle.std.proofs.Common.{◌≡◌, length}
 use Rattle.std.specs.List.{slice_split}
-use Rattle.dv_model.specs.BoxTexts.{before_empty, is_feed}
+use Rattle.dv_dbox.specs.BoxTexts.{before_empty, is_feed}
 use Rattle.dv_dbox.specs.Reading.{texts}
 use Rattle.dv_dbox.proofs.Lines.{with_front}
 use Rattle.dv_dbox.proofs.reading.lines_of.Given as goal

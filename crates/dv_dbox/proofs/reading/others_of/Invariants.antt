@@ -1,6 +1,6 @@
 use Rattle.std.proofs.Common.{◌≡◌, ◌++◌, drop}
 use Rattle.std.specs.Prelude.{filter}
-use Rattle.dv_model.specs.BoxTexts.{is_other}
+use Rattle.dv_dbox.specs.BoxTexts.{is_other}
 use Rattle.dv_dbox.specs.Reading.{texts}
 use Rattle.dv_dbox.proofs.reading.others_of.Given as goal
 

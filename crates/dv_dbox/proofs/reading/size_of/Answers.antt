@@ -1,6 +1,6 @@
 use Rattle.std.proofs.Common.{◌≡◌, ℕ, ◌<◌, false, eqb, List, length, take, Err, refl, arith}
 use Rattle.std.proofs.lemmas.List.{length-take}
-use Rattle.dv_model.specs.BoxTexts.{size_at, BadMessageHeader}
+use Rattle.dv_dbox.specs.BoxTexts.{size_at, BadMessageHeader}
 use Rattle.dv_dbox.proofs.reading.size_of.Goals as goal
 
 short : (b : List ℕ) → length b < 30 → size_at b ≡ Err BadMessageHeader

@@ -1,7 +1,7 @@
 use Rattle.std.proofs.Common.{rules, tests}
 use Rattle.std.proofs.lemmas.Iterator.Consumers.{map_from_collect}
 use Rattle.std.proofs.lemmas.Iterator.Splits.{YieldsList-from_slice_split}
-use Rattle.dv_model.specs.BoxTexts.{is_space}
+use Rattle.dv_dbox.specs.BoxTexts.{is_space}
 use Rattle.dv_dbox.proofs.reading.words_of.Goals as goal
 
 pub returns : goal.returns

@@ -1,5 +1,5 @@
 use Rattle.std.proofs.Common.{◌≡◌, drop}
-use Rattle.dv_model.specs.BoxTexts.{value_of}
+use Rattle.dv_dbox.specs.BoxTexts.{value_of}
 use Rattle.dv_dbox.specs.Reading.{texts}
 use Rattle.dv_dbox.proofs.values.value_of.Given as goal
 

@@ -1,6 +1,6 @@
 use Rattle.std.specs.Prelude.{string_bytes}
 use Rattle.std.proofs.Common.{◌++◌}
-use Rattle.dv_model.specs.BoxTexts.{first_line_text, message_header_text}
+use Rattle.dv_dbox.specs.BoxTexts.{first_line_text, message_header_text}
 use Rattle.dv_dbox.proofs.Wide.{head_is, head_pieces, said_as}
 use Rattle.dv_dbox.proofs.writing.head_of.Goals as goal
 

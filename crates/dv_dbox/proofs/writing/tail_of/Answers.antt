@@ -1,7 +1,7 @@
 use Rattle.std.specs.Prelude.{string_bytes}
 use Rattle.std.proofs.Common.{◌++◌, ap, ◌∙◌}
 use Rattle.hex.specs.Hex.{encode_lower}
-use Rattle.dv_model.specs.BoxTexts.{metadata_text, trailer}
+use Rattle.dv_dbox.specs.BoxTexts.{metadata_text, trailer}
 use Rattle.dv_dbox.proofs.Guids.{encoded_is}
 use Rattle.dv_dbox.proofs.Wide.{said_as, tail_is, tail_pieces}
 use Rattle.dv_dbox.proofs.writing.tail_of.Goals as goal

@@ -7,7 +7,9 @@ use Rattle.dv_model.specs.Fields.{is_colon, is_named, without_end_blanks, withou
 use Rattle.dv_fields.proofs.FirstLines.{position-some}
 use Rattle.dv_fields.proofs.fields.value_named.Goals as goal
 
-named : (name field : List ℕ) (i : ℕ) → position is_colon field ≡ Some i → map to_ascii_lowercase (take i field) ≡ map to_ascii_lowercase name → is_named name field ≡ true
+named : (name field : List ℕ) (i : ℕ) → position is_colon field ≡ Some i
+    → map to_ascii_lowercase (take i field) ≡ map to_ascii_lowercase name
+    → is_named name field ≡ true
 named name field i e same =
     let at = position-some is_colon field i e in
     rw (e, at.0) ((bytes_eq-Decides (map to_ascii_lowercase (take i field)) (map to_ascii_lowercase name)).1 same)

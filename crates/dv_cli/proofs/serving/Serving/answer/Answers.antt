@@ -17,7 +17,7 @@ returns-in-Append-clause-ok g c = λ guid.
 
 pub returns-in-Append-clause-crash : goal.returns-in-Append-clause-crash
 returns-in-Append-clause-crash g c = λ guid.
-    subst (λ (k : Command). g.S.Shelf.tells c.args.shelf.now → RestsAt c.args.self.now.uid_validity c.args.self.now.journal.items (g.S.Shelf.may_leave c.args.shelf.now)
+    subst (λ (k : Command). g.S.Shelf.tells → RestsAt c.args.self.now.uid_validity c.args.self.now.journal.items (g.S.Shelf.may_leave c.args.shelf.now)
     → LeavesOnly g.S.Shelf.moment g.S.Shelf.left_since c.args.shelf.now c.append.new.shelf
     (LeavesCommand guid c.args.self.now k c.append.new.self (Rose (g.S.Shelf.fault_count c.args.shelf.now) (g.S.Shelf.fault_count c.append.new.shelf))))
     (sym (served_append c.args.command.now c.in-Append.flags c.in-Append.keywords c.in-Append.message c.in-Append.is c.requires.served)) (c.append.ensures.crash guid)
@@ -47,6 +47,6 @@ returns-in_ok-one_line-in_default-clause-crash g c = λ guid tells rest.
 
 pub returns-in-Append-clause-rest_left : goal.returns-in-Append-clause-rest_left
 returns-in-Append-clause-rest_left g c = λ guid.
-    subst (λ (k : Command). g.S.Shelf.tells c.args.shelf.now → RestsAt c.args.self.now.uid_validity c.args.self.now.journal.items (g.S.Shelf.may_leave c.args.shelf.now)
+    subst (λ (k : Command). g.S.Shelf.tells → RestsAt c.args.self.now.uid_validity c.args.self.now.journal.items (g.S.Shelf.may_leave c.args.shelf.now)
     → IfErr c.append.result (λ e. (f : Folder) → g.S.Shelf.may_leave c.append.new.shelf f → EndsHolding e guid c.args.self.now k f))
     (sym (served_append c.args.command.now c.in-Append.flags c.in-Append.keywords c.in-Append.message c.in-Append.is c.requires.served)) (c.append.ensures.rest_left guid)

@@ -16,7 +16,8 @@ use Rattle.dv_shelf.specs.declared.shelf.Name.TheVariants as name
 use Rattle.dv_cli.specs.Servings.{HoldsLog, standing_of, mailbox_of, log_records}
 use Rattle.std.proofs.lemmas.Result.{err_from_is_err_and}
 use Rattle.dv_model.specs.declared.types.Command.TheVariants as command
-use Rattle.dv_cli.proofs.Crashes.{either_left, rest_gate, appends_either, appends_group, stays, weaker}
+use Rattle.dv_cli.proofs.Crashes.{either_left, rest_gate, appends_either, appends_group, stays}
+use Rattle.dv_shelf.proofs.Moments.{weaker}
 use Rattle.dv_cli.proofs.Serves.{Gains, append_entry, append_is_step, serving_gains, records_more, log_written, log_long, append_leaves, append_entries}
 use Rattle.dv_cli.proofs.serving.Serving.write_append.Given as given
 use Rattle.dv_cli.proofs.serving.Serving.write_append.Goals as goal
@@ -47,9 +48,9 @@ module _ (g : given.Over) (c : goal.After-drop-text-inside-2 g) where
     highest = c.keep.ensures.highest ∙ ap (λ (row : Row). row.modseq) c.new_row-row.ensures;
     validity = cc;
     selected = cc;
-    file_seq = ap (λ (l : LogFile). l.file_seq) kept ∙ c.commit.ensures.file_seq ∙ ap (λ (l : LogFile). l.file_seq) log-is;
-    end = omega (arith, ap (λ (l : LogFile). l.end) kept, c.in-Ok.ensures.end, ap (λ (l : LogFile). l.end) log-is, ap length text-is);
-    debt = ap (λ (l : LogFile). l.debt) kept ∙ c.in-Ok.ensures.debt;
+    file_seq = ap (λ (l : LogFile). l.file_seq) kept ∙ c.commit.ensures.value.file_seq ∙ ap (λ (l : LogFile). l.file_seq) log-is;
+    end = omega (arith, ap (λ (l : LogFile). l.end) kept, c.in-Ok.ensures.value.end, ap (λ (l : LogFile). l.end) log-is, ap length text-is);
+    debt = ap (λ (l : LogFile). l.debt) kept ∙ c.in-Ok.ensures.value.debt;
   }
 
 pub returns-clause-ok : goal.returns-clause-ok
@@ -66,7 +67,7 @@ returns-clause-files g c = λ tells was.
     let v = s.uid_validity in
     let F = g.S.Shelf.files c.args.shelf.now in
     let end-is = ap (λ (l : LogFile). l.end) (log-is g c) ∙ c.requires.serving.end in
-    let written = c.in-Ok.ensures.written tells (omega (arith, log_long F v c.reserve.new.self.log.end (log_records v s.journal.items) was end-is)) in
+    let written = (c.in-Ok.ensures.bytes tells).written (omega (arith, log_long F v c.reserve.new.self.log.end (log_records v s.journal.items) was end-is)) in
     log_written F (g.S.Shelf.files c.commit.new.shelf) v c.reserve.new.self.log.end (log_records v s.journal.items) (append_record (mailbox_of s) 0 ∷ []) c.in_ok-text.text was end-is (text-is g c) written
     ∙ ap (λ (rs : List Record). Some (log_text (new_header v) rs)) (sym (ap (λ (es : List Entry). log_records v es) (gains g c).journal ∙ records_more v s.journal.items (append_entry s)))
 
@@ -78,7 +79,7 @@ returns-in-Err-Disk-clause-files_left g c = λ guid tells was.
     append_leaves guid s c.requires.serving c.requires.selected c.requires.uids c.requires.room (g.S.Shelf.files c.args.shelf.now) _ c.reserve.new.self.log.end c.in_ok-text.text
     c.in_ok-text.ensures.group was end-is
     (c.in_ok-text.ensures.text ∙ ap (λ (rs : List Record). flat_map written rs ++ closing) c.in_ok-group.ensures)
-    (c.in-Err-Disk.ensures.failed tells (log_long (g.S.Shelf.files c.args.shelf.now) s.uid_validity c.reserve.new.self.log.end (log_records s.uid_validity s.journal.items) was (end-is ∙ c.requires.serving.end)))
+    ((c.in-Err-Disk.ensures.bytes tells).failed (log_long (g.S.Shelf.files c.args.shelf.now) s.uid_validity c.reserve.new.self.log.end (log_records s.uid_validity s.journal.items) was (end-is ∙ c.requires.serving.end)))
 
 pub returns-in_err-group-clause-crash : goal.returns-in_err-group-clause-crash
 returns-in_err-group-clause-crash g c = λ guid tells rest.
@@ -111,7 +112,7 @@ returns-in-Err-Disk-clause-crash g c = λ guid tells rest.
     let text-is = c.in_ok-text.ensures.text ∙ ap (λ (rs : List Record). flat_map written rs ++ closing) c.in_ok-group.ensures in
     let images = S.may_leave c.args.shelf.now in
     weaker S.moment S.left_since c.args.shelf.now c.commit.new.shelf _ _
-    (c.commit.ensures.reading tells (rest_gate s.uid_validity s.journal.items e c.in_ok-text.text images (end-is ∙ c.requires.serving.end) rest))
+    (c.commit.ensures.reading tells (rest_gate s.uid_validity s.journal.items e c.in_ok-text.text images (end-is ∙ c.requires.serving.end) rest)).reading
     (λ f from. ⊎_elim (λ old. inl old)
     (λ more. inr (inr (c.in-Err-Disk.ensures.cause.rose.1, subst (λ (es : List Entry). HoldsLog s.uid_validity es f) (sym (append_entries guid s c.requires.serving c.requires.selected c.requires.uids c.requires.room)) more)))
     (appends_either s c.requires.serving c.requires.uids e c.in_ok-text.text end-is text-is images rest f from))
@@ -124,7 +125,7 @@ returns-clause-crash g c = λ guid tells rest.
     let end-is : e ≡ s.log.end = ap (λ (l : LogFile). l.end) (log-is g c) in
     let images = S.may_leave c.args.shelf.now in
     weaker S.moment S.left_since c.args.shelf.now c.commit.new.shelf _ _
-    (c.commit.ensures.reading tells (rest_gate s.uid_validity s.journal.items e c.in_ok-text.text images (end-is ∙ c.requires.serving.end) rest))
+    (c.commit.ensures.reading tells (rest_gate s.uid_validity s.journal.items e c.in_ok-text.text images (end-is ∙ c.requires.serving.end) rest)).reading
     (λ f from. ⊎_elim (λ old. inl old) (λ more. inr (inl (subst (λ (es : List Entry). HoldsLog s.uid_validity es f) (sym (gains g c).journal) more)))
     (appends_either s c.requires.serving c.requires.uids e c.in_ok-text.text end-is (text-is g c) images rest f from))
 
@@ -137,9 +138,9 @@ returns-clause-rest g c = λ tells rest f left.
     let text = c.in_ok-text.text in
     let end-is : e ≡ s.log.end = ap (λ (l : LogFile). l.end) (log-is g c) in
     let at_rest = rest_gate s.uid_validity s.journal.items e text (S.may_leave c.args.shelf.now) (end-is ∙ c.requires.serving.end) rest in
-    let from = c.in-Ok.ensures.reads_group tells at_rest f left in
+    let from = (c.in-Ok.ensures.reading tells at_rest).reads_group f left in
     let now : IsAtRest debt.None c.commit.new.self.end text (S.may_leave c.commit.new.shelf) =
-    subst (λ (d : Debt). IsAtRest d c.commit.new.self.end text (S.may_leave c.commit.new.shelf)) c.in-Ok.ensures.debt (c.commit.ensures.rest tells at_rest) in
+    subst (λ (d : Debt). IsAtRest d c.commit.new.self.end text (S.may_leave c.commit.new.shelf)) c.in-Ok.ensures.value.debt (c.commit.ensures.reading tells at_rest).rest in
     let end-now : c.commit.new.self.end ≡ log_end (log_records s.uid_validity t.journal.items) =
     ap (λ (l : LogFile). l.end) (sym (kept g c)) ∙ (serving_gains s t (gains g c) c.requires.serving c.requires.selected c.requires.uids c.requires.room).end
     ∙ ap (λ (n : ℕ). log_end (log_records n t.journal.items)) (gains g c).validity in (
@@ -170,6 +171,5 @@ returns-in_err-reserve-clause-rest_left g c = λ guid tells rest.
 pub returns-in-Err-Disk-clause-rest_left : goal.returns-in-Err-Disk-clause-rest_left
 returns-in-Err-Disk-clause-rest_left g c = λ guid tells rest f left.
     let S = g.S.Shelf in
-    let told = c.commit.ensures.told tells in
     let run = returns-in-Err-Disk-clause-crash g c guid tells rest in
     either_left guid c.args.self.now (command.Append 0 [] []) c.reserve.new.self.journal.items _ c.reserve.ensures.journal f (run.each f (g.met.S.Shelf.counts_now c.commit.new.shelf (S.moment c.args.shelf.now) f run.later left))

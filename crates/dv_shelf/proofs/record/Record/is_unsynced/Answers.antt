@@ -9,5 +9,5 @@ pub returns : goal.returns
 returns c =
     let name = c.args.name in
     let seen = c.split_at.ensures.back ∙ ap (drop c.args.from) c.as_slice.ensures.value in
-    ap not (c.any_settles.ensures ∙ ap (λ (l : List Call). list_any (λ (m : Call). settles_file name m.name m.deed m.done) l) seen
+    ap not (c.any_settles.ensures ∙ ap (λ (l : List Call). list_any (λ (m : Call). settles_file name m.name m.deed m.outcome) l) seen
     ∙ sym (later_settles c.args.self.now.bytes.items c.args.self.now.calls.items c.args.from name))

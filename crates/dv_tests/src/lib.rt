@@ -1,0 +1,5 @@
+//! Tests that cross crates: what a folder, its records and its commands go through on their way.
+#![tactic(auto)]
+
+#[cfg(test)]
+mod copies;
