@@ -90,6 +90,32 @@ full_file : said_over (record (created_with false) { start_mark = record { file_
 unfolding digits
 full_file = refl
 
+-- ---- a session that hears of many writes at once, over a rotation
+
+abbrev single : ℕ → Span
+single n = record { from = Number n; to = Number n }
+
+abbrev odd : NamedLine
+odd = a (command.Store false (single 1 ∷ single 3 ∷ single 5 ∷ []) how.Add 8 [] None)
+
+abbrev b : Command → NamedLine
+b c = served (codes "b") 2 c
+
+-- six messages, and eight writes of three rows each: the file is rotated before the fifth
+abbrev before_nap : Log
+before_nap = record created { start_mark = record { file_seq = 1; offset = 130800 } }
+
+abbrev nap : List NamedLine
+nap = a command.Select ∷ replicate 6 (a hello) ++ b command.Select ∷ replicate 8 odd
+
+woken : said_over before_nap nap (b command.Noop ∷ [])
+    ≡ text_lines (codes "b * 1 FETCH (UID 1 FLAGS (\\Seen))" ∷ codes "b * 3 FETCH (UID 3 FLAGS (\\Seen))" ∷ codes "b * 5 FETCH (UID 5 FLAGS (\\Seen))" ∷ codes "b OK [MARK 2:216] NOOP" ∷ [])
+unfolding digits
+woken = refl
+
+nap_groups : length (after_lines before_nap nap).log.entries ≡ 14
+nap_groups = refl
+
 -- ---- readings of the clock
 
 -- the n-th reading is 1000 + n
