@@ -9,7 +9,7 @@ use Rattle.dv_model.specs.declared.types.Item.TheVariants as item
 use Rattle.dv_model.specs.declared.types.Span.{Span}
 use Rattle.dv_model.specs.Journals.{Log, new_guid}
 use Rattle.dv_playing.specs.Playing.{DueAgain, Made, Owed, Play, Rotation, begin, played}
-use Rattle.dv_examples.proofs.Played.{NamedLine, after_lines, attempts_of, clock, created, created_with, failed, said_by, said_over, served, text_lines}
+use Rattle.dv_examples.proofs.Played.{NamedLine, after_lines, attempts_of, created, created_with, failed, said_by, said_over, served, text_lines}
 
 abbrev a : Command → NamedLine
 a c = served (codes "a") 1 c

@@ -1,5 +1,5 @@
 -- Scripts and what the rules answer: both sides of each theorem compute.
-use Rattle.std.specs.Prelude.{◌≡◌, refl, ℕ, List, [], ◌∷◌, ◌++◌, map, replicate, codes, false, true, None, Some}
+use Rattle.std.specs.Prelude.{◌≡◌, refl, ℕ, List, [], ◌∷◌, ◌++◌, replicate, codes, false, true, None, Some}
 use Rattle.std.specs.Fmt.{digits}
 use Rattle.dv_model.specs.declared.types.Command.{Command}
 use Rattle.dv_model.specs.declared.types.Command.TheVariants as command

@@ -1,6 +1,6 @@
 -- A whole run of two commands is one of the rules: as a run of all sessions, and as the transcript of one.
-use Rattle.std.proofs.Common.{◌≡◌, inl, inr, refl, ℕ, zero, suc, ◌<◌, List, [], ◌∷◌, arith}
-use Rattle.std.specs.Prelude.{Bool, All, IsSome, codes, slice_index_or}
+use Rattle.std.proofs.Common.{inl, inr, refl, ℕ, zero, suc, ◌<◌, List, [], ◌∷◌, arith}
+use Rattle.std.specs.Prelude.{Bool, IsSome, codes, slice_index_or}
 use Rattle.std.proofs.lemmas.List.Elements.{All-from_recursion, All-nil, All-replicate}
 use Rattle.dv_model.specs.declared.types.Command.{Command}
 use Rattle.dv_model.specs.declared.types.Command.TheVariants as command
@@ -11,8 +11,8 @@ use Rattle.dv_model.specs.Mailboxes.{IsValid}
 use Rattle.dv_model.specs.Sessions.{Answer, answer, new_session}
 use Rattle.dv_model.specs.Transcripts.{IsOwn, IsTold, IsTurn, Serial, Spoken, Turn, WroteEntry}
 use Rattle.dv_examples.proofs.Played.{NamedLine, after_lines, attempts_of, clock, created, created_with, failed, served}
-use Rattle.dv_playing.specs.Laws.{IsAttempt, MayPlay, MayWrite}
-use Rattle.dv_playing.specs.Playing.{DueAgain, Play, begin, played, replies_to, with_group_here}
+use Rattle.dv_playing.specs.Laws.{IsAttempt, MayPlay}
+use Rattle.dv_playing.specs.Playing.{DueAgain, with_group_here}
 use Rattle.dv_playing.proofs.Plays.{leaves, serial, stands}
 
 abbrev append : Command

@@ -1,14 +1,14 @@
 -- What is played is a run by the rules.
-use Rattle.std.proofs.Common.{◌≡◌, inl, inr, ℕ, ◌+◌, List, [], ◌∷◌, ◌++◌, length, refl, sym, ◌∙◌, ap, subst, arith, append_assoc}
-use Rattle.std.specs.Prelude.{All, drop, map, take}
-use Rattle.std.proofs.lemmas.List.{append-nil, drop_at, length-map, take_at}
+use Rattle.std.proofs.Common.{◌≡◌, inl, inr, ℕ, ◌+◌, List, [], ◌∷◌, ◌++◌, length, refl, sym, ap, subst, arith, append_assoc}
+use Rattle.std.specs.Prelude.{All, drop, take}
+use Rattle.std.proofs.lemmas.List.{append-nil, drop_at, take_at}
 use Rattle.std.proofs.lemmas.List.Elements.{All-head, All-tail}
 use Rattle.dv_model.specs.declared.types.Reply.{Reply}
 use Rattle.dv_model.specs.Journals.{Log}
-use Rattle.dv_model.specs.Sessions.{State, new_session}
+use Rattle.dv_model.specs.Sessions.{new_session}
 use Rattle.dv_model.specs.Transcripts.{EndsAt, HasLeft, Line, Runs, Serial}
 use Rattle.dv_playing.specs.Laws.{IsAtEnd, IsAttempt, MayPlay, MayWrite, lines_of}
-use Rattle.dv_playing.specs.Playing.{Attempt, Play, begin, file_readings, group_here, is_empty, played, refused_here, replies_to, step, with_group_here}
+use Rattle.dv_playing.specs.Playing.{Attempt, Play, begin, file_readings, played, replies_to, step, with_group_here}
 use Rattle.dv_playing.proofs.Steps.{IsPlayed, allowed_later, begins, has_written, longer, longer_sound, many_entries, runs_longer, step_played, was_there}
 
 -- ---- all lines

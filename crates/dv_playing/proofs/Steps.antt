@@ -1,5 +1,5 @@
 -- Each line that is played is answered by the rules, over a log that stays sound.
-use Rattle.std.proofs.Common.{◌≡◌, inl, inr, ℕ, ◌+◌, ◌≤◌, Bool, true, false, cond, not, ◌&&◌, ◌||◌, List, [], ◌∷◌, ◌++◌, length, nat_eq, Option, Some, None, refl, sym, ◌∙◌, ap, subst, arith}
+use Rattle.std.proofs.Common.{◌≡◌, inl, inr, ℕ, ◌+◌, ◌≤◌, Bool, true, false, cond, List, [], ◌∷◌, ◌++◌, length, nat_eq, Option, Some, None, refl, sym, ◌∙◌, ap, subst, arith}
 use Rattle.std.specs.Prelude.{IsSome, flat_map, fold, unwrap_or}
 use Rattle.std.proofs.lemmas.Bool.Decides.{nat_tests}
 use Rattle.std.proofs.lemmas.List.Sums.{fold-append}
@@ -13,7 +13,7 @@ use Rattle.dv_model.specs.declared.types.Reply.TheVariants as reply
 use Rattle.dv_model.specs.Effects.{applied}
 use Rattle.dv_model.specs.Journals.{IsEntry, IsSound, Log, at, mark_behind, mark_of}
 use Rattle.dv_model.specs.Sessions.{Answer, State, answer, group_of, new_session, refusal_of}
-use Rattle.dv_model.specs.Transcripts.{Answered, HasWritten, IsTold, Line, Runs, Wrote, refused_at, touches_disk, with_state, with_written}
+use Rattle.dv_model.specs.Transcripts.{Answered, HasWritten, IsTold, Line, Runs, refused_at, touches_disk, with_state, with_written}
 use Rattle.dv_model.proofs.Transcripts.{at_all, mark_all, runs_on}
 use Rattle.dv_validity.proofs.Entries.{group_is_entry}
 use Rattle.dv_validity.proofs.Going.{runs_stay_on}

@@ -1,6 +1,5 @@
 -- What is played is a run by the rules.
 use Rattle.std.specs.Prelude.{◌≡◌, ℕ, true, false, List, [], ◌∷◌, ◌++◌, length, map, All, None, Some}
-use Rattle.dv_model.specs.declared.types.Reply.{Reply}
 use Rattle.dv_model.specs.Counts.{Rose, RoseBy}
 use Rattle.dv_model.specs.Journals.{IsSound, IsU32, Log, at, mark_of}
 use Rattle.dv_model.specs.Sessions.{IsCommand, is_write}
