@@ -14,7 +14,6 @@ use Rattle.dv_model.specs.declared.types.Group.{Group}
 use Rattle.dv_model.specs.declared.types.Mailbox.{Mailbox}
 use Rattle.dv_model.specs.declared.types.Mark.{Mark}
 use Rattle.dv_model.specs.declared.types.Record.{Record}
-use Rattle.dv_model.specs.declared.types.Reply.{Reply}
 use Rattle.dv_model.specs.Effects.{applied}
 use Rattle.dv_model.specs.Journals.{HasResets, IsEntry, IsGuid, IsSound, Log, Mail, Held, at, mark_of, new_guid}
 use Rattle.dv_model.specs.Mailboxes.{IsValid}
