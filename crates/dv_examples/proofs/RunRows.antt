@@ -7,13 +7,13 @@ use Rattle.dv_model.specs.declared.types.Command.TheVariants as command
 use Rattle.dv_model.specs.declared.types.Mailbox.{Mailbox}
 use Rattle.dv_model.specs.declared.types.Reply.TheVariants as reply
 use Rattle.dv_model.specs.Journals.{IsEntry, IsSound, Log, at}
-use Rattle.dv_model.specs.Mailboxes.{IsValid}
 use Rattle.dv_model.specs.Sessions.{Answer, answer, new_session}
 use Rattle.dv_model.specs.Transcripts.{IsOwn, IsTold, IsTurn, Serial, Spoken, Turn, WroteEntry}
 use Rattle.dv_examples.proofs.Played.{NamedLine, after_lines, attempts_of, clock, created, created_with, failed, served}
 use Rattle.dv_playing.specs.Laws.{IsAttempt, MayPlay}
 use Rattle.dv_playing.specs.Playing.{DueAgain, with_group_here}
 use Rattle.dv_playing.proofs.Plays.{leaves, serial, stands}
+use Rattle.dv_validity.proofs.Beginnings.{begun_valid}
 
 abbrev append : Command
 append = command.Append 0 [] (codes "hello")
@@ -24,24 +24,13 @@ lines = served (codes "a") 1 command.Select ∷ served (codes "a") 1 append ∷ 
 -- ---- the folder
 
 module _ (rotates : Bool) where
-  start_is_valid : IsValid (created_with rotates).start
-  start_is_valid = record {
-    next_uid = (omega arith, omega arith);
-    rising = λ k h. absurd (omega (arith, h));
-    rows = All-nil _;
-    names = (All-nil _, λ i j d less h. absurd (omega (arith, h)));
-    extensions = record { count = omega arith; record_sizes = omega arith; headers = All-nil _; names = All-nil _; distinct = λ i j d less h. absurd (omega (arith, h)) };
-    current = tt;
-    highest = (omega arith, omega arith);
-  }
-
   some_mailbox : (k : ℕ) → IsSome (at (created_with rotates) k)
   some_mailbox zero = refl
   some_mailbox (suc k) = refl
 
   pub created_is_sound : IsSound (created_with rotates)
   created_is_sound = record {
-    start = (start_is_valid, All-nil _);
+    start = (begun_valid 1000 2 (omega arith) (omega arith), All-nil _);
     start_mark = (omega arith, omega arith);
     indexid = omega arith;
     guids = λ uid. record { size = refl; bytes = All-replicate (λ b. b < 256) 16 0 (omega arith) };

@@ -55,7 +55,7 @@ pub record IsWriting (log : Log) (s : ℕ) (x : State) (write : Wrote) : Type 0 
 
 -- A write of a good event, allowed in a session's state over the mailbox at the log's end, and its
 -- group, which isn't empty.
-pub record IsAttempt (log : Log) (author : ℕ) (state : State) (c : Command) (g : Group)
+pub record HasTried (log : Log) (author : ℕ) (state : State) (c : Command) (g : Group)
     : Type 0 where
   pub mailbox : Mailbox
   pub is_there : at log (length log.entries) ≡ Some mailbox
@@ -79,7 +79,7 @@ pub record IsTried (log : Log) (start : ℕ) (turns : List Turn) (last : State)
   pub state : State
   pub leads : LeadsTo (begins_at start) front state
   pub rest : LeadsTo state back last
-  pub attempt : IsAttempt log p.author state p.command p.group
+  pub attempt : HasTried log p.author state p.command p.group
   -- the session wrote no entry since
   pub empty : IfSome wrote (λ write. write.place ≡ write.met)
   -- while it runs the session was told nothing since, and nothing waits for its answer
