@@ -30,9 +30,6 @@ use Rattle.dv_promises.proofs.Transcripts.{all_written, entries_live, pair_of, s
 
 -- ---- refused answers are passed over
 
-abbrev is_kept : Command × List Reply → Bool
-is_kept a = not (was_refused a)
-
 all_kept : (log : Log) (s : ℕ) (turns : List Turn) → All (IsToldTurn log s) turns → filter (λ a. not (was_refused a)) (map pair_of turns) ≡ map pair_of turns
 all_kept log s [] each = refl
 all_kept log s (t ∷ turns) each =

@@ -148,9 +148,6 @@ module _ (log : Log) (published : ℕ) (pending other : Option Pending) (s : ℕ
 -- ---- the world behind it
 
 module _ (w : World) (s : ℕ) where
-  stopped_by : (p : Pending) → Bool → Pending
-  stopped_by p b = cond b (record p { running = false }) p
-
   one_tried : (log : Log) (start : ℕ) (turns : List Turn) (last : State) (wrote : Option Wrote) (p : Pending) → (p.author ≡ s → IsTried log start turns last wrote p) → (b : Bool) → nat_eq p.author s ≡ b
       → (cond b (record p { running = false }) p).author ≡ s → ((cond b (record p { running = false }) p).running ≡ false) × IsTried log start turns last wrote (cond b (record p { running = false }) p)
   one_tried log start turns last wrote p tried true is same = (refl, tried_stopped log start turns last wrote p (tried same))

@@ -15,9 +15,6 @@ use Rattle.dv_promises.specs.Standing.{begins_at, IsLive, IsToldTurn, IsWaiting,
 use Rattle.dv_promises.proofs.Telling.{reads_nothing}
 use Rattle.dv_promises.proofs.Writing.{not_waiting}
 
-abbrev pub Said : Type 0
-Said = Command × List Reply
-
 abbrev pub pair_of : Turn → Command × List Reply
 pair_of t = (t.command, t.replies)
 

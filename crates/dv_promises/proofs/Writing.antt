@@ -64,9 +64,6 @@ module _ (w : World) (s : ℕ) (session : Session) (c : Command) (m : Mailbox) (
 
   -- ---- an empty group is done at once
 
-  done_session : Session
-  done_session = record session { wrote = Some (record { place = length_of w; met = length_of w; command = c }) }
-
   done_live : (group_of c session.state.view m w.log.guid).records ≡ [] → IsLive w.log w.published (option_map stopped w.pending) s (record session { wrote = Some (record { place = length_of w; met = length_of w; command = c }) })
   done_live empty =
       let live = stands.each s session is in
