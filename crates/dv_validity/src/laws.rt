@@ -1,5 +1,5 @@
 ghost use Rattle.dv_validity.specs.Laws.{RecordKeepsValid, RecordsKeepValid, RecordIsInRange, RangeKeepsValid, RangesKeepValid, StampedByItself, StampedByRows, StampedAlike, StampedWithout, StampedWithMore, FlagsByRows, RecordRises, RecordsNeverFall, NoneReturns, NoneReturnsInTurn, KeywordsStay, KeywordsStayInTurn, FollowingStays};
-ghost use Rattle.dv_validity.specs.Entries.{GroupIsEntry, GroupApplies, EntryIsInRange, EntryKeepsValid, EntryKeepsResets};
+ghost use Rattle.dv_validity.specs.Entries.{GroupIsEntry, GroupApplies, EntryIsInRange, EntryKeepsValid, EntryKeepsResets, SoundLogsAreValid, SoundLogsGoOn, RunsStayWritten};
 
 /// A valid mailbox stays valid under each record that has a spelling in bytes: as each message is
 /// added it is assigned a higher UID than those which were added previously (RFC 3501, section
@@ -55,15 +55,26 @@ pub fn keywords_stay()
 {}
 
 /// What a command of its type writes over a valid mailbox is no record or an entry of a sound log:
-/// each record has a spelling in bytes, however many messages are named, and applies to the mailbox.
+/// each record has a spelling in bytes, however many messages are named, and applies to the
+/// mailbox.
 pub fn groups_are_entries()
     ensures entry { GroupIsEntry }
     ensures applies { GroupApplies }
 {}
 
-/// An entry leaves a valid mailbox of a valid one, and each extension's reset number one of 32 bits.
+/// An entry leaves a valid mailbox of a valid one, and each extension's reset number one of
+/// 32 bits.
 pub fn entries_keep_valid()
     ensures range { EntryIsInRange }
     ensures valid { EntryKeepsValid }
     ensures resets { EntryKeepsResets }
+{}
+
+/// A sound log goes on by the group of each write that is allowed, with its message and GUID: the
+/// longer log is sound, and what was answered stays so, since a UID must not refer to any other
+/// message at any time (RFC 3501, section 2.3.1.1).
+pub fn sound_logs_go_on()
+    ensures valid { SoundLogsAreValid }
+    ensures sound { SoundLogsGoOn }
+    ensures runs { RunsStayWritten }
 {}
