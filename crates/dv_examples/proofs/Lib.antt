@@ -1,10 +1,12 @@
+pub mod Played
 pub mod Rows
 pub mod SearchRows
 pub mod RecordRows
 pub mod WorldRows
 pub mod OpeningRows
-pub mod RunRows
 pub mod TextRows
 pub mod RebuildRows
 pub mod GeneratorRows
 pub mod MailRows
+pub mod RunRows
+pub mod PlayRows

@@ -1,5 +1,5 @@
 -- Scripts and what the rules answer: both sides of each theorem compute.
-use Rattle.std.specs.Prelude.{◌≡◌, refl, ℕ, List, [], ◌∷◌, ◌++◌, map, replicate, codes, false, true, None, Some}
+use Rattle.std.specs.Prelude.{◌≡◌, refl, ℕ, List, [], ◌∷◌, ◌++◌, replicate, codes, false, true, None, Some}
 use Rattle.std.specs.Fmt.{digits}
 use Rattle.dv_model.specs.declared.types.Command.{Command}
 use Rattle.dv_model.specs.declared.types.Command.TheVariants as command
@@ -9,16 +9,15 @@ use Rattle.dv_model.specs.declared.types.How.{How}
 use Rattle.dv_model.specs.declared.types.How.TheVariants as how
 use Rattle.dv_model.specs.declared.types.Item.TheVariants as item
 use Rattle.dv_model.specs.declared.types.Span.{Span}
-use Rattle.dv_model.specs.Spelling.{group_text}
-use Rattle.dv_examples.specs.Playing.{Line, Play, created, played, text_lines}
+use Rattle.dv_examples.proofs.Played.{NamedLine, after_lines, created, groups_text, said_by, served, text_lines}
 
 -- ---- commands of two sessions
 
-abbrev a : Command → Line
-a c = (codes "a", 1, c)
+abbrev a : Command → NamedLine
+a c = served (codes "a") 1 c
 
-abbrev b : Command → Line
-b c = (codes "b", 2, c)
+abbrev b : Command → NamedLine
+b c = served (codes "b") 2 c
 
 abbrev span : End → End → List Span
 span from to = record { from = from; to = to } ∷ []
@@ -35,11 +34,7 @@ store from to h flags = command.Store false (numbers from to) h flags [] None
 abbrev fetch_flags : ℕ → Command
 fetch_flags n = command.Fetch false (numbers n n) (item.Flags ∷ [])
 
--- what is said by these lines behind those
-abbrev said_by : List Line → List Line → List ℕ
-said_by before lines = (played (record (played created before) { said = [] }) lines).said
-
-abbrev hello : Line
+abbrev hello : NamedLine
 hello = a (append 0 (codes "hello"))
 
 -- ---- one session
@@ -54,10 +49,10 @@ first_append : said_by (a command.Select ∷ []) (hello ∷ [])
 unfolding digits
 first_append = refl
 
-abbrev store_seen : Line
+abbrev store_seen : NamedLine
 store_seen = a (store 1 1 how.Add 8)
 
-abbrev one_seen : List Line
+abbrev one_seen : List NamedLine
 one_seen = a command.Select ∷ hello ∷ store_seen ∷ []
 
 -- a session hears its own write
@@ -67,10 +62,7 @@ unfolding digits
 own_write = refl
 
 -- the bytes of both groups
-abbrev groups_text : Play → List (List ℕ)
-groups_text play = map group_text play.groups
-
-written_groups : groups_text (played created one_seen)
+written_groups : groups_text (after_lines created one_seen)
     ≡ (0x80 ∷ 0x80 ∷ 0x80 ∷ 0x84 ∷ 2 ∷ 0 ∷ 0 ∷ 0x10 ∷ 1 ∷ 0 ∷ 0 ∷ 0 ∷ 0 ∷ 0 ∷ 0 ∷ 0 ∷ [])
     ∷ (0x80 ∷ 0x80 ∷ 0x80 ∷ 0x85 ∷ 4 ∷ 0 ∷ 0 ∷ 0x10 ∷ 1 ∷ 0 ∷ 0 ∷ 0 ∷ 1 ∷ 0 ∷ 0 ∷ 0 ∷ 8 ∷ 0 ∷ 0 ∷ 0 ∷ []) ∷ []
 written_groups = refl
@@ -83,7 +75,7 @@ empty_groups = refl
 abbrev keyword : List ℕ
 keyword = codes "k1"
 
-abbrev store_draft : Line
+abbrev store_draft : NamedLine
 store_draft = a (command.Store false (numbers 1 1) how.Replace 16 (keyword ∷ []) None)
 
 replaced_flags : said_by one_seen (store_draft ∷ []) ≡ text_lines (codes "a * 1 FETCH (UID 1 FLAGS (\\Draft k1))" ∷ codes "a OK [MARK 1:152] STORE" ∷ [])
@@ -105,11 +97,11 @@ bad_lines = refl
 
 -- ---- expunges
 
-abbrev repeated : ℕ → Line → List Line
+abbrev repeated : ℕ → NamedLine → List NamedLine
 repeated n line = replicate n line
 
 -- nine messages, the last five of which are expunged
-abbrev nine : List Line
+abbrev nine : List NamedLine
 nine = a command.Select ∷ repeated 9 hello ++ a (store 5 9 how.Add 4) ∷ []
 
 expunged_five : said_by nine (a command.Expunge ∷ [])
@@ -125,7 +117,7 @@ removed = refl
 
 -- ---- two sessions
 
-abbrev delayed : List Line
+abbrev delayed : List NamedLine
 delayed = a command.Select ∷ a (append 4 (codes "hi")) ∷ b command.Select ∷ []
 
 -- an expunge is told by NOOP, not in the answer to FETCH
@@ -140,7 +132,7 @@ gone_message : said_by delayed (a command.Expunge ∷ b (command.Fetch false (nu
 unfolding digits
 gone_message = refl
 
-abbrev two_messages : List Line
+abbrev two_messages : List NamedLine
 two_messages = a command.Select ∷ a (append 4 (codes "x")) ∷ a (append 0 (codes "y")) ∷ b command.Select ∷ a command.Expunge ∷ []
 
 -- a STORE changes the rows that are left, and says which is gone

@@ -12,20 +12,25 @@ pub record IsSpelled (e : Entry) : Type 0 where
 
 -- the words of no entry begin those of another
 abbrev pub OneEntry : Type 0
-OneEntry = (d e : Entry) (x y : List ℕ) → IsSpelled d → IsSpelled e → entry_words d ++ x ≡ entry_words e ++ y → (d ≡ e) × (x ≡ y)
+OneEntry = (d e : Entry) (x y : List ℕ)
+    → IsSpelled d → IsSpelled e → entry_words d ++ x ≡ entry_words e ++ y → (d ≡ e) × (x ≡ y)
 
 -- words are of one list of entries
 abbrev pub OneFeed : Type 0
 OneFeed = (a b : List Entry) → All IsSpelled a → All IsSpelled b → feed_text a ≡ feed_text b → a ≡ b
 
--- where words begin with those of two lists, the longer list begins with the other, whatever follows
+-- where words begin with those of two lists, the longer list begins with the other, whatever
+-- follows
 abbrev pub FeedBegins : Type 0
-FeedBegins = (a b : List Entry) (x y : List ℕ) → All IsSpelled a → All IsSpelled b → length a ≤ length b → feed_text a ++ x ≡ feed_text b ++ y
+FeedBegins = (a b : List Entry) (x y : List ℕ)
+    → All IsSpelled a → All IsSpelled b → length a ≤ length b → feed_text a ++ x ≡ feed_text b ++ y
     → (more : List Entry) × (b ≡ a ++ more) × (x ≡ feed_text more ++ y)
 
--- where the words of some entries begin those of a list, the entries begin the list, and the words behind them are those of its rest
+-- where the words of some entries begin those of a list, the entries begin the list, and the words
+-- behind them are those of its rest
 abbrev pub FeedIsTaken : Type 0
-FeedIsTaken = (a b : List Entry) (x : List ℕ) → All IsSpelled a → All IsSpelled b → feed_text a ++ x ≡ feed_text b
+FeedIsTaken = (a b : List Entry) (x : List ℕ)
+    → All IsSpelled a → All IsSpelled b → feed_text a ++ x ≡ feed_text b
     → (more : List Entry) × (b ≡ a ++ more) × (x ≡ feed_text more)
 
 -- the words of further entries stand behind the others

@@ -1,7 +1,7 @@
-//! The words by which sessions tell each other of groups, as a law of the definitions: they are of one
-//! list of entries.
+//! The words by which sessions tell each other of groups, as a law of the definitions: they are of
+//! one list of entries.
 #![tactic(auto)]
 
 mod laws;
 
-pub use laws::one_feed;
+pub use laws::{feed_goes_on, one_feed};

@@ -35,7 +35,8 @@ pub record IsSpoken (w : World) (s : ℕ) (session : Session) : Type 0 where
   pub spoken : Spoken w.log 0 s (commands_of session) (replies_of session)
   pub state : spoken.speaks.state ≡ session.state
 
--- a session is told of no more than it has seen, sees no more than was published, and no more is published than is durable
+-- a session is told of no more than it has seen, sees no more than was published, and no more is
+-- published than is durable
 pub record AreInOrder (w : World) (session : Session) : Type 0 where
   pub told : session.state.told ≤ session.seen
   pub seen : session.seen ≤ w.published
@@ -51,15 +52,17 @@ last_step session = by_last (reverse session.answers)
 
 -- two sessions that were both told by Full steps up to one position show equal mailboxes
 abbrev pub AreEqualWhereTold : Session → Session → Type 0
-AreEqualWhereTold one other = last_step one ≡ Some Full → last_step other ≡ Some Full → one.state.told ≡ other.state.told → one.state.view ≡ other.state.view
+AreEqualWhereTold one other = last_step one ≡ Some Full → last_step other ≡ Some Full
+    → one.state.told ≡ other.state.told → one.state.view ≡ other.state.view
 
--- the view has each row of the mailbox up to which the session was told as it is shown, and a client that listened has
--- the view
+-- the view has each row of the mailbox up to which the session was told as it is shown, and a
+-- client that listened has the view
 pub record IsShown (w : World) (session : Session) : Type 0 where
   pub mailbox : Mailbox
   pub is : at w.log session.state.told ≡ Some mailbox
   pub rows : All (λ row. Contains session.state.view.rows (shown row)) mailbox.rows
-  pub client : all_heard [] (flat_map (λ a. a.1) session.answers) ≡ known_of mailbox session.state.view
+  pub client : all_heard [] (flat_map (λ a. a.1) session.answers)
+      ≡ known_of mailbox session.state.view
 
 -- ---- message numbers
 
@@ -88,14 +91,15 @@ keeps_numbers Selects = false
 keeps_numbers (Hears (reply.Expunge k)) = false
 keeps_numbers (Hears r) = true
 
--- from any moment on each message number keeps its UID until an EXPUNGE is heard or a SELECT begins (RFC 3501,
--- section 7.4.1)
+-- from any moment on each message number keeps its UID until an EXPUNGE is heard or a SELECT begins
+-- (RFC 3501, section 7.4.1)
 abbrev pub NumbersStay : Session → Type 0
 NumbersStay session = (before between behind : List Heard)
     → flat_map heard_of session.answers ≡ before ++ between ++ behind
     → list_all keeps_numbers between ≡ true
     → (k : ℕ) (row : Known) → slice_get (all_known before) k ≡ Some row → row.uid ≢ 0
-    → (after : Known) × (slice_get (all_known (before ++ between)) k ≡ Some after) × (after.uid ≡ row.uid)
+    → (after : Known)
+    × (slice_get (all_known (before ++ between)) k ≡ Some after) × (after.uid ≡ row.uid)
 
 -- ---- the world
 
@@ -110,19 +114,21 @@ pub record HoldsOf (w : World) (s : ℕ) (session : Session) : Type 0 where
 pub record Holds (w : World) : Type 0 where
   pub sound : IsSound w.log
   pub each : (s : ℕ) → IfSome (w.sessions s) (HoldsOf w s)
-  pub equal : (s t : ℕ) → IfSome (w.sessions s) (λ one. IfSome (w.sessions t) (λ other. AreEqualWhereTold one other))
+  pub equal : (s t : ℕ)
+      → IfSome (w.sessions s) (λ one. IfSome (w.sessions t) (λ other. AreEqualWhereTold one other))
 
 -- ---- from one world to the next
 
--- More entries may follow. The beginning stays, and so do the mailboxes before and the messages and GUIDs of UIDs that
--- were given out.
+-- More entries may follow. The beginning stays, and so do the mailboxes before and the messages and
+-- GUIDs of UIDs that were given out.
 pub record GoesOn (log later : Log) : Type 0 where
   pub start : (later.start ≡ log.start) × (later.start_mark ≡ log.start_mark)
   pub files : (later.rotates ≡ log.rotates) × (later.indexid ≡ log.indexid)
   pub more : List Entry
   pub entries : later.entries ≡ log.entries ++ more
   pub mailboxes : (k : ℕ) → k ≤ length log.entries → at later k ≡ at log k
-  pub messages : (k uid : ℕ) (m : Mailbox) → k ≤ length log.entries → at log k ≡ Some m → uid < m.next_uid
+  pub messages : (k uid : ℕ) (m : Mailbox)
+      → k ≤ length log.entries → at log k ≡ Some m → uid < m.next_uid
       → (later.mail uid ≡ log.mail uid) × (later.guid uid ≡ log.guid uid)
 
 -- ---- a crash
@@ -140,20 +146,22 @@ is_refusal r = false
 abbrev pub was_refused : Command × List Reply → Bool
 was_refused (c, replies) = list_any is_refusal replies
 
--- with some refused commands among those that were answered, and perhaps one that wasn't answered, the replies are the rules' answers
+-- with some refused commands among those that were answered, and perhaps one that wasn't answered,
+-- the replies are the rules' answers
 pub record IsSpokenAfterCrash (log : Log) (s : ℕ) (session : Session) : Type 0 where
   pub answers : List (Command × List Reply)
   pub unanswered : List Command
   pub kept : filter (λ a. not (was_refused a)) answers ≡ session.answers
-  pub spoken : SpokenUntilCrash log 0 s (map (λ a. a.0) answers ++ unanswered) (map (λ a. a.1) answers)
+  pub spoken : SpokenUntilCrash log 0 s
+      (map (λ a. a.0) answers ++ unanswered) (map (λ a. a.1) answers)
 
 -- the entry whose gate was written
 abbrev pub pending_entries : Option Pending → List Entry
 pending_entries None = []
 pending_entries (Some p) = record { author = p.author; group = p.group } ∷ []
 
--- it keeps each durable entry and at most the pending one, and the replies of each session that lived until it stay the
--- rules' answers
+-- it keeps each durable entry and at most the pending one, and the replies of each session that
+-- lived until it stay the rules' answers
 pub record CrashKeeps (w : World) (n : ℕ) : Type 0 where
   pub entries : ((happens w (Crash n)).log.entries ≡ w.log.entries)
       ⊎ ((happens w (Crash n)).log.entries ≡ w.log.entries ++ pending_entries w.pending)

@@ -1,4 +1,5 @@
--- Sessions over one log, whose steps come in any order: the state, and what each event changes in it.
+-- Sessions over one log, whose steps come in any order: the state, and what each event changes in
+-- it.
 use Rattle.std.specs.Prelude.{ℕ, ◌+◌, ◌-◌, min, Bool, true, false, not, ◌&&◌, ◌||◌, List, [], ◌∷◌, ◌++◌, length, find, replicate, Option, Some, None, is_some, unwrap_or, option_map, option_and_then, nat_eq, nat_le, bytes_eq, if◌then◌else◌}
 use Rattle.dv_model.specs.declared.types.Command.{Command}
 use Rattle.dv_model.specs.declared.types.Command.TheVariants as command
@@ -13,8 +14,7 @@ use Rattle.dv_model.specs.declared.types.Reply.{Reply}
 use Rattle.dv_model.specs.declared.types.Span.{Span}
 use Rattle.dv_model.specs.Journals.{Log, Mail, Held, Damaged, at, mark_of}
 use Rattle.dv_model.specs.Sessions.{State, Answer, new_session, answer, group_of, missing_number, is_select, is_write}
-use Rattle.dv_model.specs.Transcripts.{refused_at}
-pub use Rattle.dv_model.specs.Transcripts.{with_message}
+use Rattle.dv_model.specs.Transcripts.{refused_at, with_written}
 
 -- ---- the state
 
@@ -50,7 +50,8 @@ pub record World : Type 0 where
   pub published : ℕ
   pub sessions : ℕ → Option Session
 
--- what may happen: a session opens, writes, loads or is answered; an entry is made durable, taken away or published; the program ends
+-- what may happen: a session opens, writes, loads or is answered; an entry is made durable, taken
+-- away or published; the program ends
 pub data Event : Type 0 where
   Open : ℕ → Event
   Write : ℕ → Command → ℕ → Event
@@ -101,9 +102,12 @@ same_number one other = false
 abbrev pub same_write : Command → Command → Bool
 same_write command.Check command.Check = true
 same_write command.Expunge command.Expunge = true
-same_write (command.Append flags keywords message) (command.Append flags' keywords' message') = nat_eq flags flags' && same_items bytes_eq keywords keywords' && bytes_eq message message'
-same_write (command.Store by_uid set how flags keywords since) (command.Store by_uid' set' how' flags' keywords' since') =
-    same_bool by_uid by_uid' && same_set set set' && same_how how how' && nat_eq flags flags' && same_items bytes_eq keywords keywords' && same_number since since'
+same_write (command.Append flags keywords message) (command.Append flags' keywords' message') =
+    nat_eq flags flags' && same_items bytes_eq keywords keywords' && bytes_eq message message'
+same_write (command.Store by_uid set how flags keywords since)
+    (command.Store by_uid' set' how' flags' keywords' since') =
+    same_bool by_uid by_uid' && same_set set set' && same_how how how' && nat_eq flags flags'
+    && same_items bytes_eq keywords keywords' && same_number since since'
 same_write (command.UidRemove set) (command.UidRemove set') = same_set set set'
 same_write one other = false
 
@@ -127,14 +131,13 @@ without_running w = record w { pending = option_map stopped w.pending }
 
 -- a pending entry is durable
 abbrev pub with_entry : Log → Pending → Log
-with_entry log p = and_message (at log (length log.entries))
+with_entry log p = over (at log (length log.entries))
   where
-    longer : Log
-    longer = record log { entries = log.entries ++ record { author = p.author; group = p.group } ∷ [] }
-
-    and_message : Option Mailbox → Log
-    and_message None = longer
-    and_message (Some m) = with_message longer p.command p.received m
+    over : Option Mailbox → Log
+    over None = record log {
+      entries = log.entries ++ record { author = p.author; group = p.group } ∷ [];
+    }
+    over (Some m) = with_written log p.author p.command p.received p.group m
 
 -- Open: a session that isn't there yet begins where the log was published
 abbrev pub opened : World → ℕ → World
@@ -142,18 +145,34 @@ opened w s = and_new (w.sessions s)
   where
     and_new : Option Session → World
     and_new (Some session) = w
-    and_new None = with_session w s (Some (record { state = record new_session { told = w.published }; seen = w.published; wrote = None; answers = [] }))
+    and_new None = with_session w s (Some (record {
+      state = record new_session { told = w.published };
+      seen = w.published;
+      wrote = None;
+      answers = [];
+    }))
 
 -- Write: an empty group is done at once; another is pending in place of an older one
 abbrev pub with_group : World → ℕ → Session → Command → ℕ → Group → World
 with_group w s session c received g =
     if nat_eq (length g.records) 0
-    then with_session (without_running w) s (Some (record session { wrote = Some (record { place = length_of w; met = length_of w; command = c }) }))
-    else record w { pending = Some (record { author = s; command = c; group = g; received = received; running = true }) }
+    then with_session (without_running w) s (Some (record session {
+      wrote = Some (record { place = length_of w; met = length_of w; command = c });
+    }))
+    else record w {
+      pending = Some (record {
+        author = s;
+        command = c;
+        group = g;
+        received = received;
+        running = true;
+      });
+    }
 
 -- it may write where the log is published whole and it has answered what it wrote
 abbrev pub may_write : World → Session → Command → Bool
-may_write w session c = is_write c && nat_eq w.published (length_of w) && not (is_some session.wrote)
+may_write w session c =
+    is_write c && nat_eq w.published (length_of w) && not (is_some session.wrote)
 
 -- Write: a command's group is written, unless it is refused
 abbrev pub written : World → ℕ → Command → ℕ → World
@@ -161,15 +180,18 @@ written w s c received = by_session (w.sessions s)
   where
     unless_refused : Session → Mailbox → Option Reply → World
     unless_refused session m (Some refusal) = w
-    unless_refused session m None = with_group w s session c received (group_of c session.state.view m w.log.guid)
+    unless_refused session m None =
+        with_group w s session c received (group_of c session.state.view m w.log.guid)
 
     by_mailbox : Session → Option Mailbox → World
     by_mailbox session None = w
-    by_mailbox session (Some m) = unless_refused session m (refused_at w.log (length_of w) session.state c m)
+    by_mailbox session (Some m) =
+        unless_refused session m (refused_at w.log (length_of w) session.state c m)
 
     by_session : Option Session → World
     by_session None = w
-    by_session (Some session) = if may_write w session c then by_mailbox session (at w.log (length_of w)) else w
+    by_session (Some session) =
+        if may_write w session c then by_mailbox session (at w.log (length_of w)) else w
 
 -- Sync: a running entry is durable, and its author knows so
 abbrev pub with_wrote : World → Pending → World
@@ -177,7 +199,9 @@ with_wrote w p = by_session (w.sessions p.author)
   where
     by_session : Option Session → World
     by_session None = w
-    by_session (Some session) = with_session w p.author (Some (record session { wrote = Some (record { place = length_of w; met = length_of w - 1; command = p.command }) }))
+    by_session (Some session) = with_session w p.author (Some (record session {
+      wrote = Some (record { place = length_of w; met = length_of w - 1; command = p.command });
+    }))
 
 -- Sync, where an entry is pending
 abbrev pub synced : World → World
@@ -185,7 +209,10 @@ synced w = by_pending w.pending
   where
     by_pending : Option Pending → World
     by_pending None = w
-    by_pending (Some p) = if p.running then with_wrote (record w { log = with_entry w.log p; pending = None }) p else w
+    by_pending (Some p) =
+        if p.running
+        then with_wrote (record w { log = with_entry w.log p; pending = None }) p
+        else w
 
 -- Load: all that was published, but not past the session's own write
 abbrev pub loaded_number : ℕ → Option Wrote → ℕ
@@ -198,7 +225,8 @@ loaded w s = by_session (w.sessions s)
   where
     by_session : Option Session → World
     by_session None = w
-    by_session (Some session) = with_session w s (Some (record session { seen = loaded_number w.published session.wrote }))
+    by_session (Some session) =
+        with_session w s (Some (record session { seen = loaded_number w.published session.wrote }))
 
 -- NotSelected or NoMessage
 abbrev pub is_bad : State → Command → Bool
@@ -210,7 +238,10 @@ told_numbers session c = by_wrote session.wrote
   where
     by_wrote : Option Wrote → Option (ℕ × ℕ)
     by_wrote None = if is_write c then None else Some (session.seen, session.seen)
-    by_wrote (Some wrote) = if same_write wrote.command c && nat_le wrote.place session.seen then Some (wrote.place, wrote.met) else None
+    by_wrote (Some wrote) =
+        if same_write wrote.command c && nat_le wrote.place session.seen
+        then Some (wrote.place, wrote.met)
+        else None
 
 -- a pending entry by the session no longer runs
 abbrev pub stopped_of : ℕ → Pending → Pending
@@ -222,27 +253,39 @@ without_running_of w s = record w { pending = option_map (stopped_of s) w.pendin
 
 -- Tell: the command is answered by the session rules
 abbrev pub with_answer : World → ℕ → Session → Command → Answer → World
-with_answer w s session c a = with_session (without_running_of w s) s (Some (record session { state = a.next; wrote = None; answers = session.answers ++ (c, a.replies) ∷ [] }))
+with_answer w s session c a = with_session (without_running_of w s) s (Some (record session {
+  state = a.next;
+  wrote = None;
+  answers = session.answers ++ (c, a.replies) ∷ [];
+}))
 
 -- Tell, of a live session
 abbrev pub told : World → ℕ → Command → World
 told w s c = by_session (w.sessions s)
   where
     by_mailboxes : Session → ℕ → Option Mailbox → Option Mailbox → World
-    by_mailboxes session q (Some met) (Some m) = with_answer w s session c (answer w.log.mail session.state c met q m (mark_of w.log q))
+    by_mailboxes session q (Some met) (Some m) =
+        with_answer w s session c (answer w.log.mail session.state c met q m (mark_of w.log q))
     by_mailboxes session q met m = w
 
     by_numbers : Session → Option (ℕ × ℕ) → World
     by_numbers session None = w
-    by_numbers session (Some numbers) = by_mailboxes session numbers.0 (at w.log numbers.1) (at w.log numbers.0)
+    by_numbers session (Some numbers) =
+        by_mailboxes session numbers.0 (at w.log numbers.1) (at w.log numbers.0)
 
     by_session : Option Session → World
     by_session None = w
-    by_session (Some session) = if is_bad session.state c then w else by_numbers session (told_numbers session c)
+    by_session (Some session) =
+        if is_bad session.state c then w else by_numbers session (told_numbers session c)
 
 -- Crash: the durable entries stay, and the pending one may; no session is left
 abbrev pub only_log : Log → World
-only_log log = record { log = log; pending = None; published = length log.entries; sessions = λ s. None }
+only_log log = record {
+  log = log;
+  pending = None;
+  published = length log.entries;
+  sessions = λ s. None;
+}
 
 -- Crash, with so many entries left
 abbrev pub crashed : World → ℕ → World
@@ -278,7 +321,8 @@ pub record Stored : Type 0 where
 
 -- a message of the start is there or damaged
 abbrev pub mail_of : List Stored → ℕ → Mail
-mail_of stored uid = of_message (option_and_then (λ s. s.message) (find (λ s. nat_eq s.uid uid) stored))
+mail_of stored uid =
+    of_message (option_and_then (λ s. s.message) (find (λ s. nat_eq s.uid uid) stored))
   where
     of_message : Option (List ℕ) → Mail
     of_message None = Damaged
@@ -286,9 +330,18 @@ mail_of stored uid = of_message (option_and_then (λ s. s.message) (find (λ s. 
 
 -- without a message file, 16 zero bytes
 abbrev pub guid_of : List Stored → ℕ → List ℕ
-guid_of stored uid = unwrap_or (option_map (λ s. s.guid) (find (λ s. nat_eq s.uid uid) stored)) (replicate 16 0)
+guid_of stored uid =
+    unwrap_or (option_map (λ s. s.guid) (find (λ s. nat_eq s.uid uid) stored)) (replicate 16 0)
 
 -- nothing was written, published or opened; long files are rotated
 abbrev pub new_world : Mailbox → ℕ → Mark → List Stored → World
 new_world start indexid mark stored =
-    only_log (record { start = start; start_mark = mark; rotates = true; entries = []; indexid = indexid; mail = mail_of stored; guid = guid_of stored })
+    only_log (record {
+      start = start;
+      start_mark = mark;
+      rotates = true;
+      entries = [];
+      indexid = indexid;
+      mail = mail_of stored;
+      guid = guid_of stored;
+    })

@@ -1,2 +1,3 @@
-//! The world of interleavings as a definition: sessions over one log, whose steps come in any order.
+//! The world of interleavings as a definition: sessions over one log, whose steps come in any
+//! order.
 #![tactic(auto)]

@@ -3,7 +3,7 @@ use Rattle.std.proofs.Common.{◌≡◌, ◌⊎◌, inl, inr, ℕ, zero, suc, �
 use Rattle.std.specs.Prelude.{All, map, reverse, filter, find, fold, take, drop, replicate, slice_set, slice_get, slice_index, nat_eq, nat_le, bytes_eq, unwrap_or, option_map}
 use Rattle.std.specs.List.{list_any, list_all, AllByRecursion}
 use Rattle.std.specs.List.Sorted.{IsStrictlyIncreasing}
-use Rattle.std.proofs.lemmas.Bool.{cases_lt}
+use Rattle.std.proofs.lemmas.Bool.{and_parts, cases_lt}
 use Rattle.std.proofs.lemmas.Bool.Decides.{nat_tests}
 use Rattle.std.proofs.lemmas.List.{append_assoc, append-nil, map-append, length-map, reverse-append, take_all}
 use Rattle.std.proofs.lemmas.List.Elements.{All-head, All-tail}
@@ -149,7 +149,7 @@ pub above_lower : (k n : ℕ) (rows : List Shown) → k ≤ n → Above n rows �
 above_lower k n [] le above = tt
 above_lower k n (s ∷ rows) le above = (omega (arith, above.0), above.1)
 
-rising_tail : (n : ℕ) (ns : List ℕ) → IsStrictlyIncreasing (n ∷ ns) → IsStrictlyIncreasing ns
+pub rising_tail : (n : ℕ) (ns : List ℕ) → IsStrictlyIncreasing (n ∷ ns) → IsStrictlyIncreasing ns
 rising_tail n ns up k below =
     let next : suc k + 1 ≡ suc (k + 1) = omega arith in
     subst (λ j. slice_index ns k < slice_index (n ∷ ns) j) next (up (suc k) (omega (arith, below)))
@@ -299,14 +299,6 @@ all_unknown : (new : List Shown) → replicate (length new) unknown ≡ map (λ 
 all_unknown [] = refl
 all_unknown (s ∷ new) = ap (λ rows. unknown ∷ rows) (all_unknown new)
 
-and_second : (a b : Bool) → (a && b) ≡ true → b ≡ true
-and_second true b e = e
-and_second false b e = false_is_not_true e
-
-and_first : (a b : Bool) → (a && b) ≡ true → a ≡ true
-and_first true b e = refl
-and_first false b e = false_is_not_true e
-
 module _ (In : Shown → Type 0) (b : ℕ) where
   pub aligned_short : (kept new : List Shown) → Aligned In b kept new → length kept ≤ length new
   aligned_short [] [] a = omega arith
@@ -323,9 +315,9 @@ module _ (In : Shown → Type 0) (b : ℕ) where
   fill_none : (old : List Shown) → AllByRecursion (λ o. o.uid < b) old → (kept new : List Shown) → Aligned In b kept new → list_all (λ s. shows old s.uid) new ≡ true → fill kept new ≡ []
   fill_none old below [] [] a all = refl
   fill_none old below [] (s ∷ new) a all =
-      false_is_not_true (sym (none_past b s.uid old below a.0) ∙ and_first (shows old s.uid) (list_all (λ t. shows old t.uid) new) all)
+      false_is_not_true (sym (none_past b s.uid old below a.0) ∙ (and_parts (shows old s.uid) (list_all (λ t. shows old t.uid) new) all).0)
   fill_none old below (k ∷ kept) [] a all = refl
-  fill_none old below (k ∷ kept) (s ∷ new) a all = fill_none old below kept new a.2 (and_second (shows old s.uid) (list_all (λ t. shows old t.uid) new) all)
+  fill_none old below (k ∷ kept) (s ∷ new) a all = fill_none old below kept new a.2 (and_parts (shows old s.uid) (list_all (λ t. shows old t.uid) new) all).1
 
   module _ (known later : Shown → Known) where
     heard_exists : (kept new : List Shown) → Aligned In b kept new → heard (map known kept) (reply.Exists (length new)) ≡ map known kept ++ fill kept new
@@ -373,10 +365,11 @@ names_same before m more is (k ∷ places) each =
 -- two rows that look the same have the same UID, flags and keywords
 same_parts : (s t : Shown) → same_row s t ≡ true → (s.uid ≡ t.uid) × (s.flags ≡ t.flags) × (s.keywords ≡ t.keywords)
 same_parts s t e =
-    let first = and_first (nat_eq s.uid t.uid && nat_eq s.flags t.flags) (bytes_eq s.keywords t.keywords) e in
-    let keywords = (bytes_eq-Decides s.keywords t.keywords).0 (and_second (nat_eq s.uid t.uid && nat_eq s.flags t.flags) (bytes_eq s.keywords t.keywords) e) in
-    let uid_test = and_first (nat_eq s.uid t.uid) (nat_eq s.flags t.flags) first in
-    let flags_test = and_second (nat_eq s.uid t.uid) (nat_eq s.flags t.flags) first in
+    let looks = and_parts (nat_eq s.uid t.uid && nat_eq s.flags t.flags) (bytes_eq s.keywords t.keywords) e in
+    let numbers = and_parts (nat_eq s.uid t.uid) (nat_eq s.flags t.flags) looks.0 in
+    let keywords = (bytes_eq-Decides s.keywords t.keywords).0 looks.1 in
+    let uid_test = numbers.0 in
+    let flags_test = numbers.1 in
     (grind (arith, nat_tests, uid_test), grind (arith, nat_tests, flags_test), keywords)
 
 not_true : (b : Bool) → not b ≡ false → b ≡ true

@@ -4,7 +4,7 @@ use Rattle.std.specs.Prelude.{All, Any, IfSome, filter, map, slice_get}
 use Rattle.std.specs.List.{list_any}
 use Rattle.std.proofs.lemmas.Bool.{or_left}
 use Rattle.std.proofs.lemmas.Bool.Decides.{nat_tests}
-use Rattle.std.proofs.lemmas.List.{append-nil, length_push, map-append}
+use Rattle.std.proofs.lemmas.List.{length_push, map-append}
 use Rattle.std.proofs.lemmas.List.Elements.{All-append, All-cons, All-head, All-nil, All-tail, filter-append}
 use Rattle.std.proofs.lemmas.Option.{same_Some, slice_get_within}
 use Rattle.dv_model.specs.declared.types.Command.{Command}
@@ -20,16 +20,15 @@ use Rattle.dv_interleavings.specs.Promises.{CrashKeeps, GoesOn, IsSpokenAfterCra
 use Rattle.dv_interleavings.specs.Worlds.{World, Session, Pending, Crash, happens, length_of, only_log, with_entry}
 use Rattle.dv_promises.specs.Standing.{begins_at, HasAuthor, IsLive, IsToldTurn, IsTried, Stands}
 use Rattle.dv_promises.proofs.Ending.{crash_all, crash_none, crash_some, tried_of}
-use Rattle.dv_promises.proofs.Going.{live_on, same_refusal, turns_on}
-use Rattle.dv_promises.proofs.Logs.{Extends, last_extends, last_group, last_message, same_log, with_entry_is, with_last}
+use Rattle.dv_validity.proofs.Going.{same_refusal}
+use Rattle.dv_validity.proofs.Logs.{Extends, written_entry, written_group, written_message}
+use Rattle.dv_promises.proofs.Going.{live_on, turns_on}
+use Rattle.dv_promises.proofs.Logs.{last_extends, last_goes_on, same_log, with_entry_is, with_last}
 use Rattle.dv_promises.proofs.Refusals.{told_unrefused}
-use Rattle.dv_promises.proofs.Syncing.{at_seam, own_back, value_of, sound_more}
+use Rattle.dv_promises.proofs.Syncing.{own_back, sound_more, value_of}
 use Rattle.dv_promises.proofs.Transcripts.{all_written, entries_live, pair_of, speaks_live, speaks_of, turns_answered}
 
 -- ---- refused answers are passed over
-
-abbrev is_kept : Command × List Reply → Bool
-is_kept a = not (was_refused a)
 
 all_kept : (log : Log) (s : ℕ) (turns : List Turn) → All (IsToldTurn log s) turns → filter (λ a. not (was_refused a)) (map pair_of turns) ≡ map pair_of turns
 all_kept log s [] each = refl
@@ -45,7 +44,7 @@ pub spoken_after : (log : Log) (published : ℕ) (pending : Option Pending) (s :
 spoken_after log published pending s session sound live = record {
   answers = session.answers;
   unanswered = sent_of session.wrote;
-  kept = subst (λ answers. filter (λ a. not (was_refused a)) answers ≡ answers) live.answers (all_kept log s live.turns live.each);
+  kept = subst (λ answers. filter (λ a. not (was_refused a)) answers ≡ answers) live.story.answers (all_kept log s live.story.turns live.story.each);
   spoken = record {
     sound = sound;
     speaks = speaks_live log published pending s session live;
@@ -90,9 +89,9 @@ all_back P [] back all = all
 all_back P (x ∷ front) back all = all_back P front back (All-tail P x (front ++ back) all)
 
 module _ (log : Log) (sound : IsSound log) (p : Pending) (published : ℕ) (pending : Option Pending) (session : Session) (live : IsLive log published pending p.author session)
-    (tried : IsTried log live.start live.turns session.state session.wrote p) where
+    (tried : IsTried log live.story.start live.story.turns session.state session.wrote p) where
   abbrev more : Log
-  more = with_last log p tried.mailbox
+  more = with_last log p tried.attempt.mailbox
 
   abbrev entry : Entry
   entry = record { author = p.author; group = p.group }
@@ -107,19 +106,19 @@ module _ (log : Log) (sound : IsSound log) (p : Pending) (published : ℕ) (pend
   many = omega (arith, length_push log.entries entry)
 
   on : Extends log more
-  on = last_extends log p tried.mailbox sound tried.is_there
+  on = last_extends log p tried.attempt.mailbox sound tried.attempt.is_there
 
   split_each : All (IsToldTurn log p.author) (tried.front ++ tried.back)
-  split_each = subst (All (IsToldTurn log p.author)) tried.split live.each
+  split_each = subst (All (IsToldTurn log p.author)) tried.split live.story.each
 
   failed_turn : IsTurn more 0 p.author failed
   failed_turn = record {
-    met = (tried.told, let all = many in omega arith);
+    met = (tried.attempt.told, let all = many in omega arith);
     answered = inr (inl (record {
-      before = tried.mailbox;
-      was_there = on.same_at (length log.entries) (omega arith) ∙ tried.is_there;
-      allowed = same_refusal log more on (length log.entries) tried.mailbox tried.state p.command None (omega arith) tried.is_there tried.allowed;
-      touches = or_left (is_write p.command) (reads_mail p.command) tried.write;
+      before = tried.attempt.mailbox;
+      was_there = on.same_at (length log.entries) (omega arith) ∙ tried.attempt.is_there;
+      allowed = same_refusal log more on (length log.entries) tried.attempt.mailbox tried.state p.command None (omega arith) tried.attempt.is_there tried.attempt.allowed;
+      touches = or_left (is_write p.command) (reads_mail p.command) tried.attempt.write;
       faults = 1;
       above = omega arith;
       one_line = refl;
@@ -142,21 +141,21 @@ module _ (log : Log) (sound : IsSound log) (p : Pending) (published : ℕ) (pend
       ∙ ap (λ answers. map pair_of tried.front ++ answers) (all_kept log p.author tried.back (all_back (IsToldTurn log p.author) tried.front tried.back split_each))
       ∙ sym (map-append pair_of tried.front tried.back)
       ∙ ap (map pair_of) (sym tried.split)
-      ∙ live.answers
+      ∙ live.story.answers
 
   left : IsLeft more p.author (length log.entries) tried.state p.command
   left = record {
     left = record {
-      mailbox = tried.mailbox;
-      met = on.same_at (length log.entries) (omega arith) ∙ tried.is_there;
-      told = tried.told;
-      write = tried.write;
-      allowed = same_refusal log more on (length log.entries) tried.mailbox tried.state p.command None (omega arith) tried.is_there tried.allowed;
+      mailbox = tried.attempt.mailbox;
+      met = on.same_at (length log.entries) (omega arith) ∙ tried.attempt.is_there;
+      told = tried.attempt.told;
+      write = tried.attempt.write;
+      allowed = same_refusal log more on (length log.entries) tried.attempt.mailbox tried.state p.command None (omega arith) tried.attempt.is_there tried.attempt.allowed;
       written = record {
         behind = refl;
-        some = subst (λ (g : Group). 1 ≤ length g.records) (tried.group ∙ last_group log p tried.mailbox tried.state.view) tried.some;
-        entry = at_seam log.entries entry ∙ ap (λ (g : Group). Some (record { author = p.author; group = g })) (tried.group ∙ last_group log p tried.mailbox tried.state.view);
-        message = last_message log p tried.mailbox;
+        some = subst (λ (g : Group). 1 ≤ length g.records) (tried.attempt.group ∙ written_group log sound p.author p.command p.received p.group tried.attempt.mailbox tried.attempt.is_there tried.state.view) tried.attempt.some;
+        entry = written_entry log sound p.author p.command p.received p.group tried.attempt.mailbox tried.attempt.is_there ∙ ap (λ (g : Group). Some (record { author = p.author; group = g })) (tried.attempt.group ∙ written_group log sound p.author p.command p.received p.group tried.attempt.mailbox tried.attempt.is_there tried.state.view);
+        message = written_message log sound p.author p.command p.received p.group tried.attempt.mailbox tried.attempt.is_there;
       };
     };
     last = λ j own.
@@ -166,14 +165,14 @@ module _ (log : Log) (sound : IsSound log) (p : Pending) (published : ℕ) (pend
         omega arith;
   }
 
-  written_but : AreWrittenBut more p.author live.start turns (length log.entries)
+  written_but : AreWrittenBut more p.author live.story.start turns (length log.entries)
   written_but k own = by_place (one_or_last log.entries entry k own.entry own.is)
     where
       by_place : (slice_get log.entries k ≡ Some own.entry) ⊎ (k ≡ length log.entries) → WroteEntry turns k ⊎ (k ≡ length log.entries)
       by_place (inr last) = inr last
       by_place (inl there) =
-          let old : IsOwn log p.author live.start k = record { later = own.later; entry = own.entry; is = there; by = own.by } in
-          let wrote : WroteEntry live.turns k = all_written log published pending p.author session live tried.empty k old in
+          let old : IsOwn log p.author live.story.start k = record { later = own.later; entry = own.entry; is = there; by = own.by } in
+          let wrote : WroteEntry live.story.turns k = all_written log published pending p.author session live tried.empty k old in
           inl (any_inserted (λ (t : Turn). (t.met ≡ k) × (t.behind ≡ k + 1)) tried.front failed tried.back (subst (λ ts. WroteEntry ts k) tried.split wrote))
 
   author_after : IsSpokenAfterCrash more p.author session
@@ -182,9 +181,9 @@ module _ (log : Log) (sound : IsSound log) (p : Pending) (published : ℕ) (pend
     unanswered = [];
     kept = kept_is;
     spoken = record {
-      sound = sound_more log sound p live.start live.turns session.state session.wrote tried;
-      speaks = speaks_of more p.author live.start turns session.state (map pair_of turns) [] (let all = many in let low = live.there in omega arith) turns_told
-          (leads_through (begins_at live.start) tried.front tried.state (failed ∷ tried.back) session.state tried.leads (refl, tried.rest)) refl;
+      sound = sound_more log sound p live.story.start live.story.turns session.state session.wrote tried;
+      speaks = speaks_of more p.author live.story.start turns session.state (map pair_of turns) [] (let all = many in let low = live.story.there in omega arith) turns_told
+          (leads_through (begins_at live.story.start) tried.front tried.state (failed ∷ tried.back) session.state tried.leads (refl, tried.rest)) refl;
       entries = inr (
         length log.entries,
         inr (any_middle (λ (t : Turn). IsFailed t × (t.met ≡ length log.entries) × IsLeft more p.author (length log.entries) t.before t.command) tried.front failed tried.back ((1, refl), refl, left)),
@@ -216,29 +215,29 @@ crash_keeps w n stands = by_number (nat_eq n (length_of w)) refl
     with_more : (p : Pending) → w.pending ≡ Some p → HasAuthor w p → (happens w (Crash n)).log ≡ with_entry w.log p → CrashKeeps w n
     with_more p is author left =
         let tried = tried_of w stands p is author in
-        keeps_by (with_last w.log p tried.mailbox) (left ∙ with_entry_is w.log p tried.mailbox tried.is_there)
+        keeps_by (with_last w.log p tried.attempt.mailbox) (left ∙ with_entry_is w.log p tried.attempt.mailbox tried.attempt.is_there)
         (inr (ap (λ (o : Option Pending). w.log.entries ++ pending_entries o) (sym is)))
-        (last_extends w.log p tried.mailbox stands.sound tried.is_there).goes_on
+        (last_goes_on w.log p tried.attempt.mailbox stands.sound tried.attempt.is_there)
         (λ s. by_session p is author s (w.sessions s) refl (nat_eq p.author s) refl)
       where
         by_session : (p : Pending) (is : w.pending ≡ Some p) (author : HasAuthor w p) (s : ℕ) (o : Option Session) → w.sessions s ≡ o → (b : Bool) → nat_eq p.author s ≡ b
-            → IfSome o (IsSpokenAfterCrash (with_last w.log p (tried_of w stands p is author).mailbox) s)
+            → IfSome o (IsSpokenAfterCrash (with_last w.log p (tried_of w stands p is author).attempt.mailbox) s)
         by_session p is author s None there b same = tt
         by_session p is author s (Some session) there true same =
             let e : p.author ≡ s = grind (arith, nat_tests) in
             let live = stands.each p.author author.0 author.1 in
             let one : author.0 ≡ session = same_Some author.0 session (sym author.1 ∙ ap w.sessions e ∙ there) in
-            subst (λ (t : ℕ). IsSpokenAfterCrash (with_last w.log p (tried_of w stands p is author).mailbox) t session) e
-            (subst (λ (x : Session). IsSpokenAfterCrash (with_last w.log p (tried_of w stands p is author).mailbox) p.author x) one
+            subst (λ (t : ℕ). IsSpokenAfterCrash (with_last w.log p (tried_of w stands p is author).attempt.mailbox) t session) e
+            (subst (λ (x : Session). IsSpokenAfterCrash (with_last w.log p (tried_of w stands p is author).attempt.mailbox) p.author x) one
             (author_after w.log stands.sound p w.published w.pending author.0 live (tried_of w stands p is author)))
         by_session p is author s (Some session) there false differs =
             let live = stands.each p.author author.0 author.1 in
             let tried = tried_of w stands p is author in
             let other : p.author ≡ s → ⊥ = λ e. let found : nat_eq p.author s ≡ true = grind (arith, nat_tests) in absurd cc in
-            spoken_after (with_last w.log p tried.mailbox) w.published None s session
-            (sound_more w.log stands.sound p live.start live.turns author.0.state author.0.wrote tried)
-            (live_on w.log (with_last w.log p tried.mailbox) (last_extends w.log p tried.mailbox stands.sound tried.is_there) s
-            (own_back w.log stands.sound p live.start live.turns author.0.state author.0.wrote tried s other) w.published w.pending session (stands.each s session there))
+            spoken_after (with_last w.log p tried.attempt.mailbox) w.published None s session
+            (sound_more w.log stands.sound p live.story.start live.story.turns author.0.state author.0.wrote tried)
+            (live_on w.log (with_last w.log p tried.attempt.mailbox) (last_extends w.log p tried.attempt.mailbox stands.sound tried.attempt.is_there) s
+            (own_back w.log stands.sound p live.story.start live.story.turns author.0.state author.0.wrote tried s other) w.published w.pending session (stands.each s session there))
 
     by_more : (p : Pending) → w.pending ≡ Some p → nat_eq n (length_of w) ≡ false → (b : Bool) → nat_eq n (length_of w + 1) ≡ b → CrashKeeps w n
     by_more p is less true more =

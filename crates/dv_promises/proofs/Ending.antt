@@ -1,15 +1,13 @@
 -- The program ends; events in turn.
-use Rattle.std.proofs.Common.{◌≡◌, ℕ, zero, suc, ◌+◌, Bool, true, false, cond, List, [], ◌∷◌, nat_eq, Option, Some, None, refl, sym, ◌∙◌, ap, subst, arith}
+use Rattle.std.proofs.Common.{◌≡◌, ℕ, zero, suc, ◌+◌, ◌^◌, ◌<◌, Bool, true, false, cond, List, [], ◌∷◌, nat_eq, Option, Some, None, refl, sym, ◌∙◌, ap, subst, arith}
 use Rattle.std.specs.Prelude.{All, IsSome, find, option_map, replicate, unwrap_or}
-use Rattle.std.proofs.lemmas.List.Elements.{All-head, All-nil, All-tail}
+use Rattle.std.proofs.lemmas.List.Elements.{All-head, All-nil, All-replicate, All-tail}
 use Rattle.std.proofs.lemmas.Option.{none-some}
-use Rattle.dv_model.specs.declared.types.Entry.{Entry}
 use Rattle.dv_model.specs.declared.types.Mailbox.{Mailbox}
 use Rattle.dv_model.specs.declared.types.Mark.{Mark}
 use Rattle.dv_model.specs.Journals.{Log, IsSound, IsEntry, IsGuid, at}
 use Rattle.dv_interleavings.specs.Worlds.{World, Pending, Event, Open, Write, Sync, Heal, Publish, Load, Tell, Crash, Stored, all_happen, crashed, happens, length_of, mail_of, guid_of, new_world, only_log, with_entry}
 use Rattle.dv_promises.specs.Standing.{HasAuthor, IsGoodEvent, IsStart, IsTried, Stands}
-use Rattle.dv_promises.proofs.Guids.{zero_guid}
 use Rattle.dv_promises.proofs.Logs.{with_entry_is, with_last}
 use Rattle.dv_promises.proofs.Small.{healed, loads, none_past, opens, published}
 use Rattle.dv_promises.proofs.Syncing.{syncs, value_of, sound_more}
@@ -28,9 +26,9 @@ alone log sound = record {
 
 -- the story of the pending entry
 pub tried_of : (w : World) → (stands : Stands w) → (p : Pending) → w.pending ≡ Some p → (author : HasAuthor w p)
-    → IsTried w.log (stands.each p.author author.0 author.1).start (stands.each p.author author.0 author.1).turns author.0.state author.0.wrote p
+    → IsTried w.log (stands.each p.author author.0 author.1).story.start (stands.each p.author author.0 author.1).story.turns author.0.state author.0.wrote p
 tried_of w stands p is author =
-    let live = stands.each p.author author.0 author.1 in value_of (λ (q : Pending). q.author ≡ p.author → IsTried w.log live.start live.turns author.0.state author.0.wrote q) w.pending p is live.pending refl
+    let live = stands.each p.author author.0 author.1 in value_of (λ (q : Pending). q.author ≡ p.author → IsTried w.log live.story.start live.story.turns author.0.state author.0.wrote q) w.pending p is live.pending refl
 
 abbrev by_pending : World → ℕ → Option Pending → World
 by_pending w n None = w
@@ -53,8 +51,8 @@ crashes w n stands = by_number (nat_eq n (length_of w)) refl
     with_more p is author =
         let live = stands.each p.author author.0 author.1 in
         let tried = tried_of w stands p is author in
-        subst (λ log. Stands (only_log log)) (sym (with_entry_is w.log p tried.mailbox tried.is_there))
-        (alone (with_last w.log p tried.mailbox) (sound_more w.log stands.sound p live.start live.turns author.0.state author.0.wrote tried))
+        subst (λ log. Stands (only_log log)) (sym (with_entry_is w.log p tried.attempt.mailbox tried.attempt.is_there))
+        (alone (with_last w.log p tried.attempt.mailbox) (sound_more w.log stands.sound p live.story.start live.story.turns author.0.state author.0.wrote tried))
 
     by_more : (p : Pending) → w.pending ≡ Some p → (b : Bool) → Stands (cond b (only_log (with_entry w.log p)) w)
     by_more p is true = with_more p is (value_of (HasAuthor w) w.pending p is stands.author)
@@ -86,7 +84,7 @@ all_keep w (event ∷ events) stands good = all_keep (happens w event) events (k
 
 -- each stored message's GUID is one, and the rest are zeros
 stored_guid : (stored : List Stored) → All (λ s. IsGuid s.guid) stored → (uid : ℕ) → IsGuid (guid_of stored uid)
-stored_guid [] each uid = zero_guid
+stored_guid [] each uid = record { size = refl; bytes = All-replicate (λ b. b < 2 ^ 8) 16 0 (omega arith) }
 stored_guid (s ∷ stored) each uid = by_test (nat_eq s.uid uid) (stored_guid stored (All-tail (λ (s : Stored). IsGuid s.guid) s stored each) uid)
   where
     by_test : (b : Bool) → IsGuid (guid_of stored uid)

@@ -54,22 +54,22 @@ step_at [] = None
 step_at (a ∷ answers) = Some (step_of a.0)
 
 saw_all : (log : Log) (published : ℕ) (pending : Option Pending) (s : ℕ) (session : Session) → IsLive log published pending s session → last_step session ≡ Some Full → SawAll log session.state
-saw_all log published pending s session live full = by_end (from_end live.turns)
+saw_all log published pending s session live full = by_end (from_end live.story.turns)
   where
-    none : live.turns ≡ [] → last_step session ≡ None
-    none is = ap (λ (answers : List (Command × List Reply)). step_at (reverse answers)) (sym live.answers ∙ ap (map pair_of) is)
+    none : live.story.turns ≡ [] → last_step session ≡ None
+    none is = ap (λ (answers : List (Command × List Reply)). step_at (reverse answers)) (sym live.story.answers ∙ ap (map pair_of) is)
 
-    last_is : (front : List Turn) (t : Turn) → live.turns ≡ front ++ t ∷ [] → last_step session ≡ Some (step_of t.command)
+    last_is : (front : List Turn) (t : Turn) → live.story.turns ≡ front ++ t ∷ [] → last_step session ≡ Some (step_of t.command)
     last_is front t is =
-        ap (λ (answers : List (Command × List Reply)). step_at (reverse answers)) (sym live.answers ∙ ap (map pair_of) is ∙ map-append pair_of front (t ∷ []))
+        ap (λ (answers : List (Command × List Reply)). step_at (reverse answers)) (sym live.story.answers ∙ ap (map pair_of) is ∙ map-append pair_of front (t ∷ []))
         ∙ ap step_at (reverse-append (map pair_of front) (pair_of t ∷ []))
 
-    by_end : (live.turns ≡ []) ⊎ ((front : List Turn) × (last : Turn) × (live.turns ≡ front ++ last ∷ [])) → SawAll log session.state
+    by_end : (live.story.turns ≡ []) ⊎ ((front : List Turn) × (last : Turn) × (live.story.turns ≡ front ++ last ∷ [])) → SawAll log session.state
     by_end (inl empty) = absurd (none-some Full (sym (none empty) ∙ full))
     by_end (inr (front, t, is)) =
-        let told : IsToldTurn log s t = All-head (IsToldTurn log s) t [] (all_back (IsToldTurn log s) front (t ∷ []) (subst (All (IsToldTurn log s)) is live.each)) in
+        let told : IsToldTurn log s t = All-head (IsToldTurn log s) t [] (all_back (IsToldTurn log s) front (t ∷ []) (subst (All (IsToldTurn log s)) is live.story.each)) in
         let step : step_of t.command ≡ Full = same_Some (step_of t.command) Full (sym (last_is front t is) ∙ full) in
-        let end : session.state ≡ t.after = leads_last (begins_at live.start) front t session.state (subst (λ turns. LeadsTo (begins_at live.start) turns session.state) is live.leads) in
+        let end : session.state ≡ t.after = leads_last (begins_at live.story.start) front t session.state (subst (λ turns. LeadsTo (begins_at live.story.start) turns session.state) is live.story.leads) in
         subst (SawAll log) (sym end) (saw_turn log s t told step)
 
 equal_views : (log : Log) (x y : State) → SawAll log x → SawAll log y → x.told ≡ y.told → x.view ≡ y.view
@@ -84,13 +84,13 @@ replies_said [] = refl
 replies_said (t ∷ turns) = ap (λ rs. t.replies ++ rs) (replies_said turns)
 
 module _ (log : Log) (sound : IsSound log) (published : ℕ) (pending : Option Pending) (s : ℕ) (session : Session) (live : IsLive log published pending s session) where
-  none_selected : KnowsSelected log sound (begins_at live.start) []
+  none_selected : KnowsSelected log sound (begins_at live.story.start) []
   none_selected selected = absurd cc
 
   knows_end : KnowsSelected log sound session.state (all_heard [] (flat_map (λ a. a.1) session.answers))
   knows_end =
-      subst (KnowsSelected log sound session.state) (ap (all_heard []) (replies_said live.turns ∙ ap (flat_map (λ (a : Command × List Reply). a.1)) live.answers))
-      (turns_know log sound s (begins_at live.start) live.turns session.state [] live.each live.leads none_selected)
+      subst (KnowsSelected log sound session.state) (ap (all_heard []) (replies_said live.story.turns ∙ ap (flat_map (λ (a : Command × List Reply). a.1)) live.story.answers))
+      (turns_know log sound s (begins_at live.story.start) live.story.turns session.state [] live.story.each live.story.leads none_selected)
 
 -- ---- the world
 

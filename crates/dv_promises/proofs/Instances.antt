@@ -5,7 +5,8 @@ use Rattle.std.proofs.lemmas.List.Elements.{All-from_recursion, All-nil}
 use Rattle.dv_model.specs.declared.types.Command.{Command}
 use Rattle.dv_model.specs.declared.types.Command.TheVariants as command
 use Rattle.dv_model.specs.declared.types.Mailbox.{Mailbox}
-use Rattle.dv_model.specs.Mailboxes.{IsValid, empty_mailbox}
+use Rattle.dv_model.specs.Mailboxes.{empty_mailbox}
+use Rattle.dv_validity.proofs.Beginnings.{begun_valid}
 use Rattle.dv_model.specs.Names.{IsName}
 use Rattle.dv_interleavings.specs.Promises.{CrashKeeps, Holds}
 use Rattle.dv_interleavings.specs.Worlds.{World, Session, Event, Open, Write, Sync, Publish, Load, Tell, all_happen, new_world, length_of}
@@ -16,17 +17,6 @@ use Rattle.dv_promises.proofs.Holding.{holds}
 
 abbrev start : Mailbox
 start = record (empty_mailbox 1000) { highest = 2 }
-
-start_is_valid : IsValid start
-start_is_valid = record {
-  next_uid = (omega arith, omega arith);
-  rising = λ k h. absurd (omega (arith, h));
-  rows = All-nil _;
-  names = (All-nil _, λ i j d less h. absurd (omega (arith, h)));
-  extensions = record { count = omega arith; record_sizes = omega arith; headers = All-nil _; names = All-nil _; distinct = λ i j d less h. absurd (omega (arith, h)) };
-  current = tt;
-  highest = (omega arith, omega arith);
-}
 
 abbrev append : Command
 append = command.Append 4 [] (codes "hi")
@@ -44,7 +34,7 @@ are_good : All IsGoodEvent events
 are_good = All-from_recursion IsGoodEvent events (tt, (tt, ((omega arith, (omega arith, All-nil IsName)), (tt, (tt, (tt, (tt, (tt, (tt, ((omega arith, tt), (tt, (tt, (tt, (tt, (tt, (tt, ((omega arith, (omega arith, All-nil IsName)), tt)))))))))))))))))
 
 is_start : IsStart start 1000 (record { file_seq = 1; offset = 56 }) []
-is_start = record { mailbox = (start_is_valid, All-nil _); numbers = (omega arith, omega arith, omega arith); guids = All-nil _ }
+is_start = record { mailbox = (begun_valid 1000 2 (omega arith) (omega arith), All-nil _); numbers = (omega arith, omega arith, omega arith); guids = All-nil _ }
 
 abbrev first : World
 first = new_world start 1000 (record { file_seq = 1; offset = 56 }) []

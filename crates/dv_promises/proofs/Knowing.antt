@@ -21,7 +21,7 @@ use Rattle.dv_model.proofs.Clients.{client_has_view}
 use Rattle.dv_validity.proofs.Following.{following_stays}
 use Rattle.dv_promises.specs.Standing.{IsToldTurn}
 use Rattle.dv_promises.proofs.Hearing.{data_known, ending_heard, select_heard}
-use Rattle.dv_promises.proofs.Logs.{leads_at, valid_at}
+use Rattle.dv_validity.proofs.Logs.{leads_at, valid_at}
 use Rattle.dv_promises.proofs.Views.{full_read, full_shows, moved_read, moved_shows, shows_its_uid}
 
 -- a session that was told of a mailbox, and a client that has its view

@@ -1,6 +1,5 @@
 pub mod Small
 pub mod Logs
-pub mod Guids
 pub mod Writing
 pub mod Going
 pub mod Syncing

@@ -1,5 +1,5 @@
 -- Each message number keeps its UID until an EXPUNGE is heard or a SELECT begins.
-use Rattle.std.proofs.Common.{◌≡◌, ◌≢◌, ℕ, zero, suc, ◌+◌, ◌-◌, ◌<◌, ◌≤◌, Bool, true, false, cond, not, List, [], ◌∷◌, ◌++◌, length, Option, Some, None, refl, sym, ◌∙◌, ap, subst, arith}
+use Rattle.std.proofs.Common.{◌≡◌, ◌≢◌, ℕ, zero, suc, ◌+◌, ◌-◌, ◌≤◌, Bool, true, false, cond, not, List, [], ◌∷◌, ◌++◌, length, Option, Some, None, refl, sym, ◌∙◌, ap, subst, arith}
 use Rattle.std.specs.Prelude.{All, filter, flat_map, fold, map, replicate, reverse, slice_get, slice_set}
 use Rattle.std.specs.List.{enumerate_from, list_all, list_any}
 use Rattle.std.proofs.lemmas.Bool.{and_parts}
@@ -25,7 +25,7 @@ use Rattle.dv_model.specs.Sessions.{data_of, ending_of, fetch_lines, message_in,
 use Rattle.dv_model.specs.Sets.{named}
 use Rattle.dv_model.specs.Views.{Known, View, all_heard, changes, empty_view, growth, heard, known_of, known_row, moved, names_of, numbers, removals, said, same_row, shows_uid, unknown, with_number}
 use Rattle.dv_model.proofs.Clients.{Aligned, In, Moves, after_removals, aligned_short, full_moves, held_moves, kept_rows, lined_up}
-use Rattle.dv_interleavings.specs.Promises.{Heard, Selects, Hears, all_known, keeps_numbers, knows}
+use Rattle.dv_interleavings.specs.Promises.{Heard, Hears, all_known, keeps_numbers, knows}
 use Rattle.dv_promises.proofs.Hearing.{StandsAt, data_known, ending_heard, named_stand, numbered_stand}
 
 -- ---- numbers that keep their UIDs

@@ -1,15 +1,15 @@
 -- From one world to the next: the log goes on, and sessions see more.
-use Rattle.std.proofs.Common.{◌≡◌, ◌⊎◌, inl, inr, ℕ, ◌+◌, ◌≤◌, Bool, true, false, cond, nat_eq, Option, Some, None, refl, sym, ◌∙◌, ap, subst, arith}
-use Rattle.std.specs.Prelude.{IfSome}
+use Rattle.std.proofs.Common.{◌≡◌, ◌⊎◌, inl, inr, ℕ, ◌+◌, ◌≤◌, Bool, true, false, cond, List, [], ◌∷◌, nat_eq, Option, Some, None, refl, sym, ◌∙◌, ap, subst, arith}
+use Rattle.std.specs.Prelude.{All, IfSome}
+use Rattle.std.proofs.lemmas.List.Elements.{All-head, All-tail}
 use Rattle.std.proofs.lemmas.Bool.Decides.{nat_tests}
 use Rattle.std.proofs.lemmas.Option.{none-some, same_Some}
 use Rattle.dv_model.specs.declared.types.Command.{Command}
-use Rattle.dv_model.specs.Journals.{Log}
 use Rattle.dv_interleavings.specs.Promises.{GoesOn}
-use Rattle.dv_interleavings.specs.Worlds.{World, Session, Pending, Wrote, Event, Open, Write, Sync, Heal, Publish, Load, Tell, Crash, crashed, happens, length_of, loaded, loaded_number, only_log, opened, with_entry, with_session, without_running, without_running_of}
-use Rattle.dv_promises.specs.Standing.{HasAuthor, IsLive, Stands}
-use Rattle.dv_promises.proofs.Ending.{crash_all, crash_none, crash_some, tried_of}
-use Rattle.dv_promises.proofs.Logs.{last_extends, same_log, with_entry_is}
+use Rattle.dv_interleavings.specs.Worlds.{World, Session, Pending, Wrote, Event, Open, Write, Sync, Heal, Publish, Load, Tell, Crash, all_happen, crashed, happens, length_of, loaded, loaded_number, only_log, opened, with_entry, with_session, without_running, without_running_of}
+use Rattle.dv_promises.specs.Standing.{HasAuthor, IsGoodEvent, IsLive, Stands}
+use Rattle.dv_promises.proofs.Ending.{crash_all, crash_none, crash_some, keeps, tried_of}
+use Rattle.dv_promises.proofs.Logs.{goes_on_further, last_goes_on, same_log, with_entry_is}
 use Rattle.dv_promises.proofs.Syncing
 use Rattle.dv_promises.proofs.Syncing.{synced_by, tried, value_of}
 use Rattle.dv_promises.proofs.Telling.{told_by}
@@ -37,7 +37,7 @@ crashed_by w n stands P stays all more = by_number (nat_eq n (length_of w)) refl
 one_more : (w : World) (stands : Stands w) (p : Pending) → w.pending ≡ Some p → HasAuthor w p → GoesOn w.log (with_entry w.log p)
 one_more w stands p is author =
     let tried = tried_of w stands p is author in
-    subst (GoesOn w.log) (sym (with_entry_is w.log p tried.mailbox tried.is_there)) (last_extends w.log p tried.mailbox stands.sound tried.is_there).goes_on
+    subst (GoesOn w.log) (sym (with_entry_is w.log p tried.attempt.mailbox tried.attempt.is_there)) (last_goes_on w.log p tried.attempt.mailbox stands.sound tried.attempt.is_there)
 
 opened_log : (w : World) (s : ℕ) → GoesOn w.log (opened w s).log
 opened_log w s = by_session (w.sessions s) refl
@@ -57,12 +57,19 @@ pub logs_go_on : (w : World) (event : Event) → Stands w → GoesOn w.log (happ
 logs_go_on w (Open s) stands = opened_log w s
 logs_go_on w (Write s c received) stands = written_by w s c received (λ x. GoesOn w.log x.log) (same_log w.log) (λ session m may empty. same_log w.log) (λ session m may some. same_log w.log)
 logs_go_on w Sync stands = synced_by w stands (λ x. GoesOn w.log x.log) (same_log w.log) (λ p session is runs there.
-    let one = tried w stands p session is runs there in (last_extends w.log p one.mailbox stands.sound one.is_there).goes_on)
+    let one = tried w stands p session is runs there in last_goes_on w.log p one.attempt.mailbox stands.sound one.attempt.is_there)
 logs_go_on w Heal stands = same_log w.log
 logs_go_on w Publish stands = same_log w.log
 logs_go_on w (Load s) stands = loaded_log w s
 logs_go_on w (Tell s c) stands = told_by w s c stands (λ x. GoesOn w.log x.log) (same_log w.log) (λ session q met before m is good may was_there is_there. same_log w.log)
 logs_go_on w (Crash n) stands = crashed_by w n stands (λ x. GoesOn w.log x.log) (same_log w.log) (same_log w.log) (λ p is author. one_more w stands p is author)
+
+pub all_go_on : (w : World) (events : List Event) → Stands w → All IsGoodEvent events → GoesOn w.log (all_happen w events).log
+all_go_on w [] stands good = same_log w.log
+all_go_on w (event ∷ events) stands good =
+    let one : IsGoodEvent event = All-head IsGoodEvent event events good in
+    goes_on_further w.log (happens w event).log (all_happen (happens w event) events).log (logs_go_on w event stands)
+    (all_go_on (happens w event) events (keeps w event stands one) (All-tail IsGoodEvent event events good))
 
 -- ---- what sessions see
 

@@ -18,16 +18,11 @@ none_past log s k own = let below = slice_get_within log.entries k own.entry own
 
 -- what is published rises, and what is pending changes
 pub live_by : (log : Log) (less more : ℕ) (pending other : Option Pending) (s : ℕ) (session : Session) → less ≤ more → (live : IsLive log less pending s session)
-    → IfSome other (λ p. p.author ≡ s → IsTried log live.start live.turns session.state session.wrote p) → IsLive log more other s session
+    → IfSome other (λ p. p.author ≡ s → IsTried log live.story.start live.story.turns session.state session.wrote p) → IsLive log more other s session
 live_by log less more pending other s session le live tried = record {
   told = live.told;
   seen = omega (arith, live.seen);
-  start = live.start;
-  there = live.there;
-  turns = live.turns;
-  each = live.each;
-  leads = live.leads;
-  answers = live.answers;
+  story = live.story;
   ledger = live.ledger;
   wrote = live.wrote;
   loaded = live.loaded;
@@ -93,12 +88,14 @@ new_live : (w : World) (s : ℕ) → Stands w → w.sessions s ≡ None → (pen
 new_live w s stands none pending author = record {
   told = omega arith;
   seen = omega arith;
-  start = w.published;
-  there = stands.published;
-  turns = [];
-  each = All-nil (IsToldTurn w.log s);
-  leads = refl;
-  answers = refl;
+  story = record {
+    start = w.published;
+    there = stands.published;
+    turns = [];
+    each = All-nil (IsToldTurn w.log s);
+    leads = refl;
+    answers = refl;
+  };
   ledger = λ k own. absurd (stands.absent s k none own);
   wrote = tt;
   loaded = tt;
@@ -136,12 +133,7 @@ loads w s stands = by_session (w.sessions s) refl
     live_loaded session live = record {
       told = up session.wrote live.wrote;
       seen = most session.wrote;
-      start = live.start;
-      there = live.there;
-      turns = live.turns;
-      each = live.each;
-      leads = live.leads;
-      answers = live.answers;
+      story = live.story;
       ledger = live.ledger;
       wrote = live.wrote;
       loaded = own session.wrote;

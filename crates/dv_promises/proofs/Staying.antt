@@ -1,16 +1,16 @@
 -- Through all of a session's turns each message number keeps its UID until an EXPUNGE is heard or a SELECT begins.
-use Rattle.std.proofs.Common.{◌≡◌, Bool, true, false, List, [], ◌∷◌, Option, None, refl, sym, ◌∙◌, ap, subst, ℕ}
+use Rattle.std.proofs.Common.{◌≡◌, Bool, true, false, List, [], ◌∷◌, Option, None, refl, sym, subst, ℕ}
 use Rattle.std.specs.Prelude.{All, flat_map, fold, map}
 use Rattle.std.proofs.lemmas.List.Elements.{All-head, All-tail}
 use Rattle.dv_model.specs.declared.types.Command.{Command}
 use Rattle.dv_model.specs.declared.types.Command.TheVariants as command
 use Rattle.dv_model.specs.declared.types.Mailbox.{Mailbox}
 use Rattle.dv_model.specs.declared.types.Reply.{Reply}
-use Rattle.dv_model.specs.Journals.{Log, IsSound, at, mark_of}
+use Rattle.dv_model.specs.Journals.{Log, IsSound, mark_of}
 use Rattle.dv_model.specs.Sessions.{Answer, State, answer, is_select, step_of}
 use Rattle.dv_model.specs.Transcripts.{LeadsTo, Turn, refused_at}
-use Rattle.dv_model.specs.Views.{Known, all_heard, empty_view, moved}
-use Rattle.dv_interleavings.specs.Promises.{Heard, Selects, Hears, NumbersStay, heard_of, knows}
+use Rattle.dv_model.specs.Views.{Known, empty_view, moved}
+use Rattle.dv_interleavings.specs.Promises.{Heard, Hears, NumbersStay, heard_of, knows}
 use Rattle.dv_interleavings.specs.Worlds.{Session, Pending}
 use Rattle.dv_promises.specs.Standing.{begins_at, IsLive, IsToldTurn}
 use Rattle.dv_promises.proofs.Knowing.{Knows, KnowsSelected, follows_later, is_selected, other_knows, select_knows}
@@ -85,6 +85,6 @@ module _ (log : Log) (sound : IsSound log) (s : ℕ) where
 pub numbers_stay : (log : Log) (sound : IsSound log) (published : ℕ) (pending : Option Pending) (s : ℕ) (session : Session) → IsLive log published pending s session → NumbersStay session
 numbers_stay log sound published pending s session live before between behind is keeps =
     steady_stay (flat_map heard_of session.answers) before between behind
-    (subst (λ answers. AreSteady [] (flat_map heard_of answers)) live.answers
-    (turns_steady log sound s (begins_at live.start) live.turns session.state [] live.each live.leads (λ selected. absurd cc)))
+    (subst (λ answers. AreSteady [] (flat_map heard_of answers)) live.story.answers
+    (turns_steady log sound s (begins_at live.story.start) live.story.turns session.state [] live.story.each live.story.leads (λ selected. absurd cc)))
     is keeps

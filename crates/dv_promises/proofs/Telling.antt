@@ -109,7 +109,7 @@ module _ (log : Log) (published : ℕ) (pending other : Option Pending) (s : ℕ
   }
 
   -- a pending entry that was tried before
-  tried_behind : (p : Pending) → p.running ≡ false → IsTried log live.start live.turns session.state session.wrote p → IsTried log live.start (live.turns ++ turn ∷ []) a.next None p
+  tried_behind : (p : Pending) → p.running ≡ false → IsTried log live.story.start live.story.turns session.state session.wrote p → IsTried log live.story.start (live.story.turns ++ turn ∷ []) a.next None p
   tried_behind p stopped tried = record {
     front = tried.front;
     back = tried.back ++ turn ∷ [];
@@ -117,46 +117,37 @@ module _ (log : Log) (published : ℕ) (pending other : Option Pending) (s : ℕ
     state = tried.state;
     leads = tried.leads;
     rest = leads_push tried.state tried.back session.state turn tried.rest refl;
-    mailbox = tried.mailbox;
-    is_there = tried.is_there;
-    allowed = tried.allowed;
-    group = tried.group;
-    some = tried.some;
-    author = tried.author;
-    good = tried.good;
-    write = tried.write;
-    told = tried.told;
+    attempt = tried.attempt;
     empty = tt;
     running = λ runs. absurd cc;
   }
 
-  pub told_live : IfSome other (λ p. p.author ≡ s → (p.running ≡ false) × IsTried log live.start live.turns session.state session.wrote p)
+  pub told_live : IfSome other (λ p. p.author ≡ s → (p.running ≡ false) × IsTried log live.story.start live.story.turns session.state session.wrote p)
       → IsLive log published other s (record session { state = a.next; wrote = None; answers = session.answers ++ (c, a.replies) ∷ [] })
   told_live tried = record {
     told = let e = may.seen in omega arith;
     seen = live.seen;
-    start = live.start;
-    there = live.there;
-    turns = live.turns ++ turn ∷ [];
-    each = All-push (IsToldTurn log s) live.turns turn live.each turn_told;
-    leads = leads_push (begins_at live.start) live.turns session.state turn live.leads refl;
-    answers = map_push (λ (t : Turn). (t.command, t.replies)) live.turns turn ∙ ap (λ answers. answers ++ (c, a.replies) ∷ []) live.answers;
+    story = record {
+      start = live.story.start;
+      there = live.story.there;
+      turns = live.story.turns ++ turn ∷ [];
+      each = All-push (IsToldTurn log s) live.story.turns turn live.story.each turn_told;
+      leads = leads_push (begins_at live.story.start) live.story.turns session.state turn live.story.leads refl;
+      answers = map_push (λ (t : Turn). (t.command, t.replies)) live.story.turns turn ∙ ap (λ answers. answers ++ (c, a.replies) ∷ []) live.story.answers;
+    };
     ledger = λ k own. inl (elim (live.ledger k own) [
-      | inl wrote ↦ any_before (λ (t : Turn). (t.met ≡ k) × (t.behind ≡ k + 1)) live.turns turn wrote
-      | inr waits ↦ Any-push (λ (t : Turn). (t.met ≡ k) × (t.behind ≡ k + 1)) live.turns turn (may.waits k waits)
+      | inl wrote ↦ any_before (λ (t : Turn). (t.met ≡ k) × (t.behind ≡ k + 1)) live.story.turns turn wrote
+      | inr waits ↦ Any-push (λ (t : Turn). (t.met ≡ k) × (t.behind ≡ k + 1)) live.story.turns turn (may.waits k waits)
     ]);
     wrote = tt;
     loaded = tt;
-    pending = if_some (λ p. p.author ≡ s → (p.running ≡ false) × IsTried log live.start live.turns session.state session.wrote p)
-        (λ p. p.author ≡ s → IsTried log live.start (live.turns ++ turn ∷ []) a.next None p) other (λ p both same. tried_behind p (both same).0 (both same).1) tried;
+    pending = if_some (λ p. p.author ≡ s → (p.running ≡ false) × IsTried log live.story.start live.story.turns session.state session.wrote p)
+        (λ p. p.author ≡ s → IsTried log live.story.start (live.story.turns ++ turn ∷ []) a.next None p) other (λ p both same. tried_behind p (both same).0 (both same).1) tried;
   }
 
 -- ---- the world behind it
 
 module _ (w : World) (s : ℕ) where
-  stopped_by : (p : Pending) → Bool → Pending
-  stopped_by p b = cond b (record p { running = false }) p
-
   one_tried : (log : Log) (start : ℕ) (turns : List Turn) (last : State) (wrote : Option Wrote) (p : Pending) → (p.author ≡ s → IsTried log start turns last wrote p) → (b : Bool) → nat_eq p.author s ≡ b
       → (cond b (record p { running = false }) p).author ≡ s → ((cond b (record p { running = false }) p).running ≡ false) × IsTried log start turns last wrote (cond b (record p { running = false }) p)
   one_tried log start turns last wrote p tried true is same = (refl, tried_stopped log start turns last wrote p (tried same))
@@ -218,10 +209,10 @@ module _ (w : World) (s : ℕ) (c : Command) (stands : Stands w) (session : Sess
     published = stands.published;
     each = each_with w s _ (option_map (stopped_of s) w.pending) w.log
         (told_live w.log w.published w.pending (option_map (stopped_of s) w.pending) s session c live q met before m may was_there is_there
-        (own_tried w s w.log live.start live.turns session.state session.wrote w.pending live.pending))
+        (own_tried w s w.log live.story.start live.story.turns session.state session.wrote w.pending live.pending))
         (λ t other differs there. let one = stands.each t other there in
         live_by w.log w.published w.published w.pending (option_map (stopped_of s) w.pending) t other (omega arith) one
-        (other_tried w s w.log t one.start one.turns other.state other.wrote w.pending one.pending));
+        (other_tried w s w.log t one.story.start one.story.turns other.state other.wrote w.pending one.pending));
     absent = λ t k none own. stands.absent t k (absent_with w s _ t none) own;
     author = if_some (HasAuthor w) _ (option_map (stopped_of s) w.pending) (author_with w s _) (still_author w s w.pending stands.author);
   }

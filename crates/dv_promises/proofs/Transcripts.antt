@@ -15,9 +15,6 @@ use Rattle.dv_promises.specs.Standing.{begins_at, IsLive, IsToldTurn, IsWaiting,
 use Rattle.dv_promises.proofs.Telling.{reads_nothing}
 use Rattle.dv_promises.proofs.Writing.{not_waiting}
 
-abbrev pub Said : Type 0
-Said = Command × List Reply
-
 abbrev pub pair_of : Turn → Command × List Reply
 pair_of t = (t.command, t.replies)
 
@@ -71,20 +68,20 @@ abbrev pub Ledger : Log → ℕ → ℕ → List Turn → State → List Command
 Ledger log s start turns state rest = AreWritten log s start turns ⊎ ((last : ℕ) × IsNextLeft log s last state rest × AreWrittenBut log s start turns last)
 
 module _ (log : Log) (published : ℕ) (pending : Option Pending) (s : ℕ) (session : Session) (live : IsLive log published pending s session) where
-  none_waits : (wrote : Option Wrote) → IfSome wrote (λ (write : Wrote). write.place ≡ write.met) → (k : ℕ) → WroteEntry live.turns k ⊎ IsWaiting wrote k → WroteEntry live.turns k
+  none_waits : (wrote : Option Wrote) → IfSome wrote (λ (write : Wrote). write.place ≡ write.met) → (k : ℕ) → WroteEntry live.story.turns k ⊎ IsWaiting wrote k → WroteEntry live.story.turns k
   none_waits wrote same k (inl is) = is
   none_waits None same k (inr waits) = absurd waits
   none_waits (Some write) same k (inr waits) = let met = waits.0 in let place = waits.1 in absurd (omega arith)
 
   -- where no entry waits for its answer, all were written by turns
-  pub all_written : IfSome session.wrote (λ (write : Wrote). write.place ≡ write.met) → AreWritten log s live.start live.turns
+  pub all_written : IfSome session.wrote (λ (write : Wrote). write.place ≡ write.met) → AreWritten log s live.story.start live.story.turns
   all_written same k own = none_waits session.wrote same k (live.ledger k own)
 
-  ledger_by : (wrote : Option Wrote) → session.wrote ≡ wrote → IfSome wrote (IsWriting log s session.state) → Ledger log s live.start live.turns session.state (sent_of wrote)
-  ledger_by None none writing = inl (λ k own. not_waiting live.turns session.wrote k none (live.ledger k own))
+  ledger_by : (wrote : Option Wrote) → session.wrote ≡ wrote → IfSome wrote (IsWriting log s session.state) → Ledger log s live.story.start live.story.turns session.state (sent_of wrote)
+  ledger_by None none writing = inl (λ k own. not_waiting live.story.turns session.wrote k none (live.ledger k own))
   ledger_by (Some write) is writing = by_group writing.wrote
     where
-      by_group : HasWrote log s write.met write.place session.state.view write.command writing.before → Ledger log s live.start live.turns session.state (write.command ∷ [])
+      by_group : HasWrote log s write.met write.place session.state.view write.command writing.before → Ledger log s live.story.start live.story.turns session.state (write.command ∷ [])
       by_group (inr none) = inl (all_written (subst (λ (o : Option Wrote). IfSome o (λ (write : Wrote). write.place ≡ write.met)) (sym is) none.0))
       by_group (inl has) = inr (
         write.met,
@@ -99,21 +96,21 @@ module _ (log : Log) (published : ℕ) (pending : Option Pending) (s : ℕ) (ses
           };
           last = writing.last;
         },
-        λ k own. by_place k (subst (λ (o : Option Wrote). WroteEntry live.turns k ⊎ IsWaiting o k) is (live.ledger k own)),
+        λ k own. by_place k (subst (λ (o : Option Wrote). WroteEntry live.story.turns k ⊎ IsWaiting o k) is (live.ledger k own)),
       )
         where
-          by_place : (k : ℕ) → WroteEntry live.turns k ⊎ IsWaiting (Some write) k → WroteEntry live.turns k ⊎ (k ≡ write.met)
+          by_place : (k : ℕ) → WroteEntry live.story.turns k ⊎ IsWaiting (Some write) k → WroteEntry live.story.turns k ⊎ (k ≡ write.met)
           by_place k (inl wrote) = inl wrote
           by_place k (inr waits) = inr (sym waits.0)
 
-  pub ledger_of : Ledger log s live.start live.turns session.state (sent_of session.wrote)
+  pub ledger_of : Ledger log s live.story.start live.story.turns session.state (sent_of session.wrote)
   ledger_of = ledger_by session.wrote refl live.wrote
 
   abbrev pub speaks_live : Speaks log 0 s (commands_of session) (replies_of session)
-  speaks_live = speaks_of log s live.start live.turns session.state session.answers (sent_of session.wrote) live.there (turns_answered log s live.turns live.each) live.leads live.answers
+  speaks_live = speaks_of log s live.story.start live.story.turns session.state session.answers (sent_of session.wrote) live.story.there (turns_answered log s live.story.turns live.story.each) live.story.leads live.story.answers
 
-  pub entries_live : Ledger log s live.start live.turns session.state (drop (length (replies_of session)) (commands_of session))
-  entries_live = subst (Ledger log s live.start live.turns session.state) (sym (other_commands session.answers (sent_of session.wrote))) ledger_of
+  pub entries_live : Ledger log s live.story.start live.story.turns session.state (drop (length (replies_of session)) (commands_of session))
+  entries_live = subst (Ledger log s live.story.start live.story.turns session.state) (sym (other_commands session.answers (sent_of session.wrote))) ledger_of
 
 pub is_spoken : (w : World) (s : ℕ) (session : Session) → IsSound w.log → IsLive w.log w.published w.pending s session → IsSpoken w s session
 is_spoken w s session sound live = record {

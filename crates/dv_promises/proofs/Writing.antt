@@ -9,7 +9,7 @@ use Rattle.dv_model.specs.declared.types.Command.{Command}
 use Rattle.dv_model.specs.declared.types.Mailbox.{Mailbox}
 use Rattle.dv_model.specs.declared.types.Record.{Record}
 use Rattle.dv_model.specs.declared.types.Reply.{Reply}
-use Rattle.dv_model.specs.Journals.{Log, IsSound, IsU32, at}
+use Rattle.dv_model.specs.Journals.{Log, IsU32, at}
 use Rattle.dv_model.specs.Sessions.{State, IsCommand, group_of, is_write}
 use Rattle.dv_model.specs.Transcripts.{LeadsTo, Turn, WroteEntry, refused_at}
 use Rattle.dv_interleavings.specs.Worlds.{World, Session, Pending, Wrote, Write, with_session, without_running, stopped, may_write, written, length_of, happens}
@@ -26,15 +26,7 @@ tried_stopped log start turns last wrote p tried = record {
   state = tried.state;
   leads = tried.leads;
   rest = tried.rest;
-  mailbox = tried.mailbox;
-  is_there = tried.is_there;
-  allowed = tried.allowed;
-  group = tried.group;
-  some = tried.some;
-  author = tried.author;
-  good = tried.good;
-  write = tried.write;
-  told = tried.told;
+  attempt = tried.attempt;
   empty = tried.empty;
   running = λ is. absurd cc;
 }
@@ -72,22 +64,14 @@ module _ (w : World) (s : ℕ) (session : Session) (c : Command) (m : Mailbox) (
 
   -- ---- an empty group is done at once
 
-  done_session : Session
-  done_session = record session { wrote = Some (record { place = length_of w; met = length_of w; command = c }) }
-
   done_live : (group_of c session.state.view m w.log.guid).records ≡ [] → IsLive w.log w.published (option_map stopped w.pending) s (record session { wrote = Some (record { place = length_of w; met = length_of w; command = c }) })
   done_live empty =
       let live = stands.each s session is in
       record {
         told = live.told;
         seen = live.seen;
-        start = live.start;
-        there = live.there;
-        turns = live.turns;
-        each = live.each;
-        leads = live.leads;
-        answers = live.answers;
-        ledger = λ k own. inl (not_waiting live.turns session.wrote k none (live.ledger k own));
+        story = live.story;
+        ledger = λ k own. inl (not_waiting live.story.turns session.wrote k none (live.ledger k own));
         wrote = record {
           before = m;
           was_there = is_there;
@@ -98,7 +82,7 @@ module _ (w : World) (s : ℕ) (session : Session) (c : Command) (m : Mailbox) (
           last = λ j own. absurd (none_past w.log s j own);
         };
         loaded = omega (arith, live.seen, stands.published);
-        pending = tried live.start live.turns w.pending live.pending;
+        pending = tried live.story.start live.story.turns w.pending live.pending;
       }
     where
       one : (start : ℕ) (turns : List Turn) (p : Pending) → IsTried w.log start turns session.state session.wrote p
@@ -110,15 +94,7 @@ module _ (w : World) (s : ℕ) (session : Session) (c : Command) (m : Mailbox) (
         state = t.state;
         leads = t.leads;
         rest = t.rest;
-        mailbox = t.mailbox;
-        is_there = t.is_there;
-        allowed = t.allowed;
-        group = t.group;
-        some = t.some;
-        author = t.author;
-        good = t.good;
-        write = t.write;
-        told = t.told;
+        attempt = t.attempt;
         empty = refl;
         running = λ is. absurd cc;
       }
@@ -135,7 +111,7 @@ module _ (w : World) (s : ℕ) (session : Session) (c : Command) (m : Mailbox) (
     published = stands.published;
     each = each_with w s _ (option_map stopped w.pending) w.log (done_live empty)
         (λ t other differs there. let live = stands.each t other there in
-        live_by w.log w.published w.published w.pending (option_map stopped w.pending) t other (omega arith) live (all_stopped w.log t live.start live.turns other.state other.wrote w.pending live.pending));
+        live_by w.log w.published w.published w.pending (option_map stopped w.pending) t other (omega arith) live (all_stopped w.log t live.story.start live.story.turns other.state other.wrote w.pending live.pending));
     absent = λ t k gone own. stands.absent t k (absent_with w s _ t gone) own;
     author = if_some (HasAuthor w) _ (option_map stopped w.pending) (author_with w s _) (author_stopped w w.pending stands.author);
   }
@@ -149,7 +125,7 @@ module _ (w : World) (s : ℕ) (session : Session) (c : Command) (m : Mailbox) (
     published = stands.published;
     each = λ t other there. let live = stands.each t other there in
         live_by w.log w.published w.published w.pending (Some _) t other (omega arith) live
-        (λ same. by_same other live.start live.turns live.leads (same_Some session other (sym is ∙ ap w.sessions same ∙ there)));
+        (λ same. by_same other live.story.start live.story.turns live.story.leads (same_Some session other (sym is ∙ ap w.sessions same ∙ there)));
     absent = stands.absent;
     author = (session, is);
   }
@@ -163,15 +139,17 @@ module _ (w : World) (s : ℕ) (session : Session) (c : Command) (m : Mailbox) (
         state = session.state;
         leads = leads;
         rest = refl;
-        mailbox = m;
-        is_there = is_there;
-        allowed = allowed;
-        group = refl;
-        some = some_of (group_of c session.state.view m w.log.guid).records some;
-        author = author;
-        good = good;
-        write = write;
-        told = told_all;
+        attempt = record {
+          mailbox = m;
+          is_there = is_there;
+          allowed = allowed;
+          group = refl;
+          some = some_of (group_of c session.state.view m w.log.guid).records some;
+          number = author;
+          good = good;
+          write = write;
+          told = told_all;
+        };
         empty = subst (λ (o : Option Wrote). IfSome o (λ (x : Wrote). x.place ≡ x.met)) (sym none) tt;
         running = λ runs. (refl, none);
       }

@@ -1,7 +1,7 @@
 -- What a command writes is an entry, and what entries leave of a mailbox.
-use Rattle.std.proofs.Common.{◌≡◌, ℕ, ◌≤◌, ◌<◌, List, [], ◌∷◌, get_or, length, Some}
+use Rattle.std.proofs.Common.{◌≡◌, ℕ, ◌≤◌, List, [], ◌∷◌, get_or, length, Some}
 use Rattle.std.specs.Prelude.{All, flat_map}
-use Rattle.std.proofs.lemmas.List.Elements.{All-cons, All-head, All-nil, All-tail, All-weaker}
+use Rattle.std.proofs.lemmas.List.Elements.{All-cons, All-nil, All-weaker}
 use Rattle.dv_model.specs.declared.types.Command.{Command}
 use Rattle.dv_model.specs.declared.types.Entry.{Entry}
 use Rattle.dv_model.specs.declared.types.Mailbox.{Mailbox}
@@ -10,7 +10,7 @@ use Rattle.dv_model.specs.Effects.{applied}
 use Rattle.dv_model.specs.Journals.{AreByteValues, HasResets, IsEntry, IsGuid, IsU32}
 use Rattle.dv_model.specs.Mailboxes.{IsValid}
 use Rattle.dv_model.specs.Sessions.{IsCommand, group_of}
-use Rattle.dv_model.specs.Spelling.{IsRecord, group_text, written}
+use Rattle.dv_model.specs.Spelling.{IsRecord, written}
 use Rattle.dv_model.specs.Views.{View}
 use Rattle.dv_validity.proofs.Ranges.{record_in_range}
 use Rattle.dv_validity.proofs.Records.{all_in_range_valid}
@@ -18,7 +18,7 @@ use Rattle.dv_validity.proofs.Resets.{records_resets}
 use Rattle.dv_validity.proofs.Texts.{IsByte, all_left, all_right, body_has_bytes, flat_all, payload_bytes, written_bytes}
 use Rattle.dv_validity.proofs.Written.{IsWritable, group_written}
 use Rattle.dv_validity.specs.Entries.{AreInRange, HasUidLeft}
-use Rattle.dv_validity.specs.Laws.{HasBytes, IsInRange}
+use Rattle.dv_validity.specs.Laws.{HasBytes}
 
 pub group_is_entry : (c : Command) (view : View) (m : Mailbox) (guid : ℕ → List ℕ) (author : ℕ) → IsCommand c → IsValid m → HasResets m → ((uid : ℕ) → IsGuid (guid uid)) → IsU32 author → HasUidLeft c m
     → 1 ≤ length (group_of c view m guid).records → IsEntry (record { author = author; group = group_of c view m guid })

@@ -6,12 +6,16 @@ use Rattle.dv_model.specs.declared.types.Group.{Group}
 use Rattle.dv_model.specs.declared.types.Mailbox.{Mailbox}
 use Rattle.dv_model.specs.declared.types.Mark.{Mark}
 use Rattle.dv_model.specs.declared.types.Reply.{Reply}
-use Rattle.dv_model.specs.Journals.{Log, at, mark_of}
-use Rattle.dv_model.specs.Sessions.{State, answer}
-use Rattle.dv_model.specs.Transcripts.{Answered, IsTold, Line, Runs, Wrote, refused_at, with_state}
+use Rattle.dv_model.specs.Journals.{HasResets, IsSound, Log, at, mark_of}
+use Rattle.dv_model.specs.Mailboxes.{IsValid}
+use Rattle.dv_model.specs.Sessions.{State, answer, group_of}
+use Rattle.dv_model.specs.Transcripts.{Answered, IsTold, Line, Runs, Wrote, refused_at, with_state, with_written}
 use Rattle.dv_model.specs.Views.{View}
 use Rattle.dv_model.proofs.Transcripts.{answered_up, runs_up}
-use Rattle.dv_validity.proofs.Logs.{Extends}
+use Rattle.dv_validity.proofs.Entries.{group_is_entry}
+use Rattle.dv_validity.proofs.Groups.{group_applies, uid_left}
+use Rattle.dv_validity.proofs.Logs.{Extends, resets_at, valid_at, written_extends, written_sound}
+use Rattle.dv_validity.specs.Entries.{IsWriteAt}
 
 module _ (log more : Log) (on : Extends log more) where
   pub same_refusal : (k : ℕ) (m : Mailbox) (x : State) (c : Command) (r : Option Reply) → k ≤ length log.entries → at log k ≡ Some m
@@ -80,3 +84,25 @@ module _ (log more : Log) (on : Extends log more) where
         answered_on base line.0 met r.0 (states line.0) line.1 replies r.1 (omega arith) r.2,
         runs_stay_on base (with_state states line.0 r.1) r.0 lines rest after q le r.3,
       )
+
+-- ---- the log with the group of a write that is allowed
+
+pub prefixes_valid : (log : Log) (k : ℕ) (m : Mailbox) → IsSound log → at log k ≡ Some m → IsValid m × HasResets m
+prefixes_valid log k m sound is = (valid_at log sound k m is, resets_at log sound k m is)
+
+pub sound_written : (log : Log) (author : ℕ) (x : State) (c : Command) (m : Mailbox) (received : ℕ) → IsSound log → IsWriteAt log author x c m
+    → IsSound (with_written log author c received (group_of c x.view m log.guid) m)
+sound_written log author x c m received sound write =
+    let k : ℕ = length log.entries in
+    let valid = valid_at log sound k m write.is_there in
+    written_sound log sound author c received (group_of c x.view m log.guid) m write.is_there
+    (group_is_entry c x.view m log.guid author write.command valid (resets_at log sound k m write.is_there) sound.guids write.author_is
+    (uid_left x c m log.rotates (mark_of log k) log.guid valid write.allowed) write.some)
+    (group_applies c x.view m log.guid write.command)
+
+pub runs_written : (log : Log) (author : ℕ) (x : State) (c : Command) (m : Mailbox) (received base : ℕ) (states : ℕ → State) (met : ℕ) (lines : List Line) (replies : List (List Reply)) (after : ℕ → State) (q : ℕ)
+    → IsSound log → IsWriteAt log author x c m → q ≤ length log.entries → Runs log base states met lines replies after q
+    → Runs (with_written log author c received (group_of c x.view m log.guid) m) base states met lines replies after q
+runs_written log author x c m received base states met lines replies after q sound write le runs =
+    let g : Group = group_of c x.view m log.guid in
+    runs_stay_on log (with_written log author c received g m) (written_extends log sound author c received g m write.is_there) base states met lines replies after q le runs

@@ -1,13 +1,17 @@
 -- Worked instances.
-use Rattle.std.proofs.Common.{◌≡◌, ℕ, ◌^◌, ◌<◌, List, [], ◌∷◌, Some, None, refl, arith}
+use Rattle.std.proofs.Common.{◌≡◌, ℕ, ◌-◌, ◌^◌, ◌<◌, List, [], ◌∷◌, Some, None, refl, arith}
 use Rattle.std.specs.Prelude.{codes}
 use Rattle.dv_model.specs.declared.types.Body.TheVariants.{Append, ExtIntro, Expunge, FlagUpdate, HeaderUpdate}
+use Rattle.dv_model.specs.declared.types.Command.TheVariants as command
 use Rattle.dv_model.specs.declared.types.Extension.{Extension}
 use Rattle.dv_model.specs.declared.types.Mailbox.{Mailbox}
 use Rattle.dv_model.specs.declared.types.Record.{Record}
 use Rattle.dv_model.specs.Effects.{after_record, applied}
+use Rattle.dv_model.specs.Journals.{IsEntry}
 use Rattle.dv_model.specs.Mailboxes.{IsValid, empty_mailbox, last_modseq}
+use Rattle.dv_model.specs.Sessions.{group_of}
 use Rattle.dv_model.specs.Spelling.{IsRecord}
+use Rattle.dv_model.specs.Views.{empty_view}
 
 -- ---- a UIDNEXT of 33 bits
 
@@ -43,6 +47,12 @@ wide_is_not_valid valid = let below : 2 ^ 32 < 2 ^ 32 = valid.next_uid.1 in absu
 last_uid : applied (record (empty_mailbox 1) { next_uid = 4294967294 }) (record { top = 1; body = Append (record { uid = 4294967294; flags = 0 } ∷ []) } ∷ [])
     ≡ Some (record (empty_mailbox 1) { next_uid = 4294967295; highest = 2; rows = record { uid = 4294967294; flags = 0; keywords = []; parts = []; modseq = 2 } ∷ [] })
 last_uid = refl
+
+-- no UID is left behind it: the group of an APPEND would be no entry
+used_up : IsEntry (record { author = 1; group = group_of (command.Append 0 [] []) empty_view (record (empty_mailbox 1) { next_uid = 4294967295 }) (λ uid. []) }) → ⊥
+used_up is =
+    let below : 4294967295 < 2 ^ 32 - 1 = (is.records 0 (record { top = 1; body = Append [] }) (omega arith)).spells.payload.0.uid.1 in
+    absurd (omega (arith, below))
 
 -- ---- a UID that left doesn't come back
 

@@ -1,5 +1,6 @@
 pub mod Rows
 pub mod Appends
+pub mod Beginnings
 pub mod Comparisons
 pub mod Expunges
 pub mod Extensions

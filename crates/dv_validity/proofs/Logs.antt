@@ -14,7 +14,6 @@ use Rattle.dv_model.specs.declared.types.Group.{Group}
 use Rattle.dv_model.specs.declared.types.Mailbox.{Mailbox}
 use Rattle.dv_model.specs.declared.types.Mark.{Mark}
 use Rattle.dv_model.specs.declared.types.Record.{Record}
-use Rattle.dv_model.specs.declared.types.Reply.{Reply}
 use Rattle.dv_model.specs.Effects.{applied}
 use Rattle.dv_model.specs.Journals.{HasResets, IsEntry, IsGuid, IsSound, Log, Mail, Held, at, mark_of, new_guid}
 use Rattle.dv_model.specs.Mailboxes.{IsValid}
@@ -136,10 +135,11 @@ module _ (log : Log) (sound : IsSound log) where
 
 -- ---- a log that goes on
 
--- its first entries, mailboxes, marks, groups, refusals and answers are as before
+-- its first entries, mailboxes, messages, marks, groups, refusals and answers are as before
 pub record Extends (log more : Log) : Type 0 where
   pub longer : length log.entries ≤ length more.entries
   pub same_at : (k : ℕ) → k ≤ length log.entries → at more k ≡ at log k
+  pub messages : (k uid : ℕ) (m : Mailbox) → k ≤ length log.entries → at log k ≡ Some m → uid < m.next_uid → (more.mail uid ≡ log.mail uid) × (more.guid uid ≡ log.guid uid)
   pub same_mark : (k : ℕ) → k ≤ length log.entries → mark_of more k ≡ mark_of log k
   pub entry : (k : ℕ) (e : Entry) → slice_get log.entries k ≡ Some e → slice_get more.entries k ≡ Some e
   pub group : (k : ℕ) (m : Mailbox) (c : Command) (v : View) → k ≤ length log.entries → at log k ≡ Some m → group_of c v m log.guid ≡ group_of c v m more.guid
@@ -167,6 +167,7 @@ module _ (log : Log) (sound : IsSound log) (last : Mailbox) (is_last : at log (l
   extends = record {
     longer = omega (arith, length-append log.entries es);
     same_at = at_grown log es;
+    messages = λ k uid m le is low. (sym (below log.mail mail k m le is same_mail uid low), sym (below log.guid guid k m le is same_guid uid low));
     same_mark = mark_grown log es;
     entry = λ k e there. stays_there log.entries es k e there;
     group = λ k m c v le is. group_agree m (valid_at log sound k m is) log.guid guid (below log.guid guid k m le is same_guid) c v;

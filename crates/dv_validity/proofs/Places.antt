@@ -8,17 +8,13 @@ use Rattle.std.proofs.lemmas.List.Kept.{IsStrictlyIncreasing-filter}
 use Rattle.dv_model.specs.declared.types.How.{How}
 use Rattle.dv_model.specs.declared.types.How.TheVariants.{Add, Remove, Replace}
 use Rattle.dv_model.specs.Effects.{keywords_after, with_place}
+use Rattle.dv_model.proofs.Clients.{rising_tail}
 
 -- ---- rising, from n on
 
 abbrev Above : ℕ → List ℕ → Type 0
 Above n [] = Unit {0}
 Above n (x ∷ xs) = (n ≤ x) × Above (x + 1) xs
-
-rising_tail : (n : ℕ) (ns : List ℕ) → IsStrictlyIncreasing (n ∷ ns) → IsStrictlyIncreasing ns
-rising_tail n ns up k below =
-    let next : suc k + 1 ≡ suc (k + 1) = omega arith in
-    subst (λ j. get_or ns k 0 < get_or (n ∷ ns) j 0) next (up (suc k) (omega (arith, below)))
 
 above_behind : (x : ℕ) (xs : List ℕ) → IsStrictlyIncreasing (x ∷ xs) → Above (x + 1) xs
 above_behind x [] up = tt

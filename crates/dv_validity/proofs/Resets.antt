@@ -1,7 +1,7 @@
 -- Each extension's reset number stays one of 32 bits.
-use Rattle.std.proofs.Common.{◌≡◌, ℕ, zero, suc, ◌+◌, ◌/◌, ◌%◌, ◌^◌, ◌<◌, Bool, true, false, cond, List, [], ◌∷◌, ◌++◌, length, drop, nat_eq, nat_le, nat_lt, Option, Some, None, refl}
+use Rattle.std.proofs.Common.{◌≡◌, ℕ, zero, suc, ◌+◌, ◌/◌, ◌%◌, Bool, true, false, cond, List, [], ◌∷◌, ◌++◌, length, drop, nat_eq, nat_lt, Option, Some, None, refl}
 use Rattle.std.specs.Prelude.{All, fold, slice_get}
-use Rattle.std.proofs.lemmas.List.Elements.{All-cons, All-from_recursion, All-head, All-nil, All-push, All-tail}
+use Rattle.std.proofs.lemmas.List.Elements.{All-cons, All-from_recursion, All-head, All-push, All-tail}
 use Rattle.std.proofs.lemmas.Option.{option_and_then_some}
 use Rattle.dv_model.specs.declared.types.Body.{Body}
 use Rattle.dv_model.specs.declared.types.Body.TheVariants as body
@@ -15,9 +15,9 @@ use Rattle.dv_model.specs.declared.types.NewRow.{NewRow}
 use Rattle.dv_model.specs.declared.types.Pair.{Pair}
 use Rattle.dv_model.specs.declared.types.Part.{Part}
 use Rattle.dv_model.specs.declared.types.Record.{Record}
-use Rattle.dv_model.specs.Effects.{after_record, added_extension, applied, effect, fit, grown_extension, grown_to, header_number, if_fit, introduced, is_in_guid_rows, is_in_pairs, is_request, keywords_after, may_be_added, new_extension, on_current, place_of, reintroduced, stamped, update_rows, update_size, with_change, with_header_part, with_header_parts, with_higher, with_intro, with_item, with_keyword, with_keywords, with_named, with_next_uid, with_parts, with_reset, with_row, with_rows, with_update, with_updates, with_validity, without_current, without_uids, written_over, zeroed}
+use Rattle.dv_model.specs.Effects.{after_record, added_extension, applied, effect, fit, grown_extension, grown_to, header_number, if_fit, introduced, is_in_guid_rows, is_in_pairs, is_request, may_be_added, new_extension, on_current, place_of, update_rows, update_size, with_change, with_header_part, with_header_parts, with_higher, with_intro, with_item, with_keyword, with_keywords, with_named, with_next_uid, with_parts, with_reset, with_row, with_rows, with_update, with_updates, with_validity, without_current, without_uids, written_over, zeroed}
 use Rattle.dv_model.specs.Journals.{HasResets, IsU32}
-use Rattle.dv_model.specs.Spelling.{AreIntroNumbers, IsIntro, IsPayload, IsRecord, padded, written}
+use Rattle.dv_model.specs.Spelling.{IsIntro, IsPayload, IsRecord, padded, written}
 use Rattle.dv_records.proofs.InTurn.{in_turn-all}
 use Rattle.dv_validity.proofs.Records.{after_by, by_some}
 use Rattle.dv_validity.proofs.Rows.{fold_keeps, fold_keeps_any}

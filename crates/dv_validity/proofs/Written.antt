@@ -1,8 +1,8 @@
 -- The records that a command writes have spellings in bytes.
-use Rattle.std.proofs.Common.{◌≡◌, ℕ, zero, suc, ◌+◌, ◌-◌, ◌*◌, ◌/◌, ◌%◌, ◌^◌, ◌<◌, ◌≤◌, Bool, true, false, cond, ◌&&◌, List, [], ◌∷◌, ◌++◌, length, nat_eq, bytes_eq, replicate, Option, Some, None, refl, subst, arith, length-append}
+use Rattle.std.proofs.Common.{◌≡◌, ℕ, ◌+◌, ◌-◌, ◌*◌, ◌%◌, ◌^◌, ◌<◌, ◌≤◌, Bool, true, false, cond, ◌&&◌, List, [], ◌∷◌, ◌++◌, length, nat_eq, bytes_eq, replicate, Option, Some, None, refl, subst, arith}
 use Rattle.std.specs.Prelude.{All, Any, IfSome, codes, filter, find, flat_map, map, option_map, take, unwrap_or}
 use Rattle.std.specs.Int.{w16, w32, to_le_bytes}
-use Rattle.std.specs.List.{AllByRecursion, enumerate_from, list_any}
+use Rattle.std.specs.List.{AllByRecursion, enumerate_from}
 use Rattle.std.proofs.lemmas.Bool.{and_parts}
 use Rattle.std.proofs.lemmas.Bool.Decides.{nat_tests}
 use Rattle.std.proofs.lemmas.List.{length-map}
@@ -26,7 +26,7 @@ use Rattle.dv_model.specs.Effects.{no_id}
 use Rattle.dv_model.specs.Journals.{AreByteValues, HasResets, IsGuid, IsU32}
 use Rattle.dv_model.specs.Mailboxes.{IsRowOf, IsValid}
 use Rattle.dv_model.specs.Names.{IsName}
-use Rattle.dv_model.specs.Sessions.{IsCommand, cache_number, check_records, deleted_uids, expunge_limit, expunges, external, external_record, flag_updates, group_of, has_row, has_uid, internal_record, is_append, is_deleted, is_unchanged, keyword_adds, keyword_resets, keyword_updates, next_number, offset_row, pieces, ranges_of, removed_uids, store_records, stored_uids}
+use Rattle.dv_model.specs.Sessions.{IsCommand, cache_number, check_records, deleted_uids, expunge_limit, expunges, external, external_record, flag_updates, group_of, has_row, internal_record, is_deleted, is_unchanged, keyword_adds, keyword_resets, keyword_updates, next_number, offset_row, pieces, ranges_of, removed_uids, store_records, stored_uids}
 use Rattle.dv_model.specs.Sets.{named, named_by_uid}
 use Rattle.dv_model.specs.Spelling.{AreIntroNumbers, IsRecord, IsUid, change_text, guid_row_text, how_code, intro_head, intro_text, keyword_text, new_row_text, padding, pair_text, payload_text}
 use Rattle.dv_model.specs.Views.{View}

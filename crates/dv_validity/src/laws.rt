@@ -1,5 +1,5 @@
 ghost use Rattle.dv_validity.specs.Laws.{RecordKeepsValid, RecordsKeepValid, RecordIsInRange, RangeKeepsValid, RangesKeepValid, StampedByItself, StampedByRows, StampedAlike, StampedWithout, StampedWithMore, FlagsByRows, RecordRises, RecordsNeverFall, NoneReturns, NoneReturnsInTurn, KeywordsStay, KeywordsStayInTurn, FollowingStays};
-ghost use Rattle.dv_validity.specs.Entries.{GroupIsEntry, GroupApplies, EntryIsInRange, EntryKeepsValid, EntryKeepsResets};
+ghost use Rattle.dv_validity.specs.Entries.{GroupIsEntry, GroupApplies, EntryIsInRange, EntryKeepsValid, EntryKeepsResets, SoundLogsAreValid, SoundLogsGoOn, RunsStayWritten};
 
 /// A valid mailbox stays valid under each record that has a spelling in bytes: as each message is
 /// added it is assigned a higher UID than those which were added previously (RFC 3501, section
@@ -7,9 +7,14 @@ ghost use Rattle.dv_validity.specs.Entries.{GroupIsEntry, GroupApplies, EntryIsI
 pub fn records_keep_valid()
     ensures one { RecordKeepsValid }
     ensures all { RecordsKeepValid }
+{}
+
+/// What has a spelling in bytes is in range, and under records in range too a valid mailbox stays
+/// valid.
+pub fn ranges_keep_valid()
     ensures range { RecordIsInRange }
-    ensures one_in_range { RangeKeepsValid }
-    ensures all_in_range { RangesKeepValid }
+    ensures one { RangeKeepsValid }
+    ensures all { RangesKeepValid }
 {}
 
 /// The modification sequences of a record's rows can be set in one pass: a row is compared with the
@@ -17,10 +22,14 @@ pub fn records_keep_valid()
 pub fn stamped_by_rows()
     ensures alone { StampedByItself }
     ensures rows { StampedByRows }
+    ensures flags { FlagsByRows }
+{}
+
+/// Rows that stay as they are keep their modification sequences, where others leave or are new.
+pub fn stamped_as_before()
     ensures alike { StampedAlike }
     ensures without { StampedWithout }
     ensures more { StampedWithMore }
-    ensures flags { FlagsByRows }
 {}
 
 /// The UIDNEXT and the highest modification sequence never fall. Each record has the next one, and
@@ -46,15 +55,26 @@ pub fn keywords_stay()
 {}
 
 /// What a command of its type writes over a valid mailbox is no record or an entry of a sound log:
-/// each record has a spelling in bytes, however many messages are named, and applies to the mailbox.
+/// each record has a spelling in bytes, however many messages are named, and applies to the
+/// mailbox.
 pub fn groups_are_entries()
     ensures entry { GroupIsEntry }
     ensures applies { GroupApplies }
 {}
 
-/// An entry leaves a valid mailbox of a valid one, and each extension's reset number one of 32 bits.
+/// An entry leaves a valid mailbox of a valid one, and each extension's reset number one of
+/// 32 bits.
 pub fn entries_keep_valid()
     ensures range { EntryIsInRange }
     ensures valid { EntryKeepsValid }
     ensures resets { EntryKeepsResets }
+{}
+
+/// A sound log goes on by the group of each write that is allowed, with its message and GUID: the
+/// longer log is sound, and what was answered stays so, since a UID must not refer to any other
+/// message at any time (RFC 3501, section 2.3.1.1).
+pub fn sound_logs_go_on()
+    ensures valid { SoundLogsAreValid }
+    ensures sound { SoundLogsGoOn }
+    ensures runs { RunsStayWritten }
 {}

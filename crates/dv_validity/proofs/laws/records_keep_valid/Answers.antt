@@ -1,5 +1,4 @@
-use Rattle.dv_validity.proofs.Ranges.{record_in_range}
-use Rattle.dv_validity.proofs.Records.{all_in_range_valid, in_range_valid, record_valid, records_valid}
+use Rattle.dv_validity.proofs.Records.{record_valid, records_valid}
 use Rattle.dv_validity.proofs.laws.records_keep_valid.Goals as goal
 
 pub returns-clause-one : goal.returns-clause-one
@@ -7,12 +6,3 @@ returns-clause-one c = record_valid
 
 pub returns-clause-all : goal.returns-clause-all
 returns-clause-all c = records_valid
-
-pub returns-clause-range : goal.returns-clause-range
-returns-clause-range c = record_in_range
-
-pub returns-clause-one_in_range : goal.returns-clause-one_in_range
-returns-clause-one_in_range c = in_range_valid
-
-pub returns-clause-all_in_range : goal.returns-clause-all_in_range
-returns-clause-all_in_range c = all_in_range_valid

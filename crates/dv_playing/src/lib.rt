@@ -1,0 +1,7 @@
+//! A script of any number of sessions, played by the session rules over one log, and the law that what
+//! is played is a run by the rules.
+#![tactic(auto)]
+
+mod laws;
+
+pub use laws::{plays_are_serial, plays_go_on};
