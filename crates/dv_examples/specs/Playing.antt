@@ -13,7 +13,8 @@ use Rattle.dv_model.specs.Sessions.{Answer, State, new_session, answer, group_of
 use Rattle.dv_model.specs.Texts.{line_text}
 use Rattle.dv_model.specs.Transcripts.{with_state}
 
--- where a script stands: the mailbox, its mark, the groups, the messages, each session's state, and what was said so far
+-- where a script stands: the mailbox, its mark, the groups, the messages, each session's state, and
+-- what was said so far
 pub record Play : Type 0 where
   pub mailbox : Mailbox
   pub mark : Mark
@@ -39,7 +40,8 @@ guid uid = new_guid 1000 1000 uid 1000
 
 -- the messages with that of the command, which gets the next UID
 abbrev pub with_message : Play → Command → ℕ → Mail
-with_message play (command.Append flags keywords message) uid = cond (nat_eq uid play.mailbox.next_uid) (Held message) (play.mail uid)
+with_message play (command.Append flags keywords message) uid =
+    cond (nat_eq uid play.mailbox.next_uid) (Held message) (play.mail uid)
 with_message play c uid = play.mail uid
 
 -- a line: the session's name and number, and the command
@@ -76,7 +78,8 @@ after_line play line None =
 -- behind some lines, in turn
 abbrev pub played : Play → List Line → Play
 played play [] = play
-played play (line ∷ lines) = played (after_line play line (refusal_of (play.states line.1) line.2 play.mailbox play.mark guid)) lines
+played play (line ∷ lines) =
+    played (after_line play line (refusal_of (play.states line.1) line.2 play.mailbox play.mark guid)) lines
 
 -- texts, each with a line feed behind it
 abbrev pub text_lines : List (List ℕ) → List ℕ
