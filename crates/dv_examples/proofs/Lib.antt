@@ -8,3 +8,4 @@ pub mod TextRows
 pub mod RebuildRows
 pub mod GeneratorRows
 pub mod MailRows
+pub mod ReplyRows
