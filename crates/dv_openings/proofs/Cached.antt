@@ -1,5 +1,5 @@
 -- A cache file that is written of messages is true of them.
-use Rattle.std.proofs.Common.{◌≡◌, ◌^◌, ◌<◌, ℕ, List, [], ◌∷◌, All, Contains, Option, Some, None, refl, sym, ◌∙◌, ap, subst}
+use Rattle.std.proofs.Common.{◌≡◌, ◌^◌, ◌<◌, ℕ, List, [], ◌∷◌, All, Contains, Some, None, refl, sym, ◌∙◌, ap, subst}
 use Rattle.std.proofs.lemmas.List.Elements.{All-cons, All-contains, All-nil}
 use Rattle.std.proofs.lemmas.Option.{same_Some}
 use Rattle.dv_model.specs.declared.types.Mailbox.{Mailbox}
@@ -13,7 +13,7 @@ use Rattle.dv_cache.specs.Finding.{IsRowAt}
 use Rattle.dv_cache.specs.Written.{AreWritable}
 use Rattle.dv_cache.proofs.Again.{only_written}
 use Rattle.dv_dbox.specs.Mails.{mail_in}
-use Rattle.dv_openings.specs.TrueCaches.{HasTrueCache, IsCached, cached_rows, known_of}
+use Rattle.dv_openings.specs.TrueCaches.{HasTrueCache, cached_rows, known_of}
 
 -- what is written of a row is what is known of its message
 abbrev IsKnown : (ℕ → Mail) → CacheRow → Type 0
