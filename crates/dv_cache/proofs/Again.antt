@@ -1,18 +1,18 @@
 -- What is written is found again.
-use Rattle.std.proofs.Common.{◌≡◌, ℕ, ◌+◌, ◌*◌, ◌^◌, ◌<◌, ◌≤◌, List, [], ◌∷◌, ◌++◌, length, take, drop, get_or, Option, Some, None, refl, sym, ◌∙◌, ap, subst, arith, length-append, append_assoc}
+use Rattle.std.proofs.Common.{◌≡◌, Contains, ℕ, ◌+◌, ◌*◌, ◌^◌, ◌<◌, ◌≤◌, List, [], ◌∷◌, ◌++◌, length, take, drop, get_or, Option, Some, None, refl, sym, ◌∙◌, ap, subst, arith, length-append, append_assoc}
 use Rattle.std.specs.Prelude.{slice_get}
 use Rattle.std.specs.Int.{w32, from_le_bytes}
 use Rattle.std.proofs.Math.Seq.{drop-append_seam, drop-append-add, take-append_seam}
 use Rattle.std.proofs.lemmas.List.{length-take, take-append-drop, take_more}
 use Rattle.std.proofs.lemmas.Nat.{from_le_bytes-to_le_bytes_4}
-use Rattle.std.proofs.lemmas.Option.{get_or_from_slice_get, slice_get_within}
+use Rattle.std.proofs.lemmas.Option.{get_or_from_slice_get, slice_get-get_or, slice_get_within}
 use Rattle.dv_cache.specs.declared.row.CacheRow.{CacheRow}
 use Rattle.dv_cache.specs.declared.row.Known.{Known}
 use Rattle.dv_cache.specs.Caches.{cache_text, entries_from, entry_text, fields_text, first_place, HasFive, header_text, kept, known_text, place_behind, row_entry, texts_from}
 use Rattle.dv_cache.specs.Finding.{AreFieldsOf, HasHeader, IsRowAt, word_at}
 use Rattle.dv_cache.specs.Written.{place_of, AreWritable}
 use Rattle.dv_cache.proofs.Places.{entries_append, kept_ends, kept_is, kept_short, texts_append, texts_length}
-use Rattle.dv_cache.proofs.Rows.{row_of}
+use Rattle.dv_cache.proofs.Rows.{one_row, row_of}
 
 -- ---- numbers in a text
 
@@ -189,3 +189,44 @@ not_found indexid seq rows i uid row other ok e k is =
     let entry : b ≡ cut.before ++ (entry_text row.uid 0 0 0 ++ cut.behind) = cut.entry ∙ ap (λ o. cut.before ++ (row_entry place row.uid o ++ cut.behind)) k in
     let numbers = numbers_in cut.before cut.behind b row.uid 0 0 0 (32 + 16 * i) small (omega arith) (omega arith) (omega arith) cut.counted entry in
     is.entry.placed numbers.fourth
+
+-- whatever is found was written
+pub only_written : (indexid seq asked number uid offset : ℕ) (rows : List CacheRow)
+    (other : CacheRow)
+    → indexid < 2 ^ 32 → seq < 2 ^ 32 → AreWritable rows
+    → IsRowAt (cache_text indexid seq rows) asked number uid offset other → Contains rows other
+only_written indexid seq asked number uid offset rows other p q ok is = by_kept (kept (place_of rows i) row.known) refl
+  where
+    b : List ℕ
+    b = cache_text indexid seq rows
+
+    i : ℕ
+    i = is.entry.counted.0
+
+    row : CacheRow
+    row = get_or rows i other
+
+    less : i < length rows
+    less = omega (arith, is.entry.counted.2, counted indexid seq rows ok.few)
+
+    there : slice_get rows i ≡ Some row
+    there = slice_get-get_or rows i other less
+
+    here : IsRowAt b asked number uid (32 + 16 * i) other
+    here = subst (λ k. IsRowAt b asked number uid k other) is.entry.counted.1 is
+
+    head : HasHeader indexid seq b
+    head = has_header indexid seq rows p q ok.few
+
+    named : IsRowAt b indexid seq uid (32 + 16 * i) other
+    named =
+        subst (λ k. IsRowAt b k seq uid (32 + 16 * i) other) (sym here.header.of ∙ head.of)
+        (subst (λ k. IsRowAt b asked k uid (32 + 16 * i) other) (sym here.header.numbered ∙ head.numbered) here)
+
+    by_kept : (known : Option Known) → kept (place_of rows i) row.known ≡ known → Contains rows other
+    by_kept None k = absurd (not_found indexid seq rows i uid row other ok there k named)
+    by_kept (Some known) k =
+        let own = found indexid seq rows i row known p q ok there k in
+        let uids : uid ≡ row.uid = sym here.entry.of ∙ own.entry.of in
+        let same : row ≡ other = one_row b indexid seq row.uid (32 + 16 * i) row other own (subst (λ u. IsRowAt b indexid seq u (32 + 16 * i) other) uids named) in
+        (i, less, same)

@@ -29,7 +29,8 @@ pub record AreFieldsOf (b : List ℕ) (fields : List (Option (List ℕ))) : Type
   pub short : All IsShort fields
   pub text : take (length (fields_text fields)) b ≡ fields_text fields
 
--- the file has the row at the offset: its UID, its sizes, and the five fields at the place that the entry names
+-- the file has the row at the offset: its UID, its sizes, and the five fields at the place that the
+-- entry names
 pub record IsRowAt (b : List ℕ) (indexid seq uid offset : ℕ) (row : CacheRow) : Type 0 where
   pub header : HasHeader indexid seq b
   pub entry : HasEntry uid offset b

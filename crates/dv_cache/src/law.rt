@@ -1,4 +1,4 @@
-ghost use Rattle.std.specs.Prelude.{◌≡◌, ◌+◌, ◌*◌, ◌<◌, ◌^◌, ℕ, List, Option, None, Some, slice_get};
+ghost use Rattle.std.specs.Prelude.{◌≡◌, ◌+◌, ◌*◌, ◌<◌, ◌^◌, ℕ, List, Option, None, Some, slice_get, Contains};
 ghost use Rattle.dv_cache.specs.Caches.{cache_text, kept};
 ghost use Rattle.dv_cache.specs.Finding.{IsRowAt};
 ghost use Rattle.dv_cache.specs.Written.{place_of, AreWritable};
@@ -29,4 +29,15 @@ pub fn written_is_found()
         → kept (place_of rows i) row.known ≡ None
         → IsRowAt (cache_text indexid seq rows) indexid seq uid (32 + 16 * i) other
         → ⊥ }
+{}
+
+/// What is found in a written file is a row that was written, whatever indexid and sequence are
+/// asked for.
+pub fn found_is_written()
+    ensures { (indexid seq asked number uid offset : ℕ) (rows : List CacheRow) (row : CacheRow)
+        → indexid < 2 ^ 32
+        → seq < 2 ^ 32
+        → AreWritable rows
+        → IsRowAt (cache_text indexid seq rows) asked number uid offset row
+        → Contains rows row }
 {}

@@ -9,7 +9,7 @@ mod row;
 mod writing;
 
 pub use finding::find;
-pub use law::{one_row, written_is_found};
+pub use law::{found_is_written, one_row, written_is_found};
 pub use row::{CacheRow, Known};
 pub use writing::write;
 

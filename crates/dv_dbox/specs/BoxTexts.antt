@@ -38,7 +38,10 @@ are_hex text = list_all is_hex text
 
 -- the number that 1 to so many digits spell
 abbrev pub hex_number : ℕ → List ℕ → Option ℕ
-hex_number most text = if nat_le 1 (length text) && nat_le (length text) most && are_hex text then Some (digits_value 16 text) else None
+hex_number most text =
+    if nat_le 1 (length text) && nat_le (length text) most && are_hex text
+    then Some (digits_value 16 text)
+    else None
 
 -- the bytes that pairs of digits spell
 abbrev pub paired : List ℕ → List ℕ
@@ -95,7 +98,10 @@ is_header_size (Some value) = bytes_eq (str_to_ascii_lowercase value) (codes "1e
 
 -- M is the message header's size, and C the time of the file's making
 abbrev pub stamp_of : List (List ℕ) → Option ℕ
-stamp_of fields = if list_all is_item fields && is_header_size (value_of 77 fields) then option_and_then (hex_number 8) (value_of 67 fields) else None
+stamp_of fields =
+    if list_all is_item fields && is_header_size (value_of 77 fields)
+    then option_and_then (hex_number 8) (value_of 67 fields)
+    else None
 
 -- the fields behind the version, which is 2
 abbrev pub fields_of : List (List ℕ) → Option (List (List ℕ))
@@ -125,10 +131,12 @@ header_at b = do
   stamp ← ok_or (line_stamp line.0) BadHeader
   Ok (stamp, line.1)
 
--- 01 02, the letter N, a space, eight bytes of any kind, a space, the size in sixteen digits, a line feed
+-- 01 02, the letter N, a space, eight bytes of any kind, a space, the size in sixteen digits, a
+-- line feed
 abbrev pub header_size : List ℕ → Option ℕ
 header_size head =
-    if length head == 30 && bytes_eq (take 4 head) (1 ∷ 2 ∷ 78 ∷ 32 ∷ []) && slice_index head 12 == 32 && slice_index head 29 == 10
+    if length head == 30 && bytes_eq (take 4 head) (1 ∷ 2 ∷ 78 ∷ 32 ∷ [])
+    && slice_index head 12 == 32 && slice_index head 29 == 10
     then hex_number 16 (take 16 (drop 13 head)) else None
 
 -- the message header: the message's size
@@ -153,11 +161,14 @@ end_at b = if bytes_eq (take 4 b) trailer then Ok (drop 4 b) else Err BadEnd
 abbrev pub before_empty : List (List ℕ) → Option (List (List ℕ))
 before_empty [] = None
 before_empty (part ∷ []) = None
-before_empty (part ∷ next ∷ parts) = if length part == 0 then Some [] else option_map (λ entries. part ∷ entries) (before_empty (next ∷ parts))
+before_empty (part ∷ next ∷ parts) =
+    if length part == 0 then Some []
+    else option_map (λ entries. part ∷ entries) (before_empty (next ∷ parts))
 
 -- the lines of the metadata, which an empty line ends
 abbrev pub entries_of : List ℕ → Option (List (List ℕ))
-entries_of text = option_and_then (λ entries. if list_all is_item entries then Some entries else None) (before_empty (slice_split is_feed text))
+entries_of text =
+    option_and_then (λ entries. if list_all is_item entries then Some entries else None) (before_empty (slice_split is_feed text))
 
 -- a value that may be absent
 abbrev pub read_at : {A : Type 0} → (List ℕ → Option A) → Option (List ℕ)
@@ -244,7 +255,8 @@ pub record BoxText (m : BoxContent) (b : List ℕ) : Type 0 where
   pub sized : List ℕ
   pub entries : List (List ℕ)
   pub rest : List ℕ
-  pub text : b ≡ fields_text fields ++ (size_text filler sized ++ (m.bytes ++ (trailer ++ (entries_text entries ++ rest))))
+  pub text : b ≡ fields_text fields
+      ++ (size_text filler sized ++ (m.bytes ++ (trailer ++ (entries_text entries ++ rest))))
   pub are_fields : AreFields m.stamp fields
   pub is_header : IsMessageHeader (length m.bytes) filler sized
   pub are_entries : AreEntries m entries
@@ -266,9 +278,12 @@ entry_text key value = key ∷ value ++ 10 ∷ []
 -- the metadata, from GUID, time of receipt and both sizes
 abbrev pub metadata_text : List ℕ → ℕ → ℕ → ℕ → List ℕ
 metadata_text guid received physical as_sent =
-    entry_text 71 (pairs_text guid) ++ (entry_text 82 (hex_text received) ++ (entry_text 90 (hex_text physical) ++ (entry_text 86 (hex_text as_sent) ++ 10 ∷ [])))
+    entry_text 71 (pairs_text guid)
+    ++ (entry_text 82 (hex_text received) ++ (entry_text 90 (hex_text physical) ++ (entry_text 86 (hex_text as_sent) ++ 10 ∷ [])))
 
--- the file of a message, from the time of its making, its GUID, the time of its receipt and its bytes
+-- the file of a message, from the time of its making, its GUID, the time of its receipt and its
+-- bytes
 abbrev pub written : ℕ → List ℕ → ℕ → List ℕ → List ℕ
 written stamp guid received message =
-    first_line_text stamp ++ (message_header_text (length message) ++ (message ++ (trailer ++ metadata_text guid received (length message) (virtual_size message))))
+    first_line_text stamp
+    ++ (message_header_text (length message) ++ (message ++ (trailer ++ metadata_text guid received (length message) (virtual_size message))))

@@ -1,7 +1,7 @@
 -- What a message file is taken as, by its bytes: the message and its GUID, or damage.
-use Rattle.std.specs.Prelude.{ℕ, List, replicate, Option, Some, None, Result, Ok, Err, unwrap_or}
+use Rattle.std.specs.Prelude.{ℕ, List, replicate, Option, Some, None, Ok, Err, unwrap_or}
 use Rattle.dv_model.specs.Journals.{Mail, Held, Damaged}
-use Rattle.dv_dbox.specs.BoxTexts.{BoxContent, BoxFault, box_content}
+use Rattle.dv_dbox.specs.BoxTexts.{BoxContent, box_content}
 
 -- the content of a file of the form; a file that is missing or broken has none
 abbrev pub content_in : Option (List ℕ) → Option BoxContent

@@ -16,14 +16,16 @@ texts slices = map (λ slice. slice.now) slices
 
 -- the message as the format has it
 abbrev pub content_of : Message → BoxContent
-content_of m = record { stamp = m.stamp; bytes = m.bytes; guid = m.guid; received = m.received; physical = m.physical; virtual_size = m.virtual_size; others = m.others }
+content_of m =
+    record { stamp = m.stamp; bytes = m.bytes; guid = m.guid; received = m.received; physical = m.physical; virtual_size = m.virtual_size; others = m.others }
 
 -- the message that a written file holds
 abbrev pub written_content : ℕ → List ℕ → ℕ → List ℕ → BoxContent
 written_content stamp guid received message =
     record { stamp = stamp; bytes = message; guid = Some guid; received = Some received; physical = Some (physical_size message); virtual_size = Some (virtual_size message); others = [] }
 
--- what a file is written of: times of 32 bits, a GUID of sixteen bytes, and a message that a slice can hold
+-- what a file is written of: times of 32 bits, a GUID of sixteen bytes, and a message that a slice
+-- can hold
 pub record IsWritable (stamp : ℕ) (guid : List ℕ) (received : ℕ) (message : List ℕ) : Type 0 where
   pub made : stamp < 2 ^ 32
   pub came : received < 2 ^ 32

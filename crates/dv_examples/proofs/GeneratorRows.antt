@@ -1,5 +1,5 @@
 -- What generated scripts begin with.
-use Rattle.std.proofs.Common.{◌≡◌, refl, List, [], ◌∷◌}
+use Rattle.std.proofs.Common.{◌≡◌, refl, [], ◌∷◌}
 use Rattle.std.specs.Prelude.{codes, replicate, ◌++◌}
 use Rattle.std.specs.Fmt.{digits}
 use Rattle.dv_model.specs.declared.types.Command.TheVariants as command

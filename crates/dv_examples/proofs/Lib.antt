@@ -10,3 +10,4 @@ pub mod GeneratorRows
 pub mod MailRows
 pub mod RunRows
 pub mod PlayRows
+pub mod ReplyRows

@@ -18,7 +18,7 @@ use Rattle.dv_openings.specs.Openings.{Finds, IsFound}
 abbrev script : List ℕ
 script = codes "a SELECT" ++ 10 ∷ codes "a APPEND () {5}" ++ 10 ∷ codes "hello" ++ 10 ∷ []
 
-abbrev a : List ℕ
+abbrev pub a : List ℕ
 a = codes "a"
 
 abbrev append : NamedLine
@@ -30,7 +30,7 @@ pieces =
     ∷ record { lines = append ∷ []; text = codes "a APPEND () {5}" ++ 10 ∷ codes "hello"; ending = 10 ∷ [] }
     ∷ []
 
-all_one : {X : Type 0} (P : X → Type 0) (x : X) → P x → All P (x ∷ [])
+pub all_one : {X : Type 0} (P : X → Type 0) (x : X) → P x → All P (x ∷ [])
 all_one P x p zero d below = p
 all_one P x p (suc k) d below = absurd (omega (arith, below))
 
@@ -39,7 +39,7 @@ all_two P x y p q zero d below = p
 all_two P x y p q (suc zero) d below = q
 all_two P x y p q (suc (suc k)) d below = absurd (omega (arith, below))
 
-session : IsSession a
+pub session : IsSession a
 session = record { size = (omega arith, omega arith); bytes = all_one (λ n. is_session_byte n ≡ true) 97 refl }
 
 select_line : IsShortLine (a, command.Select) (codes "a SELECT")

@@ -1,5 +1,5 @@
--- The script that `gen SEED COUNT SESSIONS` stands for, by a linear congruential generator (Knuth's MMIX: its multiplier
--- and increment, modulo 2^64).
+-- The script that `gen SEED COUNT SESSIONS` stands for, by a linear congruential generator (Knuth's
+-- MMIX: its multiplier and increment, modulo 2^64).
 use Rattle.std.specs.Prelude.{ℕ, zero, suc, ◌+◌, ◌*◌, ◌/◌, ◌%◌, ◌^◌, true, List, [], ◌∷◌, ◌++◌, map, replicate, None, codes, decimal, nat_eq, nat_le, if◌then◌else◌}
 use Rattle.std.specs.List.{range_with_len}
 use Rattle.dv_model.specs.declared.types.Command.{Command}
@@ -25,7 +25,9 @@ drawn state = state / 2 ^ 33
 
 -- ten UIDs from one up to so many on
 abbrev pub uids_from : ℕ → ℕ → List Span
-uids_from i state = let first = 1 + drawn state % (i + 1) in record { from = Number first; to = Number (first + 9) } ∷ []
+uids_from i state =
+    let first = 1 + drawn state % (i + 1) in
+    record { from = Number first; to = Number (first + 9) } ∷ []
 
 -- what a STORE does with flags
 abbrev pub how_of : ℕ → How
@@ -41,7 +43,8 @@ keyword_of n = codes "k" ++ decimal (n % 40)
 
 -- an empty list of flags, and a message of up to 99 bytes `x`
 abbrev pub append_drawn : ℕ → Command × ℕ
-append_drawn state = let size = next_state state in (command.Append 0 [] (replicate (drawn size % 100) 120), size)
+append_drawn state =
+    let size = next_state state in (command.Append 0 [] (replicate (drawn size % 100) 120), size)
 
 -- a STORE of one flag or of one keyword
 abbrev pub store_drawn : ℕ → ℕ → Command × ℕ
@@ -60,14 +63,19 @@ store_drawn i state = by_flag (drawn third % 6)
     fourth = next_state third
 
     stored : ℕ → List (List ℕ) → Command
-    stored flags keywords = command.Store true (uids_from i first) (how_of (drawn second % 3)) flags keywords None
+    stored flags keywords =
+        command.Store true (uids_from i first) (how_of (drawn second % 3)) flags keywords None
 
     by_flag : ℕ → Command × ℕ
-    by_flag n = if nat_le n 4 then (stored (2 ^ n) [], third) else (stored 0 (keyword_of (drawn fourth) ∷ []), fourth)
+    by_flag n =
+        if nat_le n 4 then (stored (2 ^ n) [], third)
+        else (stored 0 (keyword_of (drawn fourth) ∷ []), fourth)
 
 -- a FETCH of flags
 abbrev pub fetch_drawn : ℕ → ℕ → Command × ℕ
-fetch_drawn i state = let first = next_state state in (command.Fetch true (uids_from i first) (item.Flags ∷ []), first)
+fetch_drawn i state =
+    let first = next_state state in
+    (command.Fetch true (uids_from i first) (item.Flags ∷ []), first)
 
 -- of eight draws three append, two store, and one each fetches, waits and expunges
 abbrev pub command_by : ℕ → ℕ → ℕ → Command × ℕ
@@ -97,4 +105,5 @@ commands_from sessions i (suc count) state =
 -- a SELECT of each session, and then the commands
 abbrev pub generated : ℕ → ℕ → ℕ → List NamedLine
 generated seed count sessions =
-    map (λ n. (session_name n, command.Select)) (range_with_len 1 sessions) ++ commands_from sessions 0 count seed
+    map (λ n. (session_name n, command.Select)) (range_with_len 1 sessions)
+    ++ commands_from sessions 0 count seed

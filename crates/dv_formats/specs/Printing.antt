@@ -26,7 +26,9 @@ are_equal from to = false
 
 -- equal ends are written once
 abbrev pub span_text : Span → List ℕ
-span_text span = if are_equal span.from span.to then end_text span.from else end_text span.from ++ codes ":" ++ end_text span.to
+span_text span =
+    if are_equal span.from span.to then end_text span.from
+    else end_text span.from ++ codes ":" ++ end_text span.to
 
 -- a sequence set
 abbrev pub set_text : List Span → List ℕ
@@ -80,9 +82,15 @@ command_text command.Select = codes "SELECT"
 command_text command.Noop = codes "NOOP"
 command_text command.Check = codes "CHECK"
 command_text command.Expunge = codes "EXPUNGE"
-command_text (command.Append flags keywords message) = codes "APPEND " ++ flags_text flags keywords ++ codes " {" ++ decimal (length message) ++ codes "}" ++ 10 ∷ message
-command_text (command.Fetch by_uid set items) = uid_text by_uid ++ codes "FETCH " ++ set_text set ++ codes " (" ++ spaced (map item_text items) ++ codes ")"
-command_text (command.Store by_uid set how flags keywords since) = uid_text by_uid ++ codes "STORE " ++ set_text set ++ codes " " ++ modifier_text since ++ how_text how ++ codes " " ++ flags_text flags keywords
+command_text (command.Append flags keywords message) =
+    codes "APPEND " ++ flags_text flags keywords ++ codes " {" ++ decimal (length message)
+    ++ codes "}" ++ 10 ∷ message
+command_text (command.Fetch by_uid set items) =
+    uid_text by_uid ++ codes "FETCH " ++ set_text set ++ codes " (" ++ spaced (map item_text items)
+    ++ codes ")"
+command_text (command.Store by_uid set how flags keywords since) =
+    uid_text by_uid ++ codes "STORE " ++ set_text set ++ codes " " ++ modifier_text since
+    ++ how_text how ++ codes " " ++ flags_text flags keywords
 command_text (command.Search by_uid key) = uid_text by_uid ++ codes "SEARCH " ++ sought_text key
 command_text (command.UidRemove set) = codes "UID REMOVE " ++ set_text set
 

@@ -1,4 +1,5 @@
--- Which bytes are a session's reply (RFC 3501, section 7), and which replies have a text that is theirs alone.
+-- Which bytes are a session's reply (RFC 3501, section 7), and which replies have a text that is
+-- theirs alone.
 use Rattle.std.specs.Prelude.{◌≡◌, ℕ, ◌^◌, ◌<◌, List, length, All, Option, Some, None}
 use Rattle.dv_model.specs.declared.types.Mark.{Mark}
 use Rattle.dv_model.specs.declared.types.Reply.{Reply}

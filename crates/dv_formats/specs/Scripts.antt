@@ -1,4 +1,5 @@
--- The text of a script: lines, each with a session's name and a command in the words of RFC 3501, section 9.
+-- The text of a script: lines, each with a session's name and a command in the words of RFC 3501,
+-- section 9.
 use Rattle.std.specs.Prelude.{◌≡◌, ◌⊎◌, ℕ, suc, ◌+◌, ◌^◌, ◌<◌, ◌≤◌, Bool, true, false, ◌&&◌, ◌||◌, cond, List, [], ◌∷◌, ◌++◌, length, fold, flat_map, count_by, All, Contains, Option, Some, None, codes, decimal, nat_eq, nat_le, bytes_eq, bit_or, if◌then◌else◌}
 use Rattle.std.specs.List.{list_any, AllZip}
 use Rattle.dv_model.specs.declared.types.Command.{Command}
@@ -68,7 +69,8 @@ with_flag so_far word = by_kind (flag_bit word)
   where
     by_kind : Option ℕ → ℕ × List (List ℕ)
     by_kind (Some bit) = (bit_or so_far.0 bit, so_far.1)
-    by_kind None = (so_far.0, if list_any (bytes_eq word) so_far.1 then so_far.1 else so_far.1 ++ word ∷ [])
+    by_kind None =
+        (so_far.0, if list_any (bytes_eq word) so_far.1 then so_far.1 else so_far.1 ++ word ∷ [])
 
 -- flag-list: the flags in parentheses, with a space between two
 pub record AreFlags (flags : ℕ) (keywords : List (List ℕ)) (b : List ℕ) : Type 0 where
@@ -81,7 +83,9 @@ pub record AreFlags (flags : ℕ) (keywords : List (List ℕ)) (b : List ℕ) : 
 
 -- a letter, a digit or a hyphen
 abbrev pub is_field_byte : ℕ → Bool
-is_field_byte n = (nat_le 48 n && nat_le n 57) || (nat_le 65 n && nat_le n 90) || (nat_le 97 n && nat_le n 122) || nat_eq n 45
+is_field_byte n =
+    (nat_le 48 n && nat_le n 57) || (nat_le 65 n && nat_le n 90) || (nat_le 97 n && nat_le n 122)
+    || nat_eq n 45
 
 -- 1 to 64 such bytes (RFC 5322, section 2.2)
 pub record IsFieldName (name : List ℕ) : Type 0 where
@@ -116,7 +120,8 @@ flag_key n =
 
 -- a printable character but the quote and the backslash
 abbrev pub is_quotable : ℕ → Bool
-is_quotable n = nat_le 0x20 n && nat_le n 0x7e && cond (nat_eq n 0x22) false (cond (nat_eq n 0x5c) false true)
+is_quotable n =
+    nat_le 0x20 n && nat_le n 0x7e && cond (nat_eq n 0x22) false (cond (nat_eq n 0x5c) false true)
 
 -- a text in quotes (RFC 3501, section 9, quoted)
 abbrev pub IsQuoted : List ℕ → List ℕ → Type 0
@@ -130,10 +135,13 @@ IsWord (Key-F.Lacks n) b = (word : List ℕ) × (flag_key n ≡ Some word) × (b
 IsWord (Key-F.Keyword name) b = IsName name × (b ≡ codes "KEYWORD " ++ name)
 IsWord (Key-F.Uid set) b = (text : List ℕ) × IsSet set text × (b ≡ codes "UID " ++ text)
 IsWord (Key-F.Larger n) b = (n < 2 ^ 32) × (b ≡ codes "LARGER " ++ decimal n)
-IsWord (Key-F.Header name text) b = IsFieldName name × ((quoted : List ℕ) × IsQuoted text quoted × (b ≡ codes "HEADER " ++ name ++ codes " " ++ quoted))
+IsWord (Key-F.Header name text) b =
+    IsFieldName name
+    × ((quoted : List ℕ) × IsQuoted text quoted × (b ≡ codes "HEADER " ++ name ++ codes " " ++ quoted))
 IsWord key b = ⊥
 
--- search-key, in at most so many levels: a key with none inside has one, and NOT, OR and each pair of parentheses add one
+-- search-key, in at most so many levels: a key with none inside has one, and NOT, OR and each pair
+-- of parentheses add one
 mutual
   pub data IsKey : Key → ℕ → List ℕ → Type 0 where
     word : {key : Key} {levels : ℕ} {b : List ℕ} → IsWord (out-Key key) b → IsKey key (suc levels) b
@@ -160,7 +168,9 @@ key_levels = 32
 
 -- the keys of a SEARCH: one stands for itself, and several must all be met
 abbrev pub AreSought : Key → List ℕ → Type 0
-AreSought key b = IsKey key key_levels b ⊎ ((keys : List Key) × (texts : List (List ℕ)) × (out-Key key ≡ Key-F.And keys) × (2 ≤ length keys) × AreKeys keys key_levels texts × (b ≡ spaced texts))
+AreSought key b =
+    IsKey key key_levels b
+    ⊎ ((keys : List Key) × (texts : List (List ℕ)) × (out-Key key ≡ Key-F.And keys) × (2 ≤ length keys) × AreKeys keys key_levels texts × (b ≡ spaced texts))
 
 -- ---- commands
 
@@ -173,7 +183,8 @@ how_text Replace = codes "FLAGS"
 -- store-modifier (RFC 7162, section 3.1.3)
 abbrev pub IsModifier : Option ℕ → List ℕ → Type 0
 IsModifier None b = b ≡ []
-IsModifier (Some n) b = (n ≤ last_modseq) × (b ≡ codes "(UNCHANGEDSINCE " ++ decimal n ++ codes ") ")
+IsModifier (Some n) b =
+    (n ≤ last_modseq) × (b ≡ codes "(UNCHANGEDSINCE " ++ decimal n ++ codes ") ")
 
 -- a command that goes by UIDs begins with a word more (RFC 3501, section 6.4.8)
 abbrev pub uid_text : Bool → List ℕ
@@ -200,9 +211,11 @@ pub record IsStore (by_uid : Bool) (set : List Span) (how : How) (flags : ℕ) (
   pub named : IsSet set set_text
   pub unchanged : IsModifier since modifier
   pub stored : AreFlags flags keywords flags_text
-  pub text : b ≡ uid_text by_uid ++ codes "STORE " ++ set_text ++ codes " " ++ modifier ++ how_text how ++ codes " " ++ flags_text
+  pub text : b ≡ uid_text by_uid ++ codes "STORE " ++ set_text ++ codes " " ++ modifier ++ how_text how
+      ++ codes " " ++ flags_text
 
--- the first line of an APPEND, up to the number of bytes that follow it (RFC 3501, section 4.3, literals)
+-- the first line of an APPEND, up to the number of bytes that follow it (RFC 3501, section 4.3,
+-- literals)
 pub record IsAppendStart (flags : ℕ) (keywords : List (List ℕ)) (size : ℕ) (b : List ℕ) : Type 0 where
   pub flags_text : List ℕ
   pub stored : AreFlags flags keywords flags_text
@@ -216,9 +229,12 @@ IsCommand command.Noop b = b ≡ codes "NOOP"
 IsCommand command.Check b = b ≡ codes "CHECK"
 IsCommand command.Expunge b = b ≡ codes "EXPUNGE"
 IsCommand (command.Fetch by_uid set items) b = IsFetch by_uid set items b
-IsCommand (command.Store by_uid set how flags keywords since) b = IsStore by_uid set how flags keywords since b
-IsCommand (command.Search by_uid key) b = (text : List ℕ) × AreSought key text × (b ≡ uid_text by_uid ++ codes "SEARCH " ++ text)
-IsCommand (command.UidRemove set) b = (text : List ℕ) × IsSet set text × (b ≡ codes "UID REMOVE " ++ text)
+IsCommand (command.Store by_uid set how flags keywords since) b =
+    IsStore by_uid set how flags keywords since b
+IsCommand (command.Search by_uid key) b =
+    (text : List ℕ) × AreSought key text × (b ≡ uid_text by_uid ++ codes "SEARCH " ++ text)
+IsCommand (command.UidRemove set) b =
+    (text : List ℕ) × IsSet set text × (b ≡ codes "UID REMOVE " ++ text)
 IsCommand (command.Append flags keywords message) b = ⊥
 
 -- ---- lines
@@ -271,7 +287,8 @@ pub record IsLiteral (session : List ℕ) (flags : ℕ) (keywords : List (List �
 
 -- a line of either kind
 abbrev pub IsLine : NamedLine → List ℕ → Type 0
-IsLine (session, command.Append flags keywords message) b = IsLiteral session flags keywords message b
+IsLine (session, command.Append flags keywords message) b =
+    IsLiteral session flags keywords message b
 IsLine line b = IsShortLine line b
 
 -- ---- the whole script
@@ -293,7 +310,10 @@ pub record IsEmptyLiteral (piece : Piece) : Type 0 where
 
 -- a skipped line, a command's line, or such a literal
 abbrev pub IsPiece : Piece → Type 0
-IsPiece piece = ((piece.lines ≡ []) × IsSkipped piece.text) ⊎ ((line : NamedLine) × (piece.lines ≡ line ∷ []) × IsLine line piece.text) ⊎ IsEmptyLiteral piece
+IsPiece piece =
+    ((piece.lines ≡ []) × IsSkipped piece.text)
+    ⊎ ((line : NamedLine) × (piece.lines ≡ line ∷ []) × IsLine line piece.text)
+    ⊎ IsEmptyLiteral piece
 
 -- the text of the pieces
 abbrev pub pieces_text : List Piece → List ℕ
@@ -352,7 +372,8 @@ pub record AreBefore (lines : List NamedLine) (front : List ℕ) : Type 0 where
 
 -- a further line may be this session's
 abbrev pub MaySpeak : List NamedLine → List ℕ → Type 0
-MaySpeak lines session = length (sessions_of (lines ++ (session, command.Noop) ∷ [])) ≤ session_limit
+MaySpeak lines session =
+    length (sessions_of (lines ++ (session, command.Noop) ∷ [])) ≤ session_limit
 
 -- a good line begins the rest, with a line end or as the script's last
 pub record BeginsWell (lines : List NamedLine) (rest : List ℕ) : Type 0 where

@@ -1,5 +1,6 @@
--- The text of the index's snapshot, in the layout that is written (version 2) and in the older one (version 1). Numbers
--- are little-endian; what is padded goes up to a multiple of four with zero bytes.
+-- The text of the index's snapshot, in the layout that is written (version 2) and in the older one
+-- (version 1). Numbers are little-endian; what is padded goes up to a multiple of four with zero
+-- bytes.
 use Rattle.std.specs.Prelude.{◌≡◌, ℕ, ◌+◌, ◌*◌, ◌/◌, ◌%◌, ◌^◌, ◌<◌, ◌≤◌, not, List, [], ◌∷◌, ◌++◌, length, flat_map, replicate, sum_by, count_by, All, Option, Some, None, nat_eq, bit_and, if◌then◌else◌}
 use Rattle.std.specs.Int.{w16, w32, w64, to_le_bytes}
 use Rattle.std.specs.List.{range_with_len}
@@ -24,7 +25,8 @@ keyword_text name = filled (to_le_bytes w16 (length name) ++ name)
 -- an extension's numbers, name and header
 abbrev pub extension_text : Extension → List ℕ
 extension_text e =
-    to_le_bytes w32 e.reset_id ++ to_le_bytes w32 (length e.header) ++ to_le_bytes w16 e.record_size ++ to_le_bytes w16 e.record_align
+    to_le_bytes w32 e.reset_id ++ to_le_bytes w32 (length e.header) ++ to_le_bytes w16 e.record_size
+    ++ to_le_bytes w16 e.record_align
     ++ to_le_bytes w16 e.flags ++ to_le_bytes w16 (length e.name) ++ filled e.name ++ filled e.header
 
 -- the keywords and then the extensions
@@ -43,7 +45,8 @@ keyword_word places word = sum_by (λ k. if nat_eq (k / 32) word then 2 ^ (k % 3
 
 -- the words of a row's keywords
 abbrev pub keyword_bits : ℕ → List ℕ → List ℕ
-keyword_bits names places = flat_map (λ word. to_le_bytes w32 (keyword_word places word)) (range_with_len 0 (keyword_words names))
+keyword_bits names places =
+    flat_map (λ word. to_le_bytes w32 (keyword_word places word)) (range_with_len 0 (keyword_words names))
 
 -- version 1 has no modification sequences
 abbrev pub modseq_text : ℕ → Row → List ℕ
@@ -51,18 +54,22 @@ modseq_text version row = if nat_eq version 1 then [] else to_le_bytes w64 row.m
 
 -- a row: its numbers, its keywords, and its part of each extension
 abbrev pub row_text : ℕ → Mailbox → Row → List ℕ
-row_text version m row = to_le_bytes w32 row.uid ++ row.flags ∷ 0 ∷ 0 ∷ 0 ∷ modseq_text version row ++ keyword_bits (length m.keywords) row.keywords ++ flat_map filled row.parts
+row_text version m row =
+    to_le_bytes w32 row.uid ++ row.flags ∷ 0 ∷ 0 ∷ 0 ∷ modseq_text version row
+    ++ keyword_bits (length m.keywords) row.keywords ++ flat_map filled row.parts
 
 -- the number of bytes of each row
 abbrev pub row_size : ℕ → Mailbox → ℕ
-row_size version m = (if nat_eq version 1 then 8 else 16) + 4 * keyword_words (length m.keywords) + sum_by (λ e. padded e.record_size) m.extensions
+row_size version m =
+    (if nat_eq version 1 then 8 else 16) + 4 * keyword_words (length m.keywords) + sum_by (λ e. padded e.record_size) m.extensions
 
 -- ---- the header
 
 -- the place of the current extension plus 1 and its size, or twice 0
 abbrev pub current_text : Option Current → List ℕ
 current_text None = to_le_bytes w32 0 ++ to_le_bytes w32 0
-current_text (Some current) = to_le_bytes w32 (current.extension + 1) ++ to_le_bytes w32 current.size
+current_text (Some current) =
+    to_le_bytes w32 (current.extension + 1) ++ to_le_bytes w32 current.size
 
 -- how many rows have the flag
 abbrev pub rows_with : ℕ → Mailbox → ℕ
@@ -70,21 +77,26 @@ rows_with bit m = count_by (λ row. not (nat_eq (bit_and row.flags bit) 0)) m.ro
 
 -- the highest modification sequence, which version 1 lacks
 abbrev pub highest_text : ℕ → Mailbox → List ℕ
-highest_text version m = if nat_eq version 1 then replicate 52 0 else to_le_bytes w64 m.highest ++ replicate 44 0
+highest_text version m =
+    if nat_eq version 1 then replicate 52 0 else to_le_bytes w64 m.highest ++ replicate 44 0
 
 -- 120 bytes
 abbrev pub header_text : ℕ → Mailbox → ℕ → Mark → List ℕ
 header_text version m indexid mark =
     201 ∷ version ∷ to_le_bytes w16 120
-    ++ to_le_bytes w32 (120 + length (tables_text m)) ++ to_le_bytes w32 (row_size version m) ++ to_le_bytes w32 0
-    ++ to_le_bytes w32 indexid ++ to_le_bytes w32 0 ++ to_le_bytes w32 m.uid_validity ++ to_le_bytes w32 m.next_uid
+    ++ to_le_bytes w32 (120 + length (tables_text m)) ++ to_le_bytes w32 (row_size version m)
+    ++ to_le_bytes w32 0
+    ++ to_le_bytes w32 indexid ++ to_le_bytes w32 0 ++ to_le_bytes w32 m.uid_validity
+    ++ to_le_bytes w32 m.next_uid
     ++ to_le_bytes w32 (length m.rows) ++ to_le_bytes w32 mark.file_seq ++ to_le_bytes w32 mark.offset
-    ++ to_le_bytes w32 (length m.keywords) ++ to_le_bytes w32 (length m.extensions) ++ current_text m.current
+    ++ to_le_bytes w32 (length m.keywords) ++ to_le_bytes w32 (length m.extensions)
+    ++ current_text m.current
     ++ to_le_bytes w32 (rows_with 8 m) ++ to_le_bytes w32 (rows_with 4 m) ++ highest_text version m
 
 -- the whole text: the header, the tables and the rows
 abbrev pub snapshot_text : ℕ → Mailbox → ℕ → Mark → List ℕ
-snapshot_text version m indexid mark = header_text version m indexid mark ++ tables_text m ++ flat_map (row_text version m) m.rows
+snapshot_text version m indexid mark =
+    header_text version m indexid mark ++ tables_text m ++ flat_map (row_text version m) m.rows
 
 -- ---- which texts are taken
 

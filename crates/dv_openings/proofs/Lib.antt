@@ -1,1 +1,2 @@
 pub mod FoundOnce
+pub mod Cached

@@ -47,9 +47,11 @@ pub data Applied : Type 0 where
 -- the records in turn
 abbrev pub spots_applied : Mailbox → List Spot → Applied
 spots_applied m [] = Gives m
-spots_applied m (spot ∷ spots) = elim (after_record m spot.is) [ None ↦ Refused spot.place | Some next ↦ spots_applied next spots ]
+spots_applied m (spot ∷ spots) =
+    elim (after_record m spot.is) [ None ↦ Refused spot.place | Some next ↦ spots_applied next spots ]
 
--- where a file's modification sequences begin: its header's initial_modseq, read as 1 where it is 0, and never above the largest
+-- where a file's modification sequences begin: its header's initial_modseq, read as 1 where it is
+-- 0, and never above the largest
 abbrev pub file_number : LogHeader → ℕ
 file_number h = min (max h.initial_modseq 1) last_modseq
 
@@ -63,7 +65,8 @@ file_applied file m = spots_applied (raised file.header m) file.spots
 
 -- a file's records from a place on; from the first place on means all of them
 abbrev pub applied_from : GoodLog → ℕ → List Spot → Mailbox → Applied
-applied_from file from spots m = if nat_eq from file.header.hdr_size then file_applied file m else spots_applied m spots
+applied_from file from spots m =
+    if nat_eq from file.header.hdr_size then file_applied file m else spots_applied m spots
 
 -- all of the next file's records, behind others
 abbrev pub then_file : GoodLog → Applied → Applied
@@ -73,7 +76,8 @@ then_file file (Refused place) = Refused place
 -- the records from a place on, where a record or the end stands there
 abbrev pub spots_from : ℕ → ℕ → List Spot → Option (List Spot)
 spots_from end from [] = if nat_eq from end then Some [] else None
-spots_from end from (spot ∷ spots) = if nat_eq from spot.place then Some (spot ∷ spots) else spots_from end from spots
+spots_from end from (spot ∷ spots) =
+    if nat_eq from spot.place then Some (spot ∷ spots) else spots_from end from spots
 
 -- those of a file
 abbrev pub records_from : GoodLog → ℕ → Option (List Spot)
@@ -95,15 +99,18 @@ with_numbers s n = if nat_eq s.version 1 then all_numbered n s.mailbox else s.ma
 
 -- the file's number, and one for each record before those that are left
 abbrev pub number_before : GoodLog → List Spot → ℕ
-number_before file left = min (file_number file.header + (length file.spots - length left)) last_modseq
+number_before file left =
+    min (file_number file.header + (length file.spots - length left)) last_modseq
 
 -- ---- joining
 
 -- the rotated log goes before the log where it is good and the log names its number and its end
 abbrev pub joins : GoodLog → GoodLog → Bool
 joins log rotated =
-    nat_eq rotated.header.indexid log.header.indexid && nat_eq (rotated.header.file_seq + 1) log.header.file_seq
-    && nat_eq log.header.prev_file_seq rotated.header.file_seq && nat_eq log.header.prev_file_offset rotated.end
+    nat_eq rotated.header.indexid log.header.indexid
+    && nat_eq (rotated.header.file_seq + 1) log.header.file_seq
+    && nat_eq log.header.prev_file_seq rotated.header.file_seq
+    && nat_eq log.header.prev_file_offset rotated.end
 
 -- the rotated log, where it takes part
 abbrev pub joining : GoodLog → Scanned → Option GoodLog
@@ -117,25 +124,34 @@ counted log (Some s) = if nat_eq s.indexid log.header.indexid then Some s else N
 
 -- the snapshot's mark is a place in the log
 abbrev pub in_log : GoodLog → Snapshot → Option Applied
-in_log log s = if nat_eq s.mark.file_seq log.header.file_seq then from_there (records_from log s.mark.offset) else None
+in_log log s =
+    if nat_eq s.mark.file_seq log.header.file_seq then from_there (records_from log s.mark.offset)
+    else None
   where
     from_there : Option (List Spot) → Option Applied
     from_there None = None
-    from_there (Some spots) = Some (applied_from log s.mark.offset spots (with_numbers s (number_before log spots)))
+    from_there (Some spots) =
+        Some (applied_from log s.mark.offset spots (with_numbers s (number_before log spots)))
 
 -- or a place in the rotated log, whose records from there on stand before all of the log's
 abbrev pub in_rotated : GoodLog → Option GoodLog → Snapshot → Option Applied
 in_rotated log None s = None
-in_rotated log (Some rotated) s = if nat_eq (s.mark.file_seq + 1) log.header.file_seq then from_there (records_from rotated s.mark.offset) else None
+in_rotated log (Some rotated) s =
+    if nat_eq (s.mark.file_seq + 1) log.header.file_seq
+    then from_there (records_from rotated s.mark.offset)
+    else None
   where
     from_there : Option (List Spot) → Option Applied
     from_there None = None
-    from_there (Some spots) = Some (then_file log (applied_from rotated s.mark.offset spots (with_numbers s (number_before rotated spots))))
+    from_there (Some spots) =
+        Some (then_file log (applied_from rotated s.mark.offset spots (with_numbers s (number_before rotated spots))))
 
 -- or the end of the file before the log, as the log's header names it
 abbrev pub before_log : GoodLog → Snapshot → Option Applied
 before_log log s =
-    if nat_eq (s.mark.file_seq + 1) log.header.file_seq && nat_eq s.mark.offset log.header.prev_file_offset && nat_eq s.mark.file_seq log.header.prev_file_seq
+    if nat_eq (s.mark.file_seq + 1) log.header.file_seq
+    && nat_eq s.mark.offset log.header.prev_file_offset
+    && nat_eq s.mark.file_seq log.header.prev_file_seq
     then Some (file_applied log (with_numbers s (file_number log.header))) else None
 
 -- the first of these that applies
@@ -159,7 +175,8 @@ at_end log (Refused place) = BadRecord place
 
 -- from a snapshot
 abbrev pub from_index : GoodLog → Option GoodLog → Snapshot → Found
-from_index log rotated s = or_gap (first_of_three (in_log log s) (in_rotated log rotated s) (before_log log s))
+from_index log rotated s =
+    or_gap (first_of_three (in_log log s) (in_rotated log rotated s) (before_log log s))
   where
     or_gap : Option Applied → Found
     or_gap None = Gap s.mark (first_mark log)
@@ -167,14 +184,17 @@ from_index log rotated s = or_gap (first_of_three (in_log log s) (in_rotated log
 
 -- from nothing: the first log of all, or the second behind the first
 abbrev pub from_nothing : GoodLog → Option GoodLog → Found
-from_nothing log rotated = if nat_eq log.header.file_seq 1 then at_end log (file_applied log start) else second rotated
+from_nothing log rotated =
+    if nat_eq log.header.file_seq 1 then at_end log (file_applied log start) else second rotated
   where
     start : Mailbox
     start = empty_mailbox log.header.indexid
 
     second : Option GoodLog → Found
     second None = BadIndex
-    second (Some first) = if nat_eq log.header.file_seq 2 then at_end log (then_file log (file_applied first start)) else BadIndex
+    second (Some first) =
+        if nat_eq log.header.file_seq 2 then at_end log (then_file log (file_applied first start))
+        else BadIndex
 
 -- from a snapshot, or from nothing
 abbrev pub from_either : GoodLog → Option GoodLog → Option Snapshot → Found
@@ -205,7 +225,8 @@ pub record IsFound (folder : Folder) (found : Found) : Type 0 where
 
 -- ---- what opening writes
 
--- a log that ends at its end, or whose gate stands open, is written again with a closed gate; another stays
+-- a log that ends at its end, or whose gate stands open, is written again with a closed gate;
+-- another stays
 abbrev pub mended : List ℕ → ℕ → List ℕ
 mended b end =
     if nat_eq (length b) end then b ++ closing

@@ -1,5 +1,6 @@
--- What a rebuild keeps of a folder, and what it writes: a new log, beside which the old snapshot and rotated log no longer count.
-use Rattle.std.specs.Prelude.{◌≡◌, ◌↔◌, ℕ, ◌+◌, max, Bool, ◌&&◌, not, nat_eq, nat_le, List, [], ◌∷◌, ◌++◌, filter, count_by, Contains, Option, Some, None, IsSome, is_some, option_map, if◌then◌else◌}
+-- What a rebuild keeps of a folder, and what it writes: a new log, beside which the old snapshot
+-- and rotated log no longer count.
+use Rattle.std.specs.Prelude.{◌≡◌, ◌↔◌, ℕ, max, Bool, ◌&&◌, not, nat_eq, nat_le, List, [], ◌∷◌, ◌++◌, filter, count_by, Contains, Option, Some, None, IsSome, is_some, option_map, if◌then◌else◌}
 use Rattle.std.specs.List.{list_any}
 use Rattle.std.specs.List.Sorted.{IsStrictlyIncreasing}
 use Rattle.dv_model.specs.declared.types.Record.{Record}
@@ -52,7 +53,8 @@ as_list (Some n) = n ∷ []
 -- the indexids that the folder's files have: the log, the rotated log and the snapshot
 abbrev pub used_indexids : Option GoodLog → Option LogHeader → Option Snapshot → List ℕ
 used_indexids log rotated index =
-    as_list (option_map (λ file. file.header.indexid) log) ++ as_list (option_map (λ h. h.indexid) rotated) ++ as_list (option_map (λ s. s.indexid) index)
+    as_list (option_map (λ file. file.header.indexid) log)
+    ++ as_list (option_map (λ h. h.indexid) rotated) ++ as_list (option_map (λ s. s.indexid) index)
 
 -- the clock's reading, in which 0 counts as 1
 abbrev pub stamp_of : ℕ → ℕ
@@ -61,7 +63,8 @@ stamp_of reading = max reading 1
 -- raised by 1 while it is used, at most once for each number of a list; behind the largest comes 1
 abbrev pub raised_while : List ℕ → List ℕ → ℕ → ℕ
 raised_while used [] n = n
-raised_while used (one ∷ more) n = if list_any (nat_eq n) used then raised_while used more (next_number n) else n
+raised_while used (one ∷ more) n =
+    if list_any (nat_eq n) used then raised_while used more (next_number n) else n
 
 -- a number that no file has: so many numbers are used, so often it may have to be raised
 abbrev pub new_indexid : List ℕ → ℕ → ℕ
@@ -91,9 +94,11 @@ pub record IsRebuild (folder : Folder) (reading : ℕ) (r : Rebuild) : Type 0 wh
   pub named : r.indexid ≡ new_indexid (used_indexids salvages.log rotated salvages.index) reading
   pub made : r.stamp ≡ stamp_of reading
 
--- the new log's header: the first of its files, whose modification sequences go on from the salvaged ones
+-- the new log's header: the first of its files, whose modification sequences go on from the
+-- salvaged ones
 abbrev pub rebuilt_header : Rebuild → LogHeader
-rebuilt_header r = record (new_header r.indexid) { create_stamp = r.stamp; initial_modseq = r.salvaged.mailbox.highest }
+rebuilt_header r =
+    record (new_header r.indexid) { create_stamp = r.stamp; initial_modseq = r.salvaged.mailbox.highest }
 
 -- the new log's records
 abbrev pub records_of : Rebuild → List Record
@@ -109,4 +114,5 @@ rebuilt_fits r = nat_le (log_end (records_of r)) last_end
 
 -- the folder behind it: the log is a new one, and every other file stays
 abbrev pub rebuilt_folder : Folder → Rebuild → Folder
-rebuilt_folder folder r = if rebuilt_fits r then with_file folder name.Log (Some (rebuilt_text r)) else folder
+rebuilt_folder folder r =
+    if rebuilt_fits r then with_file folder name.Log (Some (rebuilt_text r)) else folder

@@ -1,4 +1,5 @@
--- What a rebuild salvages of a folder's log, rotated log and index, and the records of the log that it writes.
+-- What a rebuild salvages of a folder's log, rotated log and index, and the records of the log that
+-- it writes.
 use Rattle.std.specs.Prelude.{◌≡◌, ◌⊎◌, ℕ, ◌+◌, max, Bool, true, false, ◌&&◌, ◌||◌, List, [], ◌∷◌, ◌++◌, map, filter, fold, flat_map, drop, Option, Some, None, is_some, unwrap_or, option_map, nat_eq, if◌then◌else◌}
 use Rattle.std.specs.Int.{w32, to_le_bytes}
 use Rattle.std.specs.List.{list_any, enumerate_from}
@@ -57,7 +58,8 @@ with_spot s spot = if s.going then by_result (after_record s.mailbox spot.is) el
   where
     by_result : Option Mailbox → Salvaged
     by_result None = record s { going = false }
-    by_result (Some m) = record { mailbox = m; given = s.given || gives_validity spot.is; going = true }
+    by_result (Some m) =
+        record { mailbox = m; given = s.given || gives_validity spot.is; going = true }
 
 -- records in turn
 abbrev pub with_spots : Salvaged → List Spot → Salvaged
@@ -65,11 +67,14 @@ with_spots s spots = fold with_spot s spots
 
 -- all of a file's records
 abbrev pub with_file : GoodLog → Salvaged → Salvaged
-with_file file s = if s.going then with_spots (record s { mailbox = raised file.header s.mailbox }) file.spots else s
+with_file file s =
+    if s.going then with_spots (record s { mailbox = raised file.header s.mailbox }) file.spots
+    else s
 
 -- a file's records from a place on
 abbrev pub with_file_from : GoodLog → ℕ → List Spot → Salvaged → Salvaged
-with_file_from file from spots s = if nat_eq from file.header.hdr_size then with_file file s else with_spots s spots
+with_file_from file from spots s =
+    if nat_eq from file.header.hdr_size then with_file file s else with_spots s spots
 
 -- a snapshot gives the UIDVALIDITY
 abbrev pub from_snapshot : Mailbox → Salvaged
@@ -77,23 +82,33 @@ from_snapshot m = record { mailbox = m; given = true; going = true }
 
 -- the snapshot's mark is a place in the log
 abbrev pub salvaged_in_log : GoodLog → Snapshot → Option Salvaged
-salvaged_in_log log s = if nat_eq s.mark.file_seq log.header.file_seq then option_map from_there (records_from log s.mark.offset) else None
+salvaged_in_log log s =
+    if nat_eq s.mark.file_seq log.header.file_seq
+    then option_map from_there (records_from log s.mark.offset)
+    else None
   where
     from_there : List Spot → Salvaged
-    from_there spots = with_file_from log s.mark.offset spots (from_snapshot (with_numbers s (number_before log spots)))
+    from_there spots =
+        with_file_from log s.mark.offset spots (from_snapshot (with_numbers s (number_before log spots)))
 
 -- or in the rotated log
 abbrev pub salvaged_in_rotated : GoodLog → Option GoodLog → Snapshot → Option Salvaged
 salvaged_in_rotated log None s = None
-salvaged_in_rotated log (Some rotated) s = if nat_eq (s.mark.file_seq + 1) log.header.file_seq then option_map from_there (records_from rotated s.mark.offset) else None
+salvaged_in_rotated log (Some rotated) s =
+    if nat_eq (s.mark.file_seq + 1) log.header.file_seq
+    then option_map from_there (records_from rotated s.mark.offset)
+    else None
   where
     from_there : List Spot → Salvaged
-    from_there spots = with_file log (with_file_from rotated s.mark.offset spots (from_snapshot (with_numbers s (number_before rotated spots))))
+    from_there spots =
+        with_file log (with_file_from rotated s.mark.offset spots (from_snapshot (with_numbers s (number_before rotated spots))))
 
 -- or the end of the file before the log
 abbrev pub salvaged_before_log : GoodLog → Snapshot → Option Salvaged
 salvaged_before_log log s =
-    if nat_eq (s.mark.file_seq + 1) log.header.file_seq && nat_eq s.mark.offset log.header.prev_file_offset && nat_eq s.mark.file_seq log.header.prev_file_seq
+    if nat_eq (s.mark.file_seq + 1) log.header.file_seq
+    && nat_eq s.mark.offset log.header.prev_file_offset
+    && nat_eq s.mark.file_seq log.header.prev_file_seq
     then Some (with_file log (from_snapshot (with_numbers s (file_number log.header)))) else None
 
 -- the first of these; where none holds, the snapshot alone
@@ -111,12 +126,15 @@ nothing indexid = record { mailbox = empty_mailbox indexid; given = false; going
 abbrev pub salvaged_anew : GoodLog → Option GoodLog → Salvaged
 salvaged_anew log None = with_file log (nothing log.header.indexid)
 salvaged_anew log (Some rotated) =
-    if nat_eq log.header.file_seq 2 then with_file log (with_file rotated (nothing log.header.indexid)) else with_file log (nothing log.header.indexid)
+    if nat_eq log.header.file_seq 2
+    then with_file log (with_file rotated (nothing log.header.indexid))
+    else with_file log (nothing log.header.indexid)
 
 -- from a snapshot, or from nothing
 abbrev pub salvaged_from : GoodLog → Option GoodLog → Option Snapshot → Salvaged
 salvaged_from log rotated None = salvaged_anew log rotated
-salvaged_from log rotated (Some s) = first_salvaged (salvaged_in_log log s) (salvaged_in_rotated log rotated s) (salvaged_before_log log s) s.mailbox
+salvaged_from log rotated (Some s) =
+    first_salvaged (salvaged_in_log log s) (salvaged_in_rotated log rotated s) (salvaged_before_log log s) s.mailbox
 
 -- without a log the snapshot alone, where there is one
 abbrev pub salvaged_in : Option GoodLog → Scanned → Option Snapshot → Salvaged
@@ -138,21 +156,26 @@ pub record IsSalvaged (folder : Folder) (salvaged : Salvaged) : Type 0 where
 
 -- a number of the header, at an offset of Dovecot's index header
 abbrev pub header_record : ℕ → ℕ → Record
-header_record offset n = internal_record (body.HeaderUpdate (record { offset = offset; bytes = to_le_bytes w32 n } ∷ []))
+header_record offset n =
+    internal_record (body.HeaderUpdate (record { offset = offset; bytes = to_le_bytes w32 n } ∷ []))
 
 -- a kept message has its salvaged flags, or none
 abbrev pub kept_row : Mailbox → ℕ → NewRow
-kept_row m uid = record { uid = uid; flags = unwrap_or (option_map (λ row. row.flags) (row_of m uid)) 0 }
+kept_row m uid =
+    record { uid = uid; flags = unwrap_or (option_map (λ row. row.flags) (row_of m uid)) 0 }
 
 -- the message has the keyword at this place
 abbrev pub has_keyword : Mailbox → ℕ → ℕ → Bool
-has_keyword m place uid = list_any (nat_eq place) (unwrap_or (option_map (λ row. row.keywords) (row_of m uid)) [])
+has_keyword m place uid =
+    list_any (nat_eq place) (unwrap_or (option_map (λ row. row.keywords) (row_of m uid)) [])
 
 -- a keyword of the table is added to the kept messages that have it, where one does
 abbrev pub keyword_records : Mailbox → List ℕ → ℕ × List ℕ → List Record
-keyword_records m kept keyword = keyword_updates Add (ranges_of (filter (has_keyword m keyword.0) kept)) keyword.1
+keyword_records m kept keyword =
+    keyword_updates Add (ranges_of (filter (has_keyword m keyword.0) kept)) keyword.1
 
--- the records of the new log, from what is salvaged, the UIDs that are kept, and a UIDVALIDITY where none was given
+-- the records of the new log, from what is salvaged, the UIDs that are kept, and a UIDVALIDITY
+-- where none was given
 abbrev pub rebuilt_records : Salvaged → List ℕ → ℕ → List Record
 rebuilt_records s kept n =
     header_record 24 (if s.given then s.mailbox.uid_validity else n)

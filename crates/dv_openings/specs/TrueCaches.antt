@@ -22,13 +22,19 @@ pub record Look : Type 0 where
 
 -- the place is the first four bytes of a part
 abbrev pub look_at : ℕ → List ℕ → Option Look
-look_at seq part = if nat_le 4 (length part) then Some (record { seq = seq; offset = from_le_bytes w32 (take 4 part) }) else None
+look_at seq part =
+    if nat_le 4 (length part)
+    then Some (record { seq = seq; offset = from_le_bytes w32 (take 4 part) })
+    else None
 
--- extensions and a row's parts go side by side; the extension `cache` has the sequence as its reset_id
+-- extensions and a row's parts go side by side; the extension `cache` has the sequence as its
+-- reset_id
 abbrev pub look_in : List Extension → List (List ℕ) → Option Look
 look_in [] parts = None
 look_in (extension ∷ extensions) [] = None
-look_in (extension ∷ extensions) (part ∷ parts) = if bytes_eq extension.name (codes "cache") then look_at extension.reset_id part else look_in extensions parts
+look_in (extension ∷ extensions) (part ∷ parts) =
+    if bytes_eq extension.name (codes "cache") then look_at extension.reset_id part
+    else look_in extensions parts
 
 -- what is looked up for a row of the mailbox
 abbrev pub look_of : Mailbox → Row → Option Look
@@ -40,20 +46,35 @@ look_of m row = look_in m.extensions row.parts
 abbrev pub kept_names : List (List ℕ)
 kept_names = codes "date" ∷ codes "from" ∷ codes "to" ∷ codes "subject" ∷ codes "message-id" ∷ []
 
--- the sizes and fields of a message; a damaged one has none
+-- the sizes and fields of a message
+abbrev pub known_in : List ℕ → Known
+known_in message = record {
+  physical = physical_size message;
+  virtual_size = virtual_size message;
+  fields = map (field_of message) kept_names;
+}
+
+-- what is known of a message; of a damaged one nothing is
 abbrev pub known_of : Mail → Option Known
 known_of Damaged = None
-known_of (Held message) = Some (record { physical = physical_size message; virtual_size = virtual_size message; fields = map (field_of message) kept_names })
+known_of (Held message) = Some (known_in message)
+
+-- the rows of a cache file that is written of a mailbox and its messages
+abbrev pub cached_rows : (ℕ → Mail) → Mailbox → List CacheRow
+cached_rows mail m = map (λ row. record { uid = row.uid; known = known_of (mail row.uid) }) m.rows
 
 -- the row that the folder's cache file has for a row of the mailbox that the indexid names
-pub record IsCached (folder : Folder) (indexid : ℕ) (m : Mailbox) (row : Row) (cached : CacheRow) : Type 0 where
+pub record IsCached (folder : Folder) (indexid : ℕ) (m : Mailbox) (row : Row)
+    (cached : CacheRow) : Type 0 where
   pub file : List ℕ
   pub there : folder name.Cache ≡ Some file
   pub look : Look
   pub asked : look_of m row ≡ Some look
   pub found : IsRowAt file indexid look.seq row.uid look.offset cached
 
--- each row of the mailbox that is found in the cache file has a message, and has its sizes and fields there
+-- each row of the mailbox that is found in the cache file has a message, and has its sizes and
+-- fields there
 abbrev pub HasTrueCache : Folder → ℕ → Mailbox → Type 0
-HasTrueCache folder indexid m =
-    (row : Row) (cached : CacheRow) → Contains m.rows row → IsCached folder indexid m row cached → cached.known ≡ known_of (mail_in (folder (name.Mail row.uid)))
+HasTrueCache folder indexid m = (row : Row) (cached : CacheRow) → Contains m.rows row
+    → IsCached folder indexid m row cached
+    → cached.known ≡ known_of (mail_in (folder (name.Mail row.uid)))

@@ -42,9 +42,11 @@ IsBodyOf code payload body = (code_of body ≡ code) × IsPayload body payload
 abbrev pub IsFault : RecordFault → List ℕ → Type 0
 IsFault Closed b = IsTrue (is_closed b)
 IsFault BadSize b = IsFalse (is_closed b) × IsTrue (has_bad_size b)
-IsFault BadGuard b = IsFalse (is_closed b) × IsFalse (has_bad_size b) × IsTrue (lacks_guard (code_at b))
+IsFault BadGuard b =
+    IsFalse (is_closed b) × IsFalse (has_bad_size b) × IsTrue (lacks_guard (code_at b))
 IsFault BadPayload b =
-    IsFalse (is_closed b) × IsFalse (has_bad_size b) × IsFalse (lacks_guard (code_at b)) × ((body : Body) → IsBodyOf (code_at b) (payload_at b) body → ⊥)
+    IsFalse (is_closed b) × IsFalse (has_bad_size b) × IsFalse (lacks_guard (code_at b))
+    × ((body : Body) → IsBodyOf (code_at b) (payload_at b) body → ⊥)
 
 -- a fault comes only with this
 abbrev pub OnFault : {A : Type 0} → Result A DecodeEnd → (RecordFault → Type 0) → Type 0
@@ -58,7 +60,8 @@ Answers r answer = r ≡ answer
 
 -- the size of a record that these bytes hold, or what they lack
 abbrev pub GivesSize : Result ℕ RecordFault → List ℕ → Type 0
-GivesSize (Ok n) b = IsFalse (is_closed b) × IsFalse (has_bad_size b) × (n ≡ size_at b) × (n % 4 ≡ 0)
+GivesSize (Ok n) b =
+    IsFalse (is_closed b) × IsFalse (has_bad_size b) × (n ≡ size_at b) × (n % 4 ≡ 0)
 GivesSize (Err f) b = IsFault f b × ((f ≡ Closed) ⊎ (f ≡ BadSize))
 
 -- the record takes the first n of these bytes

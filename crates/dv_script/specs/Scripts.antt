@@ -22,7 +22,8 @@ is_session_byte b = (nat_le 97 b && nat_le b 122) || (nat_le 48 b && nat_le b 57
 
 -- 1 to 16 of them
 abbrev pub is_session_name : List ℕ → Bool
-is_session_name name = nat_le 1 (length name) && nat_le (length name) 16 && list_all is_session_byte name
+is_session_name name =
+    nat_le 1 (length name) && nat_le (length name) 16 && list_all is_session_byte name
 
 -- a script has one session: its first line names it
 abbrev pub may_follow : List Line → List ℕ → Bool
@@ -40,14 +41,18 @@ named_line name words = option_map (λ c. record { session = name; command = c }
 -- a session's name, a space and a command, behind these lines
 abbrev pub line_of : List Line → List ℕ → Option Line
 line_of before text =
-    if is_session_name (before_first is_space text) && may_follow before (before_first is_space text) then named_line (before_first is_space text) (after_first is_space text) else None
+    if is_session_name (before_first is_space text)
+    && may_follow before (before_first is_space text)
+    then named_line (before_first is_space text) (after_first is_space text)
+    else None
 
 -- an empty line or a comment
 abbrev pub is_skipped : List ℕ → Bool
 is_skipped [] = true
 is_skipped (b ∷ text) = nat_eq b 35
 
--- these lines and the one that a text is; a skipped text adds none, and None is a text of no form or too long
+-- these lines and the one that a text is; a skipped text adds none, and None is a text of no form
+-- or too long
 abbrev pub with_text : List Line → List ℕ → Option (List Line)
 with_text before text =
     if nat_lt 65536 (length text) then None
@@ -56,8 +61,10 @@ with_text before text =
 -- the lines of texts that are numbered from k on, behind these lines
 abbrev pub lines_from : ℕ → List Line → List (List ℕ) → Result (List Line) ScriptEnd
 lines_from k before [] = Ok before
-lines_from k before (text ∷ texts) = option_map_or (λ more. lines_from (k + 1) more texts) (with_text before text) (Err (BadLine k))
+lines_from k before (text ∷ texts) =
+    option_map_or (λ more. lines_from (k + 1) more texts) (with_text before text) (Err (BadLine k))
 
 -- the commands of a script, or its first fault
 abbrev pub parsed : List ℕ → Result (List Line) ScriptEnd
-parsed script = if nat_lt 67108864 (length script) then Err TooLong else lines_from 1 [] (lines script)
+parsed script =
+    if nat_lt 67108864 (length script) then Err TooLong else lines_from 1 [] (lines script)
