@@ -1,8 +1,7 @@
 ghost use Rattle.std.specs.Prelude.{◌≡◌};
 ghost use Rattle.dv_apply.specs.declared.fault.ApplyFault.TheVariants as fault;
 
-use dv_model::NoMemory;
-use std::alloc::{AllocError, AllocFailed};
+use dv_model::OutOfMemory;
 
 /// Why a record wasn't applied. The mailbox is as before.
 #[derive(Clone, Copy, PartialEq, Eq, Debug)]
@@ -12,26 +11,10 @@ pub enum ApplyFault {
     NoMemory,
 }
 
-impl From<NoMemory> for ApplyFault {
+impl<E: OutOfMemory> From<E> for ApplyFault {
     ghost from_gives = { λ _ e. e ≡ fault.NoMemory };
 
-    fn from(_: NoMemory) -> ApplyFault {
-        ApplyFault::NoMemory
-    }
-}
-
-impl From<AllocError> for ApplyFault {
-    ghost from_gives = { λ _ e. e ≡ fault.NoMemory };
-
-    fn from(_: AllocError) -> ApplyFault {
-        ApplyFault::NoMemory
-    }
-}
-
-impl<T: Drop> From<AllocFailed<T>> for ApplyFault {
-    ghost from_gives = { λ _ e. e ≡ fault.NoMemory };
-
-    fn from(_: AllocFailed<T>) -> ApplyFault {
+    fn from(_: E) -> ApplyFault {
         ApplyFault::NoMemory
     }
 }

@@ -22,7 +22,7 @@ use Rattle.dv_cli.specs.declared.lines.LineEnd.{LineEnd}
 use Rattle.dv_cli.specs.declared.lines.LineEnd.TheVariants as line_end
 use Rattle.dv_cli.specs.Crashing.{HoldsFront, LeavesLines, LeavesMade}
 use Rattle.dv_cli.specs.Found.{Finds, FindsAt, IsNew}
-use Rattle.dv_shelf.specs.Causes.{Rose}
+use Rattle.dv_model.specs.Counts.{Rose}
 use Rattle.dv_cli.specs.Lines.{IsFault, Serves}
 use Rattle.dv_cli.specs.Running.{stamp, guid_by, log_of, new_mailbox, new_standing}
 use Rattle.dv_cli.specs.Runs.{IsAnswered, IsReadEnd, MayLeave, MayLeaveAfter, end_of, end_unmade}

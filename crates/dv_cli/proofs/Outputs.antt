@@ -2,7 +2,7 @@
 use Rattle.std.proofs.Common.{◌≡◌, ◌⊎◌, inl, inr, ⊎_elim, ℕ, Bool, true, false, cond, List, ◌++◌, length, refl, sym, ap, ◌∙◌, subst, arith, append_assoc, Ok, Err}
 use Rattle.std.specs.Prelude.{Result, MatchBool}
 use Rattle.dv_model.specs.declared.types.Entry.{Entry}
-use Rattle.dv_shelf.specs.Causes.{Rose}
+use Rattle.dv_model.specs.Counts.{Rose}
 use Rattle.dv_shelf.specs.Folders.{Folder}
 use Rattle.dv_shelf.specs.Streams.{Appends}
 use Rattle.dv_script.specs.declared.types.Line.{Line}

@@ -1,6 +1,6 @@
 -- What a line of the script does, and what it leaves where it ends the run.
 use Rattle.std.specs.Prelude.{◌≡◌, ◌⊎◌, ℕ, List, ◌∷◌, ◌++◌, Result, Ok, Err}
-use Rattle.dv_shelf.specs.Causes.{Rose}
+use Rattle.dv_model.specs.Counts.{Rose}
 use Rattle.dv_shelf.specs.Folders.{Folder}
 use Rattle.dv_shelf.specs.Streams.{Appends, AppendsFront}
 use Rattle.dv_script.specs.declared.types.Line.{Line}

@@ -1,6 +1,6 @@
 -- What is read of a script.
 use Rattle.std.specs.Prelude.{◌≡◌, ℕ}
-use Rattle.dv_shelf.specs.Causes.{Rose}
+use Rattle.dv_model.specs.Counts.{Rose}
 use Rattle.dv_cli.specs.declared.reading.ReadEnd.{ReadEnd}
 use Rattle.dv_cli.specs.declared.reading.ReadEnd.TheVariants.{Source, NoMemory}
 

@@ -1,5 +1,5 @@
 ghost use Rattle.std.specs.Prelude.{◌≡◌, ◌⊎◌, ◌+◌, ◌-◌, ◌≤◌, ◌∷◌, [], ℕ, List, length, IfOk, IfErr, OnOk, OnErr};
-ghost use Rattle.dv_shelf.specs.Causes.{Rose};
+ghost use Rattle.dv_model.specs.Counts.{Rose};
 ghost use Rattle.dv_shelf.specs.Crashes.{LeavesOnly};
 ghost use Rattle.dv_shelf.specs.Folders.{Folder};
 ghost use Rattle.dv_cli.specs.Crashing.{RestsAt, LeavesCommand, EndsHolding};

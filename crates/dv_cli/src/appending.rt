@@ -1,7 +1,7 @@
 ghost use Rattle.std.specs.Prelude.{◌≡◌, ◌⊎◌, ◌+◌, ◌-◌, ◌<◌, ◌≤◌, ◌∷◌, ◌++◌, [], ℕ, List, length, true, IfOk, IfErr, OnOk, OnErr};
 ghost use Rattle.dv_model.specs.declared.types.Command.TheVariants as command;
 ghost use Rattle.dv_model.specs.Sessions.{end_of_uids, log_limit};
-ghost use Rattle.dv_shelf.specs.Causes.{Rose};
+ghost use Rattle.dv_model.specs.Counts.{Rose};
 ghost use Rattle.dv_shelf.specs.Crashes.{LeavesOnly};
 ghost use Rattle.dv_shelf.specs.Folders.{Folder};
 ghost use Rattle.dv_cli.specs.Crashing.{RestsAt, LeavesCommand, EndsHolding};

@@ -1,6 +1,6 @@
 ghost use Rattle.std.specs.Prelude.{◌≡◌, ◌⊎◌, ◌++◌, ◌∷◌, [], ℕ, codes, decimal, IfOk};
 ghost use Rattle.std.specs.Prelude.{◌<◌, ◌≤◌, false};
-ghost use Rattle.dv_shelf.specs.Causes.{Rose};
+ghost use Rattle.dv_model.specs.Counts.{Rose};
 ghost use Rattle.dv_shelf.specs.Streams.{Appends, AppendsFront};
 ghost use Rattle.dv_cli.specs.declared.ending.End.TheVariants as how;
 ghost use Rattle.dv_cli.specs.Endings.{status_of, text_of, Concludes, IsStatus, is_plain};

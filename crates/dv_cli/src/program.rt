@@ -1,5 +1,5 @@
 ghost use Rattle.std.specs.Prelude.{◌≡◌, ◌⊎◌, ◌≤◌, true, false, map, string_bytes, IfOk};
-ghost use Rattle.dv_shelf.specs.Causes.{Rose};
+ghost use Rattle.dv_model.specs.Counts.{Rose};
 ghost use Rattle.dv_cli.specs.Running.{is_run, usage_text, memory_text};
 ghost use Rattle.dv_cli.specs.Words.{Prints, asks_for, folder_word, run_words};
 ghost use Rattle.dv_folder.specs.Paths.{folder_path, path_of};

@@ -1,5 +1,5 @@
 ghost use Rattle.std.specs.Prelude.{◌≡◌, ◌+◌, ◌<◌, ◌≤◌, ◌++◌, [], ℕ, List, length, take, IfOk, IfErr, OnOk};
-ghost use Rattle.dv_shelf.specs.Causes.{Rose};
+ghost use Rattle.dv_model.specs.Counts.{Rose};
 ghost use Rattle.dv_cli.specs.Readings.{IsSourceFault, read_limit};
 
 use dv_model::{Bytes, List};

@@ -1,5 +1,6 @@
 ghost use Rattle.std.specs.Prelude.{◌≡◌, ◌≢◌, ◌⊎◌, ◌+◌, ◌≤◌, ◌++◌, [], ℕ, Bool, List, All, length, map, string_bytes, true, false, MatchBool, Ok, Err, IfOk, IfErr};
-ghost use Rattle.dv_shelf.specs.Causes.{Rose, Stayed};
+ghost use Rattle.dv_model.specs.Counts.{Rose};
+ghost use Rattle.dv_shelf.specs.Causes.{Stayed};
 ghost use Rattle.dv_shelf.specs.Crashes.{LeavesOnly, Only};
 ghost use Rattle.dv_shelf.specs.Folders.{Folder};
 ghost use Rattle.dv_shelf.specs.Streams.{Appends, AppendsFront};

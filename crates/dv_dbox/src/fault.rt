@@ -1,7 +1,7 @@
 ghost use Rattle.std.specs.Prelude.{◌≡◌};
 ghost use Rattle.dv_dbox.specs.declared.fault.BoxEnd.TheVariants.{Fault, NoMemory};
 
-use std::alloc::{AllocError, AllocFailed};
+use dv_model::OutOfMemory;
 
 /// The part of a message file that is the first to break the format.
 #[derive(Clone, Copy, PartialEq, Eq, Debug)]
@@ -34,18 +34,10 @@ impl From<BoxFault> for BoxEnd {
     }
 }
 
-impl From<AllocError> for BoxEnd {
+impl<E: OutOfMemory> From<E> for BoxEnd {
     ghost from_gives = { λ _ end. end ≡ NoMemory };
 
-    fn from(_: AllocError) -> BoxEnd {
-        BoxEnd::NoMemory
-    }
-}
-
-impl<T: Drop> From<AllocFailed<T>> for BoxEnd {
-    ghost from_gives = { λ _ end. end ≡ NoMemory };
-
-    fn from(_: AllocFailed<T>) -> BoxEnd {
+    fn from(_: E) -> BoxEnd {
         BoxEnd::NoMemory
     }
 }

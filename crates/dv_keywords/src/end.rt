@@ -1,8 +1,7 @@
 ghost use Rattle.std.specs.Prelude.{◌≡◌};
 ghost use Rattle.dv_keywords.specs.declared.end.TableEnd.TheVariants as end;
 
-use dv_model::NoMemory;
-use std::alloc::{AllocError, AllocFailed};
+use dv_model::OutOfMemory;
 
 /// Why a table wasn't read.
 #[derive(Clone, Copy, PartialEq, Eq, Debug)]
@@ -12,26 +11,10 @@ pub enum TableEnd {
     NoMemory,
 }
 
-impl From<AllocError> for TableEnd {
+impl<E: OutOfMemory> From<E> for TableEnd {
     ghost from_gives = { λ _ e. e ≡ end.NoMemory };
 
-    fn from(_: AllocError) -> TableEnd {
-        TableEnd::NoMemory
-    }
-}
-
-impl<T: Drop> From<AllocFailed<T>> for TableEnd {
-    ghost from_gives = { λ _ e. e ≡ end.NoMemory };
-
-    fn from(_: AllocFailed<T>) -> TableEnd {
-        TableEnd::NoMemory
-    }
-}
-
-impl From<NoMemory> for TableEnd {
-    ghost from_gives = { λ _ e. e ≡ end.NoMemory };
-
-    fn from(_: NoMemory) -> TableEnd {
+    fn from(_: E) -> TableEnd {
         TableEnd::NoMemory
     }
 }

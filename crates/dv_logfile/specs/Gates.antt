@@ -3,7 +3,7 @@
 use Rattle.std.specs.Prelude.{◌≡◌, ◌≢◌, ◌⊎◌, ℕ, ◌+◌, ◌-◌, ◌<◌, ◌≤◌, max, List, length, take, drop, Some, Result, IfErr}
 use Rattle.dv_shelf.specs.declared.shelf.Name.{Name}
 use Rattle.dv_shelf.specs.declared.shelf.Name.TheVariants.{Log}
-use Rattle.dv_shelf.specs.Causes.{Rose}
+use Rattle.dv_model.specs.Counts.{Rose}
 use Rattle.dv_shelf.specs.Folders.{Folder, contents}
 use Rattle.dv_logfile.specs.declared.commit.CommitFault.{CommitFault}
 use Rattle.dv_logfile.specs.declared.commit.CommitFault.TheVariants.{Disk}

@@ -4,8 +4,7 @@ ghost use Rattle.std.specs.Prelude.{◌≡◌};
 ghost use Rattle.dv_logfile.specs.declared.outcome.ScanEnd.TheVariants as end;
 
 use crate::LogHeader;
-use dv_model::{List, Record};
-use std::alloc::{AllocError, AllocFailed};
+use dv_model::{List, OutOfMemory, Record};
 
 /// What a log file holds.
 #[derive(Drop)]
@@ -30,18 +29,10 @@ pub enum ScanEnd {
     NoMemory,
 }
 
-impl From<AllocError> for ScanEnd {
+impl<E: OutOfMemory> From<E> for ScanEnd {
     ghost from_gives = { λ _ e. e ≡ end.NoMemory };
 
-    fn from(_: AllocError) -> ScanEnd {
-        ScanEnd::NoMemory
-    }
-}
-
-impl<T: Drop> From<AllocFailed<T>> for ScanEnd {
-    ghost from_gives = { λ _ e. e ≡ end.NoMemory };
-
-    fn from(_: AllocFailed<T>) -> ScanEnd {
+    fn from(_: E) -> ScanEnd {
         ScanEnd::NoMemory
     }
 }

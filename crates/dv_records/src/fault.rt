@@ -1,7 +1,7 @@
 ghost use Rattle.std.specs.Prelude.{◌≡◌};
 ghost use Rattle.dv_records.specs.declared.fault.DecodeEnd.TheVariants as end;
 
-use std::alloc::{AllocError, AllocFailed};
+use dv_model::OutOfMemory;
 
 /// Why the bytes at a place are no record.
 #[derive(Clone, Copy, PartialEq, Eq, Debug)]
@@ -24,18 +24,10 @@ pub enum DecodeEnd {
     NoMemory,
 }
 
-impl From<AllocError> for DecodeEnd {
+impl<E: OutOfMemory> From<E> for DecodeEnd {
     ghost from_gives = { λ _ e. e ≡ end.NoMemory };
 
-    fn from(_: AllocError) -> DecodeEnd {
-        DecodeEnd::NoMemory
-    }
-}
-
-impl<T: Drop> From<AllocFailed<T>> for DecodeEnd {
-    ghost from_gives = { λ _ e. e ≡ end.NoMemory };
-
-    fn from(_: AllocFailed<T>) -> DecodeEnd {
+    fn from(_: E) -> DecodeEnd {
         DecodeEnd::NoMemory
     }
 }

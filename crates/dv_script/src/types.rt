@@ -1,5 +1,4 @@
-use dv_model::{Bytes, Command, NoMemory};
-use std::alloc::AllocError;
+use dv_model::{Bytes, Command, OutOfMemory};
 
 /// A line of a script: a session's name, and the command that it gives.
 #[derive(Drop)]
@@ -22,24 +21,13 @@ pub enum ScriptEnd {
     NoMemory,
 }
 
-impl From<NoMemory> for ScriptEnd {
+impl<E: OutOfMemory> From<E> for ScriptEnd {
     ghost use Rattle.std.specs.Prelude.{◌≡◌};
     ghost use Rattle.dv_script.specs.declared.types.ScriptEnd.TheVariants.{NoMemory};
 
     ghost from_gives = { λ _ end. end ≡ NoMemory };
 
-    fn from(_: NoMemory) -> ScriptEnd {
-        ScriptEnd::NoMemory
-    }
-}
-
-impl From<AllocError> for ScriptEnd {
-    ghost use Rattle.std.specs.Prelude.{◌≡◌};
-    ghost use Rattle.dv_script.specs.declared.types.ScriptEnd.TheVariants.{NoMemory};
-
-    ghost from_gives = { λ _ end. end ≡ NoMemory };
-
-    fn from(_: AllocError) -> ScriptEnd {
+    fn from(_: E) -> ScriptEnd {
         ScriptEnd::NoMemory
     }
 }

@@ -2,8 +2,7 @@ ghost use Rattle.std.specs.Prelude.{◌≡◌};
 ghost use Rattle.dv_sets.specs.declared.end.ParseEnd.TheVariants as parse_end;
 ghost use Rattle.dv_sets.specs.declared.end.SetEnd.TheVariants as set_end;
 
-use dv_model::NoMemory;
-use std::alloc::AllocError;
+use dv_model::OutOfMemory;
 
 /// Why a set names no messages of a view.
 #[derive(Clone, Copy, PartialEq, Eq, Debug)]
@@ -21,18 +20,18 @@ pub enum ParseEnd {
     NoMemory,
 }
 
-impl From<AllocError> for SetEnd {
+impl<E: OutOfMemory> From<E> for SetEnd {
     ghost from_gives = { λ _ e. e ≡ set_end.NoMemory };
 
-    fn from(_: AllocError) -> SetEnd {
+    fn from(_: E) -> SetEnd {
         SetEnd::NoMemory
     }
 }
 
-impl From<AllocError> for ParseEnd {
+impl<E: OutOfMemory> From<E> for ParseEnd {
     ghost from_gives = { λ _ e. e ≡ parse_end.NoMemory };
 
-    fn from(_: AllocError) -> ParseEnd {
+    fn from(_: E) -> ParseEnd {
         ParseEnd::NoMemory
     }
 }

@@ -1,6 +1,6 @@
 use Rattle.std.proofs.Common.{◌≡◌, ◌⊎◌, ◌∙◌, ap, sym, subst, ⊎_elim, List, ℕ, ◌≤◌, inl, inr, true, false, Bool, map, Ok, Err, arith}
 use Rattle.std.specs.Prelude.{Result, string_bytes}
-use Rattle.dv_shelf.specs.Causes.{Rose}
+use Rattle.dv_model.specs.Counts.{Rose}
 use Rattle.dv_script.specs.declared.types.Line.{Line}
 use Rattle.dv_script.specs.declared.types.ScriptEnd.{ScriptEnd}
 use Rattle.dv_script.specs.declared.types.ScriptEnd.TheVariants as script_end

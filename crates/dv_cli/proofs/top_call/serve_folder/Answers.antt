@@ -2,7 +2,7 @@ use Rattle.std.proofs.Common.{◌≡◌, ◌^◌, ◌<◌, sym, subst, List, len
 use Rattle.std.proofs.lemmas.List.Elements.{recursion_from_All}
 use Rattle.dv_model.specs.declared.types.Entry.{Entry}
 use Rattle.dv_cli.specs.declared.ending.End.{End}
-use Rattle.dv_shelf.specs.Causes.{Rose}
+use Rattle.dv_model.specs.Counts.{Rose}
 use Rattle.dv_script.specs.declared.types.Line.{Line}
 use Rattle.dv_cli.specs.Crashing.{RestsAt}
 use Rattle.dv_cli.specs.Found.{IsNew, FindsAt}

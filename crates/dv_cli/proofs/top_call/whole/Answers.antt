@@ -1,5 +1,5 @@
 use Rattle.std.proofs.Common.{◌∙◌, subst, List, inl}
-use Rattle.dv_shelf.specs.Causes.{Rose}
+use Rattle.dv_model.specs.Counts.{Rose}
 use Rattle.dv_shelf.specs.Crashes.{LeavesOnly}
 use Rattle.dv_script.specs.declared.types.Line.{Line}
 use Rattle.dv_cli.specs.Runs.{MayLeave, MayLeaveAfter}

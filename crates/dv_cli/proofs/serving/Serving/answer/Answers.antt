@@ -1,7 +1,7 @@
 use Rattle.std.proofs.Common.{sym, subst, inl}
 use Rattle.std.specs.Prelude.{IfErr, IfOk}
 use Rattle.dv_model.specs.declared.types.Command.{Command}
-use Rattle.dv_shelf.specs.Causes.{Rose}
+use Rattle.dv_model.specs.Counts.{Rose}
 use Rattle.dv_shelf.specs.Crashes.{LeavesOnly}
 use Rattle.dv_shelf.specs.Folders.{Folder}
 use Rattle.dv_cli.specs.Crashing.{EndsHolding, LeavesCommand, RestsAt}

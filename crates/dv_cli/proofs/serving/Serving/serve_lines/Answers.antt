@@ -2,7 +2,7 @@ use Rattle.std.proofs.Common.{◌≡◌, ℕ, ◌+◌, ◌-◌, ◌≤◌, ◌++
 use Rattle.std.proofs.lemmas.List.{append-nil, take_all}
 use Rattle.std.proofs.lemmas.Result.{err_from_is_err_and}
 use Rattle.dv_script.specs.declared.types.Line.{Line}
-use Rattle.dv_shelf.specs.Causes.{Rose}
+use Rattle.dv_model.specs.Counts.{Rose}
 use Rattle.dv_cli.specs.Crashing.{HoldsFront, LeavesLines, RestsAt}
 use Rattle.dv_cli.specs.Lines.{text_of_lines}
 use Rattle.dv_cli.specs.Running.{answer_text}
