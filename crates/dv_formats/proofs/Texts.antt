@@ -35,7 +35,7 @@ parts_one (x ∷ a) (y ∷ c) b d same e =
     let rest = parts_one a c b d (omega (arith, same)) (ap (drop 1) e) in
     (ap (λ z. z ∷ a) first ∙ ap (λ zs. y ∷ zs) rest.0, rest.1)
 
-length_filled : (a : List ℕ) → length (filled a) ≡ length a + padding (length a)
+pub length_filled : (a : List ℕ) → length (filled a) ≡ length a + padding (length a)
 length_filled a = length-append a (replicate (padding (length a)) 0) ∙ ap (λ n. length a + n) (length-replicate (padding (length a)) 0)
 
 -- texts of one length that are filled up
