@@ -15,37 +15,37 @@ use Rattle.dv_model.specs.declared.types.Row.{Row}
 use Rattle.dv_model.specs.Mailboxes.{IsRowOf, IsValid}
 use Rattle.dv_model.specs.Spelling.{padding}
 use Rattle.dv_formats.specs.Snapshots.{AreBytes, IsSnapshot, current_text, extension_text, filled, header_text, highest_text, keyword_bits, keyword_text, modseq_text, row_size, row_text, rows_with, snapshot_text, tables_text}
-use Rattle.dv_formats.specs.SnapshotFaults.{IsRecord, flags_at, highest_at, record_at, record_place, records_with, uid_at, uid_before, version_at, word_at, zeros_from}
+use Rattle.dv_formats.specs.SnapshotFaults.{AreRecords, IsRecord, flags_at, head_of, highest_at, record_at, record_place, records_with, uid_at, uid_before, version_at, word_at, zeros_from}
 use Rattle.dv_formats.proofs.Passing.{Passes, count_flags, highest_one, highest_two, no_row, which_version, zeros_one, zeros_two}
 
 -- each is a byte
 abbrev pub IsBytes : List ℕ → Type 0
 IsBytes b = (i : ℕ) → get_or b i 0 < 256
 
-take_bytes : (n : ℕ) (b : List ℕ) → IsBytes b → IsBytes (take n b)
+pub take_bytes : (n : ℕ) (b : List ℕ) → IsBytes b → IsBytes (take n b)
 take_bytes n b fits i =
     elim (cases_lt i n) [
       | inl less ↦ let same = get_or-take n b i 0 less in let small = fits i in omega (arith, same, small)
       | inr past ↦ let none = get_or_past (take n b) i 0 (omega (arith, past, length-take n b)) in omega (arith, none)
     ]
 
-drop_bytes : (n : ℕ) (b : List ℕ) → IsBytes b → IsBytes (drop n b)
+pub drop_bytes : (n : ℕ) (b : List ℕ) → IsBytes b → IsBytes (drop n b)
 drop_bytes n b fits i = let same = get_or-drop n b i 0 in let small = fits (n + i) in omega (arith, same, small)
 
 pub part_bytes : (at n : ℕ) (b : List ℕ) → IsBytes b → IsBytes (take n (drop at b))
 part_bytes at n b fits = take_bytes n (drop at b) (drop_bytes at b fits)
 
-small_word : (w : List ℕ) → IsBytes w → from_le_bytes w32 w < 2 ^ 32
+pub small_word : (w : List ℕ) → IsBytes w → from_le_bytes w32 w < 2 ^ 32
 small_word w fits = let a = fits 0 in let b = fits 1 in let c = fits 2 in let d = fits 3 in omega (arith, a, b, c, d)
 
 pub word_small : (at : ℕ) (b : List ℕ) → IsBytes b → word_at at b < 2 ^ 32
 word_small at b fits = small_word (take 4 (drop at b)) (part_bytes at 4 b fits)
 
-word_there : (at x : ℕ) (b : List ℕ) → IsBytes b → at + 4 ≤ length b → x ≡ word_at at b → take 4 (drop at b) ≡ to_le_bytes w32 x
+pub word_there : (at x : ℕ) (b : List ℕ) → IsBytes b → at + 4 ≤ length b → x ≡ word_at at b → take 4 (drop at b) ≡ to_le_bytes w32 x
 word_there at x b fits long same = sym (le_bytes_4 (take 4 (drop at b)) x (omega (arith, long, length-take 4 (drop at b), length-drop at b)) (part_bytes at 4 b fits) same)
 
 -- a front grows by a piece
-grow : (n m : ℕ) (b x piece : List ℕ) → take n b ≡ x → take m (drop n b) ≡ piece → take (n + m) b ≡ x ++ piece
+pub grow : (n m : ℕ) (b x piece : List ℕ) → take n b ≡ x → take m (drop n b) ≡ piece → take (n + m) b ≡ x ++ piece
 grow n m b x piece e h =
     sym (take-append-drop n (take (n + m) b)) ∙ ap (λ t. t ++ drop n (take (n + m) b)) (take-take n (n + m) b (omega arith) ∙ e) ∙ ap (λ t. x ++ t) (drop-take n m b ∙ h)
 
@@ -63,17 +63,17 @@ joined g size d (x ∷ xs) t long each =
     sym (take-append-drop size t) ∙ ap (λ u. u ++ drop size t) first ∙ ap (λ u. g x ++ u) rest
 
 -- the parts of a row are bytes
-front_bytes : (a c : List ℕ) → IsBytes (a ++ c) → IsBytes a
+pub front_bytes : (a c : List ℕ) → IsBytes (a ++ c) → IsBytes a
 front_bytes a c fits i =
     elim (cases_lt i (length a)) [
       | inl less ↦ let same = get_or_append_left a c 0 i less in let small = fits i in omega (arith, same, small)
       | inr past ↦ let none = get_or_past a i 0 past in omega (arith, none)
     ]
 
-back_bytes : (a c : List ℕ) → IsBytes (a ++ c) → IsBytes c
+pub back_bytes : (a c : List ℕ) → IsBytes (a ++ c) → IsBytes c
 back_bytes a c fits i = let same = get_or-append-add a c i 0 in let small = fits (length a + i) in omega (arith, same, small)
 
-each_bytes : (c : List ℕ) → IsBytes c → AreBytes c
+pub each_bytes : (c : List ℕ) → IsBytes c → AreBytes c
 each_bytes c fits k d below = let same = get_or_default c k d 0 below in let small = fits k in omega (arith, same, small)
 
 filled_parts : (parts : List (List ℕ)) → IsBytes (flat_map filled parts) → All AreBytes parts
@@ -84,6 +84,18 @@ filled_parts (part ∷ parts) fits =
 
 parts_of : (front : List ℕ) (parts : List (List ℕ)) → IsBytes (front ++ flat_map filled parts) → All AreBytes parts
 parts_of front parts fits = filled_parts parts (back_bytes front (flat_map filled parts) fits)
+
+-- the records that have a flag are as many as their rows
+flags_of : (m : Mailbox) (rows : List Row) (b : List ℕ) → AreRecords m rows b → map (λ k. flags_at k b) (range_with_len 0 (word_at 32 b)) ≡ map (λ row. row.flags) rows
+flags_of m rows b are =
+    ext_get_or 0 (map (λ k. flags_at k b) (range_with_len 0 (word_at 32 b))) (map (λ row. row.flags) rows)
+    (length-map-range_with_len (λ k. flags_at k b) 0 (word_at 32 b) ∙ sym are.counted ∙ sym (length-map rows (λ row. row.flags)))
+    (λ k below. let low : k < word_at 32 b = omega (arith, below, length-map-range_with_len (λ k. flags_at k b) 0 (word_at 32 b)) in
+    let small : k < length rows = omega (arith, low, are.counted) in
+    get_or-map-range_with_len (λ k. flags_at k b) 0 (word_at 32 b) k k 0 low (omega arith) ∙ ap (λ t. get_or t 4 0) (are.each k no_row small).text ∙ sym (get_or-map (λ (row : Row). row.flags) rows k no_row 0 small))
+
+pub count_of : (m : Mailbox) (rows : List Row) (b : List ℕ) → AreRecords m rows b → (bit : ℕ) → records_with bit b ≡ count_by (λ row. not (nat_eq (bit_and row.flags bit) 0)) rows
+count_of m rows b are bit = ap (λ fs. count_by (λ flags. not (nat_eq (bit_and flags bit) 0)) fs) (flags_of m rows b are) ∙ count_flags (λ flags. not (nat_eq (bit_and flags bit) 0)) rows
 
 -- the mailbox has the header's numbers
 pub record HasNumbersOf (m : Mailbox) (b : List ℕ) : Type 0 where
@@ -121,16 +133,8 @@ module _ (m : Mailbox) (b : List ℕ) (fits : IsBytes b) (numbers : HasNumbersOf
   row_size_is : row_size (version_at b) m ≡ word_at 8 b
   row_size_is = sym is.size
 
-  flags_are : map (λ k. flags_at k b) (range_with_len 0 (word_at 32 b)) ≡ map (λ row. row.flags) m.rows
-  flags_are =
-      ext_get_or 0 (map (λ k. flags_at k b) (range_with_len 0 (word_at 32 b))) (map (λ row. row.flags) m.rows)
-      (length-map-range_with_len (λ k. flags_at k b) 0 (word_at 32 b) ∙ sym is.rows.counted ∙ sym (length-map m.rows (λ row. row.flags)))
-      (λ k below. let low : k < word_at 32 b = omega (arith, below, length-map-range_with_len (λ k. flags_at k b) 0 (word_at 32 b)) in
-      let small : k < length m.rows = omega (arith, low, is.rows.counted) in
-      get_or-map-range_with_len (λ k. flags_at k b) 0 (word_at 32 b) k k 0 low (omega arith) ∙ ap (λ t. get_or t 4 0) (is.rows.each k no_row small).text ∙ sym (get_or-map (λ (row : Row). row.flags) m.rows k no_row 0 small))
-
-  pub count_is : (bit : ℕ) → records_with bit b ≡ rows_with bit m
-  count_is bit = ap (λ fs. count_by (λ flags. not (nat_eq (bit_and flags bit) 0)) fs) flags_are ∙ count_flags (λ flags. not (nat_eq (bit_and flags bit) 0)) m.rows
+  count_is : (bit : ℕ) → records_with bit b ≡ rows_with bit m
+  count_is bit = count_of (head_of m.keywords m.extensions b) m.rows b is.rows bit
 
   header_there : take 120 b ≡ header_text (version_at b) m (word_at 16 b) (mark_at b)
   header_there =

@@ -53,7 +53,7 @@ record_of g size (x ∷ xs) each (suc k) d below =
 
 -- ---- the length of a row
 
-length_words : (from n : ℕ) (places : List ℕ) → length (flat_map (λ word. to_le_bytes w32 (keyword_word places word)) (range_with_len from n)) ≡ 4 * n
+pub length_words : (from n : ℕ) (places : List ℕ) → length (flat_map (λ word. to_le_bytes w32 (keyword_word places word)) (range_with_len from n)) ≡ 4 * n
 length_words from zero places = refl
 length_words from (suc n) places = let rest = length_words (from + 1) n places in omega (arith, rest)
 

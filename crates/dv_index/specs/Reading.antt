@@ -22,10 +22,15 @@ fault_of (Version byte) = faults.Version byte
 fault_of (Counts check) = faults.Counts check
 fault_of (Order at) = faults.Order at
 
+-- where it isn't for want of memory, the fault comes only with this
+abbrev pub OnEnd : IndexEnd → (SnapshotFault → Type 0) → Type 0
+OnEnd NoMemory P = ⊤
+OnEnd (Fault f) P = P (fault_of f)
+
 -- a fault comes only with this
 abbrev pub OnFault : {A : Type 0} → Result A IndexEnd → (SnapshotFault → Type 0) → Type 0
-OnFault (Err (Fault f)) P = P (fault_of f)
-OnFault r P = ⊤
+OnFault (Ok x) P = ⊤
+OnFault (Err e) P = OnEnd e P
 
 -- the failed check comes only with this
 abbrev pub OnCheck : {A : Type 0} → Result A IndexEnd → ℕ → Type 0 → Type 0

@@ -1,4 +1,4 @@
-ghost use Rattle.std.specs.Prelude.{◌≡◌, ◌↔◌, ◌≤◌, ◌<◌, ◌+◌, ◌*◌, ◌^◌, ℕ, Option, length, IfSome, IfNone, IsTrue};
+ghost use Rattle.std.specs.Prelude.{All, ◌≡◌, ◌↔◌, ◌≤◌, ◌<◌, ◌+◌, ◌*◌, ◌^◌, ℕ, Option, length, IfSome, IfNone, IsTrue};
 ghost use Rattle.dv_model.specs.declared.types.Current.{Current};
 ghost use Rattle.dv_formats.specs.Snapshots.{row_size};
 ghost use Rattle.dv_formats.specs.SnapshotFaults.{IsCurrent, IsInOrder, IsOrderFault, version_at, word_at};
@@ -30,7 +30,9 @@ pub fn has_length(b: &[u8]) -> bool
 
 /// The current extension.
 pub fn read_current(b: &[u8], extensions: &[Extension]) -> Option<Option<Current>>
-    requires { 120 ≤ length b.now }
+    requires header { 120 ≤ length b.now }
+    requires few { length extensions.now ≤ 16 }
+    requires short { All (λ e. e.record_size < 2 ^ 16) extensions.now }
     ensures some { IfSome result (λ current. IsCurrent extensions.now current b.now) }
     ensures none { IfNone result ((current : Option Current) → IsCurrent extensions.now current b.now → ⊥) }
 {
@@ -40,8 +42,10 @@ pub fn read_current(b: &[u8], extensions: &[Extension]) -> Option<Option<Current
         return if size == 0 { Some(None) } else { None };
     }
     let extension = place - 1;
-    let e = extensions.get(extension as usize)?;
-    if size > u32::from(e.record_size) {
+    if extension as usize >= extensions.len() {
+        return None;
+    }
+    if size > u32::from(extensions[extension as usize].record_size) {
         return None;
     }
     let size = size as u16;

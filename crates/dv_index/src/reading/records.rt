@@ -15,18 +15,19 @@ use dv_num::{u32_at, u64_at};
 use std::alloc::Global;
 
 // The modification sequence of a record, which version 1 lacks, and what follows it.
-fn read_modseq(version: u8, highest: u64, record: &[u8]) -> Option<(u64, &[u8])>
+fn read_modseq(version: u8, highest: u64, bytes: &[u8]) -> Option<(u64, &[u8])>
     requires version { (1 ≤ version) × (version ≤ 2) }
-    requires long { 8 * version ≤ length record.now }
-    ensures some { IfSome result (λ x. HasModseq version highest x.0 x.1.now record.now) }
-    ensures none { IfNone result ((modseq : ℕ) (rest : List ℕ) → HasModseq version highest modseq rest record.now → ⊥) }
+    requires highest { 1 ≤ highest }
+    requires long { 8 * version ≤ length bytes.now }
+    ensures some { IfSome result (λ x. HasModseq version highest x.0 x.1.now bytes.now) }
+    ensures none { IfNone result ((modseq : ℕ) (rest : List ℕ) → HasModseq version highest modseq rest bytes.now → ⊥) }
 {
     if version == 1 {
-        let (_, rest) = record.split_at(8);
+        let (_, rest) = bytes.split_at(8);
         return Some((1, rest));
     }
-    let (_, rest) = record.split_at(16);
-    let modseq = u64_at(record, 8);
+    let (_, rest) = bytes.split_at(16);
+    let modseq = u64_at(bytes, 8);
     if modseq == 0 || modseq > highest {
         return None;
     }
@@ -38,24 +39,24 @@ fn read_record(
     alloc: Global,
     version: u8,
     head: &Mailbox,
-    record: &[u8],
+    bytes: &[u8],
 ) -> Result<Row, IndexEnd>
     requires shaped { IsShaped version head.now }
-    requires long { length record.now ≡ row_size version head.now }
-    ensures found { IfOk result (λ row. IsRecord version head.now row record.now) }
-    ensures check { OnCheck result 6 ((row : Row) → IsRecord version head.now row record.now → ⊥) }
+    requires long { length bytes.now ≡ row_size version head.now }
+    ensures found { IfOk result (λ row. IsRecord version head.now row bytes.now) }
+    ensures check { OnCheck result 6 ((row : Row) → IsRecord version head.now row bytes.now → ⊥) }
 {
     let names = head.keywords.len();
-    if record[5] != 0 || record[6] != 0 || record[7] != 0 {
+    if bytes[5] != 0 || bytes[6] != 0 || bytes[7] != 0 {
         return Err(failed(6));
     }
-    let Some((modseq, rest)) = read_modseq(version, head.highest, record) else {
+    let Some((modseq, rest)) = read_modseq(version, head.highest, bytes) else {
         return Err(failed(6));
     };
     let (bits, rest) = rest.split_at(4 * keyword_words(names));
     Ok(Row {
-        uid: u32_at(record, 0),
-        flags: record[4],
+        uid: u32_at(bytes, 0),
+        flags: bytes[4],
         keywords: read_places(alloc, names as u32, bits)?,
         parts: read_parts(alloc, head.extensions.as_slice(), rest)?,
         modseq,
