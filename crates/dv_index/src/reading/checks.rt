@@ -5,7 +5,7 @@ ghost use Rattle.dv_formats.specs.SnapshotFaults.{IsCurrent, IsInOrder, IsOrderF
 ghost use Rattle.dv_formats.specs.SnapshotFaults.{Order};
 ghost use Rattle.dv_index.specs.Reading.{HasCountsOf, IsShaped};
 
-use crate::header::{count_with, row_size, DELETED, SEEN};
+use crate::header::{DELETED, SEEN, count_with, row_size};
 use dv_model::{Current, Extension, Mailbox, Row};
 use dv_num::u32_at;
 

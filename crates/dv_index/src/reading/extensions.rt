@@ -60,7 +60,10 @@ fn is_allowed(e: &Extension) -> bool
     ensures { IsTrue result ↔ IsAllowed e.now }
 {
     let name = e.name.as_slice();
-    1 <= name.len() && name.len() <= 255 && name != b"keywords".as_slice() && e.header.len() <= 65536
+    1 <= name.len()
+        && name.len() <= 255
+        && name != b"keywords".as_slice()
+        && e.header.len() <= 65536
 }
 
 fn are_allowed(extensions: &[Extension]) -> bool

@@ -35,12 +35,7 @@ fn read_modseq(version: u8, highest: u64, bytes: &[u8]) -> Option<(u64, &[u8])>
 }
 
 // The row of a record.
-fn read_record(
-    alloc: Global,
-    version: u8,
-    head: &Mailbox,
-    bytes: &[u8],
-) -> Result<Row, IndexEnd>
+fn read_record(alloc: Global, version: u8, head: &Mailbox, bytes: &[u8]) -> Result<Row, IndexEnd>
     requires shaped { IsShaped version head.now }
     requires long { length bytes.now ≡ row_size version head.now }
     ensures found { IfOk result (λ row. IsRecord version head.now row bytes.now) }

@@ -51,11 +51,23 @@ returns-then-not-has_flag_counts-clause-fault c =
     let end = c.has_length.ensures.0 c.if-not-has_length.false in
     let current : IsCurrent c.args.head.extensions c.in-Some.current c.args.b.now = subst (λ es. IsCurrent es c.in-Some.current c.args.b.now) c.as_slice.ensures c.in-Some.ensures.some in
     let rows = c.in_ok-rows.ensures.found in
-    rw c.failed-then-not-has_flag_counts.ensures (inr (size, inr (end, inr ((c.in-Some.current, current), inr ((c.in_ok-rows.rows, rows), inl (
-      λ counts. both_ways c.has_flag_counts.result c.if-not-has_flag_counts.true
-          (c.has_flag_counts.ensures.1 (subst (λ (rs : List Row). HasCountsOf rs c.args.b.now) (sym c.as_slice-2.ensures) (counts_back c.args.head c.in_ok-rows.rows c.args.b.now rows counts))),
-      refl,
-    ))))))
+    rw c.failed-then-not-has_flag_counts.ensures (inr (
+      size,
+      inr (
+        end,
+        inr (
+          (c.in-Some.current, current),
+          inr (
+            (c.in_ok-rows.rows, rows),
+            inl (
+              λ counts. both_ways c.has_flag_counts.result c.if-not-has_flag_counts.true
+                  (c.has_flag_counts.ensures.1 (subst (λ (rs : List Row). HasCountsOf rs c.args.b.now) (sym c.as_slice-2.ensures) (counts_back c.args.head c.in_ok-rows.rows c.args.b.now rows counts))),
+              refl,
+            ),
+          ),
+        ),
+      ),
+    ))
 
 pub first_unordered-requires-clause-size : goal.first_unordered-requires-clause-size
 first_unordered-requires-clause-size c = long_enough c.args.head c.args.b.now c.requires.header (c.has_row_size.ensures.0 c.if-not-has_row_size.false)

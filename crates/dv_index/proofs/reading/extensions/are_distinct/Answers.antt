@@ -8,9 +8,11 @@ use Rattle.dv_index.proofs.reading.extensions.are_distinct.Goals as goal
 pub returns-then-not-is_new : goal.returns-then-not-is_new
 returns-then-not-is_new c =
     let front : take c.loop-at.at c.args.extensions.now ≡ c.split_at.result.0.now = sym c.split_at.ensures.front in
-    let name : c.index-extensions-at.result.name ≡ c.as_slice.result.now = ap (λ (e : Extension). e.name) c.index-extensions-at.is ∙ sym c.as_slice.ensures in
-    (λ t. search rules, λ pairs. absurd (doubled c.args.extensions.now c.loop-at.at c.index-extensions-at.result c.loop-at-test.true c.index-extensions-at.is
-    (λ new. both_ways c.is_new.result c.if-not-is_new.true (c.is_new.ensures.1 (subst (λ n. All (λ (e : Extension). e.name ≢ n) c.split_at.result.0.now) name (subst (All (λ (e : Extension). e.name ≢ c.index-extensions-at.result.name)) front new)))) pairs))
+    let name : c.index-extensions-at.result.name ≡ c.as_slice.result.now = ap (λ (e : Extension). e.name) c.index-extensions-at.is ∙ sym c.as_slice.ensures in (
+      λ t. search rules,
+      λ pairs. absurd (doubled c.args.extensions.now c.loop-at.at c.index-extensions-at.result c.loop-at-test.true c.index-extensions-at.is
+          (λ new. both_ways c.is_new.result c.if-not-is_new.true (c.is_new.ensures.1 (subst (λ n. All (λ (e : Extension). e.name ≢ n) c.split_at.result.0.now) name (subst (All (λ (e : Extension). e.name ≢ c.index-extensions-at.result.name)) front new)))) pairs),
+    )
 
 pub loop-at-preserved : goal.loop-at-preserved
 loop-at-preserved c =

@@ -10,9 +10,12 @@ pub returns-in_default-split_filled-clause-check :
     goal.returns-in_default-split_filled-clause-check
 returns-in_default-split_filled-clause-check c =
     let size : length c.in-Some.name.now ≡ from_le_bytes w16 (take 2 (drop 14 c.args.b.now)) = omega (arith, c.in-Some.ensures.some.0, c.from.ensures, c.u16_at.ensures) in
-    rw c.failed-in_default-split_filled.ensures (refl, λ e rest is text.
-    c.in_default-split_filled.ensures.none e.header rest (text_header e c.args.b.now rest is text ∙ sym c.u32_at.ensures)
-    (header_next e c.args.b.now c.in-Some.name.now c.in-Some.behind.now rest is text size (sym c.split_at.ensures.back ∙ c.in-Some.ensures.some.1)))
+    rw c.failed-in_default-split_filled.ensures (
+      refl,
+      λ e rest is text.
+          c.in_default-split_filled.ensures.none e.header rest (text_header e c.args.b.now rest is text ∙ sym c.u32_at.ensures)
+          (header_next e c.args.b.now c.in-Some.name.now c.in-Some.behind.now rest is text size (sym c.split_at.ensures.back ∙ c.in-Some.ensures.some.1)),
+    )
 
 pub returns-clause-found : goal.returns-clause-found
 returns-clause-found c =

@@ -5,8 +5,11 @@ use Rattle.dv_index.proofs.reading.parts.read_parts.Goals as goal
 
 pub returns-in_default-clause-check : goal.returns-in_default-clause-check
 returns-in_default-clause-check c =
-    rw c.failed.ensures (refl, λ parts are. no_part c.args.es.now c.loop-e.e-index c.e-item.result c.loop-e.parts c.loop-e.rest.now c.args.b.now c.loop-e-test.true c.e-item.is c.loop-e.invariant
-    (λ text behind size here. c.in_default.ensures.none text behind (omega (arith, size, c.from.ensures)) here) parts are)
+    rw c.failed.ensures (
+      refl,
+      λ parts are. no_part c.args.es.now c.loop-e.e-index c.e-item.result c.loop-e.parts c.loop-e.rest.now c.args.b.now c.loop-e-test.true c.e-item.is c.loop-e.invariant
+          (λ text behind size here. c.in_default.ensures.none text behind (omega (arith, size, c.from.ensures)) here) parts are,
+    )
 
 pub loop-e-preserved : goal.loop-e-preserved
 loop-e-preserved c =
