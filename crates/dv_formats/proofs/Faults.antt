@@ -1,14 +1,14 @@
 -- A text has one fault at most, and none where it is of a snapshot.
-use Rattle.std.proofs.Common.{◌≡◌, ◌⊎◌, inl, inr, ℕ, ◌+◌, ◌*◌, ◌^◌, ◌<◌, ◌≤◌, List, [], ◌++◌, length, take, drop, refl, sym, ◌∙◌, ap, subst, arith}
+use Rattle.std.proofs.Common.{◌≡◌, inl, inr, ℕ, ◌+◌, ◌*◌, ◌^◌, ◌<◌, ◌≤◌, List, [], ◌++◌, length, sym, ◌∙◌, ap, subst, arith}
 use Rattle.std.proofs.lemmas.Bool.{cases_order}
 use Rattle.dv_model.specs.declared.types.Extension.{Extension}
 use Rattle.dv_model.specs.declared.types.Mailbox.{Mailbox}
 use Rattle.dv_model.specs.Names.{IsName}
 use Rattle.std.specs.Prelude.{flat_map}
 use Rattle.std.specs.List.{AllByRecursion}
-use Rattle.std.proofs.lemmas.List.{append-nil, append_assoc}
-use Rattle.dv_formats.specs.Snapshots.{extension_text, keyword_text, row_size}
-use Rattle.dv_formats.specs.SnapshotFaults.{AreTables, Counts, First, HasCurrent, HasFlagCounts, HasNumbers, HasRecords, IsFault, IsFirstUnordered, IsInOrder, IsKnown, IsOrderFault, IsRowFault, IsTableFault, Order, Short, SnapshotFault, Version, head_of, other_byte, record_place, version_at, word_at}
+use Rattle.std.proofs.lemmas.List.{append-nil}
+use Rattle.dv_formats.specs.Snapshots.{extension_text, row_size}
+use Rattle.dv_formats.specs.SnapshotFaults.{AreTables, Counts, First, HasCurrent, HasFlagCounts, HasNumbers, HasRecords, IsFault, IsKnown, IsOrderFault, IsRowFault, IsTableFault, Order, Short, SnapshotFault, Version, head_of, other_byte, record_place, version_at, word_at}
 use Rattle.dv_formats.proofs.Texts.{AreShort, IsShortExtension, extensions_one, names_one}
 use Rattle.dv_formats.proofs.Wholes.{each_of_all, extensions_of}
 

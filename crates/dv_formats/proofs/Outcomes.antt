@@ -1,6 +1,6 @@
 -- Bytes are of a snapshot, or they have a fault.
-use Rattle.std.proofs.Common.{◌≡◌, ◌⊎◌, inl, inr, ℕ, zero, suc, ◌+◌, ◌*◌, ◌<◌, ◌≤◌, List, [], length, get_or, Option, refl, ap, sym, subst, ◌∙◌, arith}
-use Rattle.std.proofs.lemmas.Bool.{cases_lt, cases_order}
+use Rattle.std.proofs.Common.{◌≡◌, ◌⊎◌, inl, inr, ℕ, zero, suc, ◌+◌, ◌*◌, ◌<◌, ◌≤◌, List, length, Option, refl, subst, arith}
+use Rattle.std.proofs.lemmas.Bool.{cases_lt}
 use Rattle.std.proofs.lemmas.List.{get_or_past}
 use Rattle.dv_model.specs.declared.types.Current.{Current}
 use Rattle.dv_model.specs.declared.types.Extension.{Extension}
@@ -8,10 +8,10 @@ use Rattle.dv_model.specs.declared.types.Mailbox.{Mailbox}
 use Rattle.dv_model.specs.declared.types.Mark.{Mark}
 use Rattle.dv_model.specs.declared.types.Row.{Row}
 use Rattle.dv_formats.specs.Snapshots.{AreBytes, IsSnapshot, row_size}
-use Rattle.dv_formats.specs.SnapshotFaults.{AreRecords, AreTables, Counts, FaultOrSnapshot, First, HasCurrent, HasFlagCounts, HasNumbers, HasRecords, IsCurrent, IsFault, IsFirstUnordered, IsInOrder, IsKnown, IsOrderFault, IsRowFault, IsTableFault, Order, Short, SnapshotFault, Version, head_of, highest_at, other_byte, record_place, uid_at, uid_before, version_at, word_at}
+use Rattle.dv_formats.specs.SnapshotFaults.{AreTables, Counts, First, HasCurrent, HasFlagCounts, HasNumbers, HasRecords, IsFault, IsInOrder, IsKnown, IsOrderFault, IsRowFault, IsTableFault, Order, Short, SnapshotFault, Version, head_of, highest_at, mark_at, other_byte, record_place, uid_at, uid_before, version_at, word_at}
 use Rattle.dv_formats.proofs.Faults.{tables_one}
-use Rattle.dv_formats.proofs.Passing.{Passes, snapshot_passes}
-use Rattle.dv_formats.proofs.Passed.{IsBytes, mark_at, passed_is_snapshot}
+use Rattle.dv_formats.proofs.Passing.{Passes}
+use Rattle.dv_formats.proofs.Passed.{IsBytes, passed_is_snapshot}
 
 -- ---- a snapshot has no fault
 
@@ -77,7 +77,6 @@ module _ (b : List ℕ) (are : AreBytes b) (none : (f : SnapshotFault) → IsFau
 
       rows_pass : word_at 8 b ≡ row_size (version_at b) (head_of names es b) → length b ≡ word_at 4 b + word_at 8 b * word_at 32 b → HasCurrent (head_of names es b) b → HasRecords (head_of names es b) b → HasFlagCounts b → ⊥
       rows_pass size end current rows counts =
-          let m = mailbox_of names es current.0 rows.0 b in
           let ordered : (k : ℕ) → k < word_at 32 b → IsInOrder k b =
           in_order b (λ f fault. none_behind f (inr (size, inr (end, inr (current, inr (rows, inr (counts, fault))))))) (word_at 32 b) (omega arith) in
           let passes : Passes (mailbox_of names es current.0 rows.0 b) b =

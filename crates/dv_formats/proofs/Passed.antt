@@ -1,7 +1,7 @@
 -- A text that passes each test is of a snapshot.
-use Rattle.std.proofs.Common.{◌≡◌, ◌⊎◌, inl, inr, ℕ, zero, suc, ◌+◌, ◌-◌, ◌*◌, ◌^◌, ◌<◌, ◌≤◌, cond, List, [], ◌∷◌, ◌++◌, length, take, drop, get_or, All, Option, refl, sym, ◌∙◌, ap, subst, arith, length-append}
+use Rattle.std.proofs.Common.{◌≡◌, ◌⊎◌, inl, inr, ℕ, suc, ◌+◌, ◌-◌, ◌*◌, ◌^◌, ◌<◌, ◌≤◌, List, [], ◌∷◌, ◌++◌, length, take, drop, get_or, All, refl, sym, ◌∙◌, ap, subst, arith}
 use Rattle.std.specs.Prelude.{flat_map, map, replicate, bit_and, count_by, nat_eq, not}
-use Rattle.std.specs.Int.{w16, w32, w64, to_le_bytes, from_le_bytes}
+use Rattle.std.specs.Int.{w32, w64, to_le_bytes, from_le_bytes}
 use Rattle.std.specs.List.{range_with_len}
 use Rattle.std.specs.List.Sorted.{IsStrictlyIncreasing}
 use Rattle.std.proofs.lemmas.Bool.{cases_lt}
@@ -10,12 +10,11 @@ use Rattle.std.proofs.lemmas.List.Elements.{All-cons}
 use Rattle.std.proofs.lemmas.List.FromFn.{get_or-map-range_with_len, length-map-range_with_len}
 use Rattle.std.proofs.lemmas.Nat.{from_le_bytes-to_le_bytes_4, le_bytes_4, le_bytes_8}
 use Rattle.dv_model.specs.declared.types.Mailbox.{Mailbox}
-use Rattle.dv_model.specs.declared.types.Mark.{Mark}
 use Rattle.dv_model.specs.declared.types.Row.{Row}
 use Rattle.dv_model.specs.Mailboxes.{IsRowOf, IsValid}
 use Rattle.dv_model.specs.Spelling.{padding}
-use Rattle.dv_formats.specs.Snapshots.{AreBytes, IsSnapshot, current_text, extension_text, filled, header_text, highest_text, keyword_bits, keyword_text, modseq_text, row_size, row_text, rows_with, snapshot_text, tables_text}
-use Rattle.dv_formats.specs.SnapshotFaults.{AreRecords, IsRecord, flags_at, head_of, highest_at, record_at, record_place, records_with, uid_at, uid_before, version_at, word_at, zeros_from}
+use Rattle.dv_formats.specs.Snapshots.{AreBytes, IsSnapshot, current_text, filled, header_text, highest_text, keyword_bits, modseq_text, row_size, row_text, rows_with, snapshot_text, tables_text}
+use Rattle.dv_formats.specs.SnapshotFaults.{AreRecords, flags_at, head_of, highest_at, mark_at, record_place, records_with, uid_at, uid_before, version_at, word_at}
 use Rattle.dv_formats.proofs.Passing.{Passes, count_flags, highest_one, highest_two, no_row, which_version, zeros_one, zeros_two}
 
 -- each is a byte
@@ -102,10 +101,6 @@ pub record HasNumbersOf (m : Mailbox) (b : List ℕ) : Type 0 where
   pub validity : m.uid_validity ≡ word_at 24 b
   pub next_uid : m.next_uid ≡ word_at 28 b
   pub highest : m.highest ≡ highest_at b
-
--- the place of the log
-abbrev pub mark_at : List ℕ → Mark
-mark_at b = record { file_seq = word_at 36 b; offset = word_at 40 b }
 
 module _ (m : Mailbox) (b : List ℕ) (fits : IsBytes b) (numbers : HasNumbersOf m b) (is : Passes m b) where
   which : (version_at b ≡ 1) ⊎ (version_at b ≡ 2)

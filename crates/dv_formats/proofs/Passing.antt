@@ -1,10 +1,9 @@
 -- A text of a snapshot passes each test.
-use Rattle.std.proofs.Common.{◌≡◌, ◌⊎◌, inl, inr, ℕ, zero, suc, ◌+◌, ◌-◌, ◌*◌, ◌/◌, ◌%◌, ◌^◌, ◌<◌, ◌≤◌, Bool, cond, List, [], ◌∷◌, ◌++◌, length, take, drop, get_or, All, Option, Some, None, refl, sym, ◌∙◌, ap, subst, arith, length-append, append_assoc}
+use Rattle.std.proofs.Common.{◌≡◌, ◌⊎◌, inl, inr, ℕ, zero, suc, ◌+◌, ◌-◌, ◌*◌, ◌^◌, ◌<◌, ◌≤◌, Bool, cond, List, [], ◌∷◌, ◌++◌, length, take, drop, get_or, Option, Some, None, refl, sym, ◌∙◌, ap, subst, arith, length-append, append_assoc}
 use Rattle.std.specs.Prelude.{flat_map, map, replicate, slice_index, sum_by, count_by, bit_and, nat_eq, not}
-use Rattle.std.specs.Int.{w16, w32, w64, to_le_bytes, from_le_bytes}
+use Rattle.std.specs.Int.{w32, w64, to_le_bytes, from_le_bytes}
 use Rattle.std.specs.List.{AllByRecursion, range_with_len}
-use Rattle.std.specs.List.Sorted.{IsStrictlyIncreasing}
-use Rattle.std.proofs.lemmas.List.{append-nil, drop-drop, drop-take, drop_at, ext_get_or, get_or-map, length-drop, length-map, length-replicate, take_at, take-take}
+use Rattle.std.proofs.lemmas.List.{drop-drop, drop-take, drop_at, ext_get_or, get_or-map, length-map, take_at, take-take}
 use Rattle.std.proofs.lemmas.List.FromFn.{get_or-map-range_with_len, length-map-range_with_len}
 use Rattle.std.proofs.lemmas.List.Sums.{count_by-le-length, sum_by-cons, sum_by-le}
 use Rattle.std.proofs.lemmas.Nat.{from_le_bytes-to_le_bytes_4, from_le_bytes-to_le_bytes_8}
@@ -13,10 +12,10 @@ use Rattle.dv_model.specs.declared.types.Extension.{Extension}
 use Rattle.dv_model.specs.declared.types.Mailbox.{Mailbox}
 use Rattle.dv_model.specs.declared.types.Mark.{Mark}
 use Rattle.dv_model.specs.declared.types.Row.{Row}
-use Rattle.dv_model.specs.Mailboxes.{AreExtensions, IsRowOf, IsValid, last_modseq}
-use Rattle.dv_model.specs.Spelling.{padding, padded}
-use Rattle.dv_formats.specs.Snapshots.{IsSnapshot, current_text, extension_text, filled, highest_text, keyword_bits, keyword_text, keyword_word, keyword_words, row_size, row_text, rows_with, snapshot_text, tables_text}
-use Rattle.dv_formats.specs.SnapshotFaults.{AreRecords, AreTables, HasFlagCounts, HasNumbers, IsCurrent, IsInOrder, IsKnown, IsRecord, flags_at, head_of, highest_at, record_at, record_place, records_with, uid_at, uid_before, version_at, word_at, zeros_from}
+use Rattle.dv_model.specs.Mailboxes.{IsRowOf}
+use Rattle.dv_model.specs.Spelling.{padded}
+use Rattle.dv_formats.specs.Snapshots.{IsSnapshot, current_text, filled, highest_text, keyword_bits, keyword_word, keyword_words, row_size, row_text, rows_with, snapshot_text, tables_text}
+use Rattle.dv_formats.specs.SnapshotFaults.{AreRecords, AreTables, HasFlagCounts, HasNumbers, IsCurrent, IsInOrder, IsKnown, IsRecord, flags_at, head_of, highest_at, record_at, record_place, records_with, uid_at, version_at, word_at, zeros_from}
 use Rattle.dv_formats.proofs.Texts.{length_filled}
 use Rattle.dv_formats.proofs.Wholes.{AreWords, Fields, are_words, each_of_all, fields_of, whole}
 

@@ -1,4 +1,5 @@
--- Why bytes are no snapshot. The tests stand in their order, and each is made of a text that passed those before it.
+-- Why bytes are no snapshot. The tests stand in their order, and each is made of a text that
+-- passed those before it.
 use Rattle.std.specs.Prelude.{◌≡◌, ◌⊎◌, ℕ, zero, suc, ◌+◌, ◌-◌, ◌*◌, ◌^◌, ◌<◌, ◌≤◌, not, List, [], ◌∷◌, ◌++◌, length, take, drop, map, flat_map, replicate, slice_index, slice_get, count_by, All, AllPairs, ◌≢◌, Option, None, IfSome, IsSomeAnd, get_or, nat_eq, bit_and, if◌then◌else◌}
 use Rattle.std.specs.Int.{w32, w64, from_le_bytes}
 use Rattle.std.specs.List.{range_with_len}
@@ -12,7 +13,8 @@ use Rattle.dv_model.specs.Mailboxes.{AreExtensions, last_modseq}
 use Rattle.dv_model.specs.Names.{IsName}
 use Rattle.dv_formats.specs.Snapshots.{AreBytes, HasFieldsOf, IsSnapshot, current_text, extension_text, keyword_text, row_size, row_text}
 
--- what a text fails: its length in bytes, the byte of its version, the number of a check, or the place of a record
+-- what is wrong with a text: its length in bytes, the byte of its version, the number of a check,
+-- or the place of a record
 pub data SnapshotFault : Type 0 where
   Short : ℕ → SnapshotFault
   Version : ℕ → SnapshotFault
@@ -32,6 +34,10 @@ version_at b = slice_index b 1
 -- the highest modification sequence, which version 1 lacks
 abbrev pub highest_at : List ℕ → ℕ
 highest_at b = if nat_eq (version_at b) 1 then 1 else from_le_bytes w64 (take 8 (drop 68 b))
+
+-- the place of the log that it names
+abbrev pub mark_at : List ℕ → Mark
+mark_at b = record { file_seq = word_at 36 b; offset = word_at 40 b }
 
 -- where the zero bytes at the header's end begin
 abbrev pub zeros_from : List ℕ → ℕ
@@ -60,7 +66,8 @@ uid_before (suc k) b = uid_at k b
 
 -- how many records have the flag
 abbrev pub records_with : ℕ → List ℕ → ℕ
-records_with bit b = count_by (λ flags. not (nat_eq (bit_and flags bit) 0)) (map (λ k. flags_at k b) (range_with_len 0 (word_at 32 b)))
+records_with bit b = count_by (λ flags. not (nat_eq (bit_and flags bit) 0))
+    (map (λ k. flags_at k b) (range_with_len 0 (word_at 32 b)))
 
 -- ---- the tests of the header
 
@@ -73,7 +80,8 @@ pub record IsKnown (b : List ℕ) : Type 0 where
 abbrev pub other_byte : List ℕ → ℕ
 other_byte b =
     if not (nat_eq (slice_index b 0) 201) then slice_index b 0 else
-    (if not (nat_eq (slice_index b 1) 2) then slice_index b 1 else (if not (nat_eq (slice_index b 2) 120) then slice_index b 2 else slice_index b 3))
+    (if not (nat_eq (slice_index b 1) 2) then slice_index b 1 else
+    (if not (nat_eq (slice_index b 2) 120) then slice_index b 2 else slice_index b 3))
 
 -- what has to be zero is, and what may not be isn't
 pub record HasNumbers (b : List ℕ) : Type 0 where
@@ -85,7 +93,8 @@ pub record HasNumbers (b : List ℕ) : Type 0 where
 
 -- ---- the tests of the tables and of what is counted
 
--- names and extensions of a valid mailbox, as many as the header says, whose text ends where it says
+-- names and extensions of a valid mailbox, as many as the header says, whose text ends where the
+-- header says
 pub record AreTables (names : List (List ℕ)) (es : List Extension) (b : List ℕ) : Type 0 where
   pub counted : (length names ≡ word_at 44 b) × (length es ≡ word_at 48 b)
   pub valid : All IsName names × AllPairs (λ x y. x ≢ y) names
@@ -158,23 +167,29 @@ First Passed own fault later = ((Passed → ⊥) × (fault ≡ own)) ⊎ (Passed
 abbrev pub IsOrderFault : SnapshotFault → List ℕ → Type 0
 IsOrderFault fault b = (k : ℕ) × IsFirstUnordered k b × (fault ≡ Order (record_place k b))
 
--- behind the tables: the size of a record, the length of the text, the current extension, the records, the flags' counts
+-- behind the tables: the size of a record, the length of the text, the current extension, the
+-- records, the flags' counts
 abbrev pub IsRowFault : Mailbox → SnapshotFault → List ℕ → Type 0
 IsRowFault m fault b =
     First (word_at 8 b ≡ row_size (version_at b) m) (Counts 3) fault
     (First (length b ≡ word_at 4 b + word_at 8 b * word_at 32 b) (Counts 4) fault
-    (First (HasCurrent m b) (Counts 5) fault (First (HasRecords m b) (Counts 6) fault (First (HasFlagCounts b) (Counts 7) fault (IsOrderFault fault b)))))
+    (First (HasCurrent m b) (Counts 5) fault
+    (First (HasRecords m b) (Counts 6) fault
+    (First (HasFlagCounts b) (Counts 7) fault (IsOrderFault fault b)))))
 
 -- behind the header: no tables are there, or the fault stands behind them
 abbrev pub IsTableFault : SnapshotFault → List ℕ → Type 0
 IsTableFault fault b =
     (((names : List (List ℕ)) (es : List Extension) → AreTables names es b → ⊥) × (fault ≡ Counts 2))
-    ⊎ ((names : List (List ℕ)) × (es : List Extension) × AreTables names es b × IsRowFault (head_of names es b) fault b)
+    ⊎ ((names : List (List ℕ)) × (es : List Extension) × AreTables names es b
+    × IsRowFault (head_of names es b) fault b)
 
 -- the first test that a text doesn't pass
 abbrev pub IsFault : SnapshotFault → List ℕ → Type 0
 IsFault fault b =
-    First (120 ≤ length b) (Short (length b)) fault (First (IsKnown b) (Version (other_byte b)) fault (First (HasNumbers b) (Counts 1) fault (IsTableFault fault b)))
+    First (120 ≤ length b) (Short (length b)) fault
+    (First (IsKnown b) (Version (other_byte b)) fault
+    (First (HasNumbers b) (Counts 1) fault (IsTableFault fault b)))
 
 -- ---- what holds of them
 
@@ -184,7 +199,11 @@ FaultIsOne = (b : List ℕ) (one other : SnapshotFault) → IsFault one b → Is
 
 -- the text of a snapshot has none
 abbrev pub SnapshotHasNoFault : Type 0
-SnapshotHasNoFault = (version : ℕ) (m : Mailbox) (indexid : ℕ) (mark : Mark) (b : List ℕ) (fault : SnapshotFault) → IsSnapshot version m indexid mark b → IsFault fault b → ⊥
+SnapshotHasNoFault =
+    (version : ℕ) (m : Mailbox) (indexid : ℕ) (mark : Mark) (b : List ℕ) (fault : SnapshotFault)
+    → IsSnapshot version m indexid mark b
+    → IsFault fault b
+    → ⊥
 
 -- it can't be that bytes have no fault and are of no snapshot
 abbrev pub FaultOrSnapshot : Type 0

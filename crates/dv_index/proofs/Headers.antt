@@ -1,22 +1,18 @@
 -- The current extension, the order of the records, and the tables, as the code reads them.
-use Rattle.std.proofs.Common.{◌≡◌, ◌⊎◌, inl, inr, ℕ, zero, suc, ◌+◌, ◌-◌, ◌*◌, ◌^◌, ◌<◌, ◌≤◌, List, [], ◌∷◌, ◌++◌, length, take, drop, get_or, All, AllPairs, Option, Some, None, refl, sym, ◌∙◌, ap, subst, arith, length-append}
+use Rattle.std.proofs.Common.{◌≡◌, ◌⊎◌, inl, inr, ℕ, suc, ◌+◌, ◌*◌, ◌^◌, ◌<◌, ◌≤◌, List, ◌++◌, length, take, drop, All, Option, Some, None, refl, sym, ◌∙◌, ap, subst, arith, length-append}
 use Rattle.std.specs.Prelude.{IsSomeAnd, flat_map, slice_get}
-use Rattle.std.specs.Int.{w16, w32, to_le_bytes, from_le_bytes}
+use Rattle.std.specs.Int.{w32, to_le_bytes, from_le_bytes}
 use Rattle.std.proofs.lemmas.Bool.{cases_lt}
-use Rattle.std.proofs.lemmas.List.{append-nil, drop-drop, drop-take, drop_at, length-drop, length-take, take-append-drop, take-take, take_at}
-use Rattle.std.proofs.lemmas.List.Elements.{All-nil}
+use Rattle.std.proofs.lemmas.List.{drop-drop, drop-take, take-append-drop, take-take, take_at}
 use Rattle.std.proofs.lemmas.Nat.{from_le_bytes-to_le_bytes_4}
 use Rattle.std.proofs.lemmas.Option.{get_or_from_slice_get, slice_get_within}
 use Rattle.dv_model.specs.declared.types.Current.{Current}
 use Rattle.dv_model.specs.declared.types.Extension.{Extension}
-use Rattle.dv_model.specs.Mailboxes.{AreExtensions}
-use Rattle.dv_model.specs.Names.{IsName}
-use Rattle.dv_formats.specs.Snapshots.{HasFieldsOf, current_text, extension_text, keyword_text}
-use Rattle.dv_formats.specs.SnapshotFaults.{AreTables, IsCurrent, IsFirstUnordered, IsInOrder, record_at, record_place, uid_at, uid_before, word_at}
+use Rattle.dv_formats.specs.Snapshots.{keyword_text}
+use Rattle.dv_formats.specs.SnapshotFaults.{IsCurrent, IsFirstUnordered, IsInOrder, record_place, uid_at, uid_before, word_at}
 use Rattle.dv_formats.proofs.Passed.{IsBytes, grow, word_there}
-use Rattle.dv_formats.proofs.Texts.{extensions_one, names_one}
-use Rattle.dv_keywords.specs.Tables.{IsTable, IsTableAt}
-use Rattle.dv_index.specs.Reading.{AreNames, AreTexts, IsText}
+use Rattle.dv_keywords.specs.Tables.{IsTableAt}
+use Rattle.dv_index.specs.Reading.{AreNames}
 
 -- ---- the current extension
 

@@ -1,11 +1,11 @@
 -- What reading answers is the one outcome that the bytes have.
-use Rattle.std.proofs.Common.{◌≡◌, ℕ, ◌+◌, ◌^◌, ◌<◌, ◌≤◌, ◌*◌, ◌⊎◌, inl, inr, List, length, get_or, Result, Ok, Err, refl, sym, ◌∙◌, ap, subst, arith, take, drop}
+use Rattle.std.proofs.Common.{◌≡◌, ℕ, ◌+◌, ◌^◌, ◌<◌, ◌≤◌, ◌*◌, ◌⊎◌, inl, inr, List, length, Result, Ok, Err, sym, ◌∙◌, ap, subst, arith}
 use Rattle.std.specs.Prelude.{IfOk}
 use Rattle.dv_model.specs.declared.types.Mailbox.{Mailbox}
 use Rattle.dv_model.specs.declared.types.Mark.{Mark}
 use Rattle.dv_model.specs.declared.types.Row.{Row}
 use Rattle.dv_formats.specs.Snapshots.{IsSnapshot, row_size}
-use Rattle.dv_formats.specs.SnapshotFaults.{AreRecords, AreTables, HasFlagCounts, IsCurrent, IsFault, IsInOrder, IsRowFault, SnapshotFault, head_of, highest_at, version_at, word_at}
+use Rattle.dv_formats.specs.SnapshotFaults.{AreRecords, AreTables, HasFlagCounts, IsCurrent, IsFault, IsInOrder, IsRowFault, SnapshotFault, head_of, version_at, word_at}
 use Rattle.dv_formats.proofs.Faults.{fault_one}
 use Rattle.dv_formats.proofs.Outcomes.{no_fault}
 use Rattle.dv_formats.proofs.Passed.{IsBytes, count_of, passed_is_snapshot, word_small}
@@ -73,8 +73,8 @@ row_fault m b header tables is f fault = inr (header.long, inr (header.known, in
 
 -- ---- behind the tables
 
-pub few_rows_read : (m : Mailbox) (rows : List Row) (b : List ℕ) → IsBytes b → AreRecords m rows b → length rows < 2 ^ 32
-few_rows_read m rows b fits are = omega (arith, are.counted, word_small 32 b fits)
+pub few_rows : (m : Mailbox) (rows : List Row) (b : List ℕ) → IsBytes b → AreRecords m rows b → length rows < 2 ^ 32
+few_rows m rows b fits are = omega (arith, are.counted, word_small 32 b fits)
 
 pub counts_back : (m : Mailbox) (rows : List Row) (b : List ℕ) → AreRecords m rows b → HasFlagCounts b → HasCountsOf rows b
 counts_back m rows b are counts = (counts.0 ∙ count_of m rows b are 8, counts.1 ∙ count_of m rows b are 4)

@@ -1,5 +1,5 @@
 -- A row's parts are read one behind another.
-use Rattle.std.proofs.Common.{◌≡◌, ℕ, suc, ◌+◌, ◌<◌, ◌≤◌, List, [], ◌∷◌, ◌++◌, length, take, drop, get_or, refl, sym, ◌∙◌, ap, subst, arith, length-append, append_assoc}
+use Rattle.std.proofs.Common.{◌≡◌, ℕ, ◌+◌, ◌<◌, ◌≤◌, List, [], ◌∷◌, ◌++◌, length, take, drop, get_or, refl, sym, ◌∙◌, ap, subst, arith, length-append, append_assoc}
 use Rattle.std.specs.Prelude.{flat_map, map, sum_by}
 use Rattle.std.proofs.lemmas.List.{append-nil, drop_all, drop_more, flat_map_more, map_push, nil_from_length, take_all, take_more}
 use Rattle.std.proofs.lemmas.List.Sums.{sum_by-cons}

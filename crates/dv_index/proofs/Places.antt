@@ -1,11 +1,11 @@
 -- The places of a row's keywords are read from bits.
-use Rattle.std.proofs.Common.{◌≡◌, ◌≢◌, ◌⊎◌, inl, inr, ℕ, zero, suc, ◌+◌, ◌-◌, ◌*◌, ◌/◌, ◌%◌, ◌^◌, ◌<◌, ◌≤◌, List, [], ◌∷◌, ◌++◌, length, take, drop, get_or, All, refl, sym, ◌∙◌, ap, subst, arith}
+use Rattle.std.proofs.Common.{◌≡◌, ◌⊎◌, inl, inr, ℕ, zero, suc, ◌+◌, ◌*◌, ◌/◌, ◌%◌, ◌^◌, ◌<◌, ◌≤◌, List, [], ◌∷◌, ◌++◌, length, take, drop, get_or, All, refl, sym, ◌∙◌, ap, subst, arith}
 use Rattle.std.specs.Prelude.{flat_map}
 use Rattle.std.specs.Int.{w32, to_le_bytes, from_le_bytes}
 use Rattle.std.specs.List.{AllByRecursion, range_with_len}
 use Rattle.std.specs.List.Sorted.{IsStrictlyIncreasing}
 use Rattle.std.proofs.lemmas.Bool.{cases_lt, cases_order}
-use Rattle.std.proofs.lemmas.List.{append-nil, drop-drop, drop_all, get_or_append_left, get_or_at, length_push, take-append-drop}
+use Rattle.std.proofs.lemmas.List.{drop-drop, drop_all, get_or_append_left, get_or_at, length_push, take-append-drop}
 use Rattle.std.proofs.lemmas.List.Elements.{All-push}
 use Rattle.std.proofs.lemmas.List.FromFn.{get_or-range_with_len, length-range_with_len}
 use Rattle.std.proofs.lemmas.List.Sums.{sum_by_push}
@@ -13,7 +13,7 @@ use Rattle.std.proofs.lemmas.Nat.{from_le_bytes-to_le_bytes_4, mod-pow-add, pow_
 use Rattle.std.proofs.Math.Nat.{div-eq_of_lt, lt-div-mul-add, mod-eq_of_lt}
 use Rattle.dv_formats.specs.Snapshots.{keyword_bits, keyword_word, keyword_words}
 use Rattle.dv_formats.specs.SnapshotFaults.{word_at}
-use Rattle.dv_formats.proofs.Bits.{Rise, bit_of, lowest, word_below, word_fits}
+use Rattle.dv_formats.proofs.Bits.{bit_of, lowest, word_below, word_fits}
 use Rattle.dv_formats.proofs.Passed.{IsBytes, word_small, word_there}
 use Rattle.dv_formats.proofs.Passing.{record_of}
 use Rattle.dv_formats.proofs.Wholes.{below_of, rise_of}
@@ -69,7 +69,6 @@ set_step bits places k is set = record {
   where
     own : keyword_word (places ++ k ∷ []) (k / 32) ≡ word_at (4 * (k / 32)) bits % 2 ^ lowest (k / 32) (k + 1)
     own =
-        let w = word_at (4 * (k / 32)) bits in
         let more = sum_by_push (bit_of (k / 32)) places k in
         let step = own_step (word_at (4 * (k / 32)) bits) k in
         let before = is.each (k / 32) in

@@ -1,17 +1,16 @@
 -- Records are read into rows.
-use Rattle.std.proofs.Common.{◌≡◌, ◌⊎◌, inl, inr, ℕ, zero, suc, ◌+◌, ◌-◌, ◌*◌, ◌^◌, ◌<◌, ◌≤◌, cond, List, [], ◌∷◌, ◌++◌, length, take, drop, get_or, All, refl, sym, ◌∙◌, ap, subst, arith, length-append, append_assoc}
-use Rattle.std.specs.Prelude.{flat_map, map, nat_eq, slice_index}
+use Rattle.std.proofs.Common.{◌≡◌, ◌⊎◌, inl, inr, ℕ, suc, ◌+◌, ◌-◌, ◌*◌, ◌<◌, ◌≤◌, cond, List, [], ◌∷◌, ◌++◌, length, take, drop, get_or, sym, ◌∙◌, ap, subst, arith, append_assoc}
+use Rattle.std.specs.Prelude.{flat_map, nat_eq}
 use Rattle.std.specs.Int.{w32, w64, to_le_bytes, from_le_bytes}
 use Rattle.std.proofs.lemmas.Bool.{cases_lt}
 use Rattle.std.proofs.lemmas.List.{drop-drop, drop_at, drop_more, get_or_append_left, get_or_at, length-drop, length-take, length_push, take-append-drop, take_at}
 use Rattle.std.proofs.lemmas.Nat.{le_bytes_8}
 use Rattle.dv_model.specs.declared.types.Mailbox.{Mailbox}
 use Rattle.dv_model.specs.declared.types.Row.{Row}
-use Rattle.dv_formats.specs.Snapshots.{filled, keyword_bits, keyword_words, modseq_text, row_size, row_text}
-use Rattle.dv_formats.specs.SnapshotFaults.{AreRecords, HasRecords, IsRecord, record_at, record_place, version_at, word_at}
+use Rattle.dv_formats.specs.Snapshots.{filled, keyword_bits, keyword_words, modseq_text}
+use Rattle.dv_formats.specs.SnapshotFaults.{HasRecords, IsRecord, record_at, record_place, version_at, word_at}
 use Rattle.dv_formats.proofs.Passing.{length_words, no_row, which_version}
 use Rattle.dv_formats.proofs.Passed.{IsBytes, grow, part_bytes, word_small, word_there}
-use Rattle.dv_formats.proofs.Texts.{parts_one}
 use Rattle.dv_index.specs.Reading.{AreParts, ArePlaces, HasModseq}
 
 -- ---- the modification sequence

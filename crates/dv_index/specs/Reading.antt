@@ -1,14 +1,13 @@
 -- What a reader of a snapshot answers.
-use Rattle.std.specs.Prelude.{◌≡◌, ◌≢◌, ℕ, ◌+◌, ◌-◌, ◌*◌, ◌/◌, ◌%◌, ◌^◌, ◌<◌, ◌≤◌, List, [], ◌∷◌, ◌++◌, length, drop, map, flat_map, replicate, count_by, not, nat_eq, bit_and, slice_index, take, All, AllPairs, codes, Result, Ok, Err, ⊤, None, get_or, if◌then◌else◌}
+use Rattle.std.specs.Prelude.{◌≡◌, ◌≢◌, ℕ, ◌-◌, ◌*◌, ◌/◌, ◌%◌, ◌^◌, ◌<◌, ◌≤◌, List, [], ◌++◌, length, drop, map, flat_map, replicate, count_by, not, nat_eq, bit_and, take, All, AllPairs, codes, Result, Ok, Err, ⊤, if◌then◌else◌}
 use Rattle.std.specs.Int.{w64, to_le_bytes}
 use Rattle.std.specs.List.Sorted.{IsStrictlyIncreasing}
 use Rattle.dv_model.specs.declared.types.Extension.{Extension}
 use Rattle.dv_model.specs.declared.types.Mailbox.{Mailbox}
-use Rattle.dv_model.specs.declared.types.Mark.{Mark}
 use Rattle.dv_model.specs.declared.types.Row.{Row}
 use Rattle.dv_model.specs.Names.{IsName}
-use Rattle.dv_formats.specs.Snapshots.{HasFieldsOf, IsSnapshot, extension_text, filled, keyword_bits, keyword_text, row_size}
-use Rattle.dv_formats.specs.SnapshotFaults.{AreTables, HasFlagCounts, HasNumbers, IsCurrent, IsInOrder, IsKnown, IsRecord, SnapshotFault, head_of, record_at, version_at, word_at, zeros_from}
+use Rattle.dv_formats.specs.Snapshots.{HasFieldsOf, IsSnapshot, extension_text, filled, keyword_bits, keyword_text}
+use Rattle.dv_formats.specs.SnapshotFaults.{AreTables, HasFlagCounts, HasNumbers, IsCurrent, IsInOrder, IsKnown, IsRecord, SnapshotFault, head_of, mark_at, record_at, version_at, word_at, zeros_from}
 use Rattle.dv_formats.specs.SnapshotFaults as faults
 use Rattle.dv_index.specs.declared.fault.IndexEnd.{IndexEnd}
 use Rattle.dv_index.specs.declared.fault.IndexEnd.TheVariants.{Fault, NoMemory}
@@ -106,11 +105,8 @@ pub record HasModseq (version highest modseq : ℕ) (rest record_text : List ℕ
 -- the header counts these rows that have the flags Seen and Deleted
 abbrev pub HasCountsOf : List Row → List ℕ → Type 0
 HasCountsOf rows b =
-    (word_at 60 b ≡ count_by (λ row. not (nat_eq (bit_and row.flags 8) 0)) rows) × (word_at 64 b ≡ count_by (λ row. not (nat_eq (bit_and row.flags 4) 0)) rows)
-
--- the place of the log that a text names
-abbrev pub mark_at : List ℕ → Mark
-mark_at b = record { file_seq = word_at 36 b; offset = word_at 40 b }
+    (word_at 60 b ≡ count_by (λ row. not (nat_eq (bit_and row.flags 8) 0)) rows)
+    × (word_at 64 b ≡ count_by (λ row. not (nat_eq (bit_and row.flags 4) 0)) rows)
 
 -- the text is of this mailbox
 abbrev pub IsTextOf : Mailbox → List ℕ → Type 0

@@ -66,8 +66,10 @@ fn read_rows(alloc: Global, b: &[u8], head: Mailbox) -> Result<Mailbox, IndexEnd
 // The mailbox of the header and the tables, yet without its rows and its current extension.
 fn read_head(alloc: Global, b: &[u8]) -> Result<Mailbox, IndexEnd>
     requires header { HasHeader b.now }
-    ensures found { IfOk result (λ m. AreTables m.keywords m.extensions b.now × (m ≡ head_of m.keywords m.extensions b.now)) }
-    ensures check { OnCheck result 2 ((names : List (List ℕ)) (es : List Extension) → AreTables names es b.now → ⊥) }
+    ensures found { IfOk result (λ m. AreTables m.keywords m.extensions b.now
+        × (m ≡ head_of m.keywords m.extensions b.now)) }
+    ensures check { OnCheck result 2
+        ((names : List (List ℕ)) (es : List Extension) → AreTables names es b.now → ⊥) }
 {
     let (keywords, extensions) = read_tables(alloc, b)?;
     Ok(Mailbox {
@@ -106,11 +108,13 @@ pub fn read(alloc: Global, b: &[u8]) -> Result<(Mailbox, u32, Mark, u8), IndexEn
     ensures found { IfOk result (λ x. IsSnapshot x.3 x.0 x.1 x.2 b.now) }
     // What stands there is read.
     ensures only { (version : ℕ) (m : Mailbox) (indexid : ℕ) (mark : Mark)
-        → IsSnapshot version m indexid mark b.now → Answers result (Ok (m, indexid, mark, version)) }
+        → IsSnapshot version m indexid mark b.now
+        → Answers result (Ok (m, indexid, mark, version)) }
     // A fault is the first that the text has.
     ensures fault { OnFault result (λ f. IsFault f b.now) }
     // The first fault that the text has comes.
-    ensures every { (f : IndexFault) → IsFault (fault_of f) b.now → Answers result (Err (end.Fault f)) }
+    ensures every { (f : IndexFault) → IsFault (fault_of f) b.now
+        → Answers result (Err (end.Fault f)) }
 {
     read_text(alloc, b)
 }

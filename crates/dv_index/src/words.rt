@@ -64,8 +64,12 @@ pub fn are_zero(bytes: &[u8]) -> bool
 /// So many bytes at the front, and what follows them and the zero bytes up to a multiple of four.
 pub fn split_filled(size: usize, b: &[u8]) -> Option<(&[u8], &[u8])>
     requires { size < 2 ^ 32 }
-    ensures some { IfSome result (λ x. (length x.0.now ≡ size) × (b.now ≡ filled x.0.now ++ x.1.now)) }
-    ensures none { IfNone result ((text rest : List ℕ) → length text ≡ size → b.now ≡ filled text ++ rest → ⊥) }
+    ensures some { IfSome result (λ x.
+        (length x.0.now ≡ size) × (b.now ≡ filled x.0.now ++ x.1.now)) }
+    ensures none { IfNone result ((text rest : List ℕ)
+        → length text ≡ size
+        → b.now ≡ filled text ++ rest
+        → ⊥) }
 {
     let end = size + padding(size);
     if b.len() < end {

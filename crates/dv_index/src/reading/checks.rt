@@ -22,7 +22,8 @@ pub fn has_row_size(b: &[u8], head: &Mailbox) -> bool
 /// Whether the text is as long as its header says.
 pub fn has_length(b: &[u8]) -> bool
     requires { 120 ≤ length b.now }
-    ensures { IsTrue result ↔ (length b.now ≡ word_at 4 b.now + word_at 8 b.now * word_at 32 b.now) }
+    ensures { IsTrue result
+        ↔ (length b.now ≡ word_at 4 b.now + word_at 8 b.now * word_at 32 b.now) }
 {
     let rows = u64::from(u32_at(b, 8)) * u64::from(u32_at(b, 32));
     b.len() as u64 == u64::from(u32_at(b, 4)) + rows
@@ -34,7 +35,8 @@ pub fn read_current(b: &[u8], extensions: &[Extension]) -> Option<Option<Current
     requires few { length extensions.now ≤ 16 }
     requires short { All (λ e. e.record_size < 2 ^ 16) extensions.now }
     ensures some { IfSome result (λ current. IsCurrent extensions.now current b.now) }
-    ensures none { IfNone result ((current : Option Current) → IsCurrent extensions.now current b.now → ⊥) }
+    ensures none { IfNone result
+        ((current : Option Current) → IsCurrent extensions.now current b.now → ⊥) }
 {
     let place = u32_at(b, 52);
     let size = u32_at(b, 56);

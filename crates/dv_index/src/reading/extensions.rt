@@ -14,7 +14,10 @@ use std::alloc::Global;
 // The extension whose text begins these bytes, and what follows it.
 fn read_extension(alloc: Global, b: &[u8]) -> Result<(Extension, &[u8]), IndexEnd>
     ensures found { IfOk result (λ x. IsText x.0 × (b.now ≡ extension_text x.0 ++ x.1.now)) }
-    ensures check { OnCheck result 2 ((e : Extension) (rest : List ℕ) → IsText e → b.now ≡ extension_text e ++ rest → ⊥) }
+    ensures check { OnCheck result 2 ((e : Extension) (rest : List ℕ)
+        → IsText e
+        → b.now ≡ extension_text e ++ rest
+        → ⊥) }
 {
     if b.len() < 16 {
         return Err(failed(2));

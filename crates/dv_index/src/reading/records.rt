@@ -20,7 +20,9 @@ fn read_modseq(version: u8, highest: u64, bytes: &[u8]) -> Option<(u64, &[u8])>
     requires highest { 1 ≤ highest }
     requires long { 8 * version ≤ length bytes.now }
     ensures some { IfSome result (λ x. HasModseq version highest x.0 x.1.now bytes.now) }
-    ensures none { IfNone result ((modseq : ℕ) (rest : List ℕ) → HasModseq version highest modseq rest bytes.now → ⊥) }
+    ensures none { IfNone result ((modseq : ℕ) (rest : List ℕ)
+        → HasModseq version highest modseq rest bytes.now
+        → ⊥) }
 {
     if version == 1 {
         let (_, rest) = bytes.split_at(8);

@@ -14,7 +14,8 @@ use std::alloc::Global;
 // The keywords whose text begins these bytes, so many, and what follows it.
 fn read_names(alloc: Global, count: u32, b: &[u8]) -> Result<(List<Bytes>, &[u8]), IndexEnd>
     ensures found { IfOk result (λ x. AreNames count x.0 x.1.now b.now) }
-    ensures check { OnCheck result 2 ((names : List (List ℕ)) (rest : List ℕ) → AreNames count names rest b.now → ⊥) }
+    ensures check { OnCheck result 2
+        ((names : List (List ℕ)) (rest : List ℕ) → AreNames count names rest b.now → ⊥) }
 {
     match Table::from_bytes(alloc, b, count) {
         Ok((table, size)) => {
@@ -31,7 +32,8 @@ fn read_names(alloc: Global, count: u32, b: &[u8]) -> Result<(List<Bytes>, &[u8]
 pub fn read_tables(alloc: Global, b: &[u8]) -> Result<(List<Bytes>, List<Extension>), IndexEnd>
     requires { 120 ≤ length b.now }
     ensures found { IfOk result (λ x. AreTables x.0 x.1 b.now) }
-    ensures check { OnCheck result 2 ((names : List (List ℕ)) (es : List Extension) → AreTables names es b.now → ⊥) }
+    ensures check { OnCheck result 2
+        ((names : List (List ℕ)) (es : List Extension) → AreTables names es b.now → ⊥) }
 {
     let size = u32_at(b, 4) as usize;
     let count = u32_at(b, 48);

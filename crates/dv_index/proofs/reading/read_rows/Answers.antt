@@ -1,15 +1,11 @@
-use Rattle.std.proofs.Common.{◌≡◌, inl, inr, ℕ, ◌<◌, ◌^◌, List, length, arith, refl, rules, subst, sym, ◌∙◌}
+use Rattle.std.proofs.Common.{inl, inr, ◌<◌, ◌^◌, List, length, arith, refl, subst, sym}
 use Rattle.std.proofs.lemmas.Bool.{both_ways}
 use Rattle.std.proofs.lemmas.Result.{err_from_is_err_and}
-use Rattle.dv_model.specs.declared.types.Extension.{Extension}
-use Rattle.dv_model.specs.declared.types.Mailbox.{Mailbox}
 use Rattle.dv_model.specs.declared.types.Row.{Row}
-use Rattle.dv_formats.specs.Snapshots.{row_size}
-use Rattle.dv_formats.specs.SnapshotFaults.{AreRecords, IsCurrent, IsInOrder, IsRowFault, version_at, word_at}
-use Rattle.dv_formats.proofs.Passed.{IsBytes}
+use Rattle.dv_formats.specs.SnapshotFaults.{IsCurrent, IsRowFault}
 use Rattle.dv_index.specs.Reading.{HasCountsOf}
 use Rattle.dv_index.proofs.Ends.{check_fault}
-use Rattle.dv_index.proofs.Outcomes.{counts_back, counts_of, few_rows_read, long_enough, read_of, shaped_of}
+use Rattle.dv_index.proofs.Outcomes.{counts_back, counts_of, few_rows, long_enough, read_of, shaped_of}
 use Rattle.dv_index.proofs.reading.read_rows.Goals as goal
 
 pub has_row_size-requires-clause-shaped : goal.has_row_size-requires-clause-shaped
@@ -42,7 +38,7 @@ returns-in_err-rows-clause-fault c =
 
 pub has_flag_counts-requires-clause-few : goal.has_flag_counts-requires-clause-few
 has_flag_counts-requires-clause-few c =
-    subst (λ (rows : List Row). length rows < 2 ^ 32) (sym c.as_slice-2.ensures) (few_rows_read c.args.head c.in_ok-rows.rows c.args.b.now (λ i. let fits = c.type_inv.b i in omega (arith, fits)) c.in_ok-rows.ensures.found)
+    subst (λ (rows : List Row). length rows < 2 ^ 32) (sym c.as_slice-2.ensures) (few_rows c.args.head c.in_ok-rows.rows c.args.b.now (λ i. let fits = c.type_inv.b i in omega (arith, fits)) c.in_ok-rows.ensures.found)
 
 pub returns-then-not-has_flag_counts-clause-fault :
     goal.returns-then-not-has_flag_counts-clause-fault

@@ -1,6 +1,6 @@
-use Rattle.std.proofs.Common.{◌≡◌, ◌⊎◌, inl, inr, ◌+◌, ◌*◌, ◌<◌, ◌≤◌, length, ap, arith, refl, rules, sym, ◌∙◌, take, drop}
+use Rattle.std.proofs.Common.{◌≡◌, ◌⊎◌, inl, inr, ◌<◌, ◌≤◌, ap, arith, sym, ◌∙◌, take, drop}
 use Rattle.std.specs.Int.{w32, from_le_bytes}
-use Rattle.dv_formats.specs.SnapshotFaults.{Order, record_place, uid_at, word_at}
+use Rattle.dv_formats.specs.SnapshotFaults.{Order, uid_at, word_at}
 use Rattle.dv_index.proofs.Headers.{next_before, next_place, ordered, uid_there, unordered}
 use Rattle.dv_index.proofs.Records.{room}
 use Rattle.dv_index.proofs.reading.checks.first_unordered.Goals.{then-uid-before-via-then-uid-before, then-uid-before-via-else-uid-before+then-next_uid-uid}

@@ -1,8 +1,6 @@
-use Rattle.std.proofs.Common.{◌≡◌, ◌≤◌, ◌+◌, ◌-◌, ◌<◌, length, get_or, ap, arith, sym, ◌∙◌}
-use Rattle.std.specs.Prelude.{slice_get}
+use Rattle.std.proofs.Common.{◌-◌, get_or, ap, arith, sym, ◌∙◌}
 use Rattle.std.proofs.lemmas.Option.{get_or_from_slice_get, slice_get-get_or, slice_get_within}
 use Rattle.dv_model.specs.declared.types.Extension.{Extension}
-use Rattle.dv_formats.specs.SnapshotFaults.{word_at}
 use Rattle.dv_index.proofs.Headers.{current_words, no_current, some_current}
 use Rattle.dv_index.proofs.reading.checks.read_current.Goals as goal
 
@@ -34,7 +32,6 @@ overflow_cast-size c = omega (arith, c.index-extensions-extension.element_fits, 
 
 pub returns-clause-some : goal.returns-clause-some
 returns-clause-some c =
-    let place = c.u32_at-place.result - 1 in
     let entry = get_or c.args.extensions.now (c.u32_at-place.result - 1) c.index-extensions-extension.result in
     some_current c.args.extensions.now c.args.b.now (record { extension = c.u32_at-place.result - 1; size = c.u32_at-size.result }) entry (λ i. let fits = c.type_inv.b i in omega (arith, fits)) (omega arith)
     (omega (arith, c.u32_at-place.ensures, c.if-place-eq0.false)) c.u32_at-size.ensures (slice_get-get_or c.args.extensions.now (c.u32_at-place.result - 1) c.index-extensions-extension.result c.if-extension-extensions.false) (omega (arith, c.if-size-from.false, c.from.ensures))

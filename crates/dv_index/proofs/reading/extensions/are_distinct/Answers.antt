@@ -2,7 +2,7 @@ use Rattle.std.proofs.Common.{◌≡◌, ◌≢◌, All, AllPairs, List, take, a
 use Rattle.std.proofs.lemmas.Bool.{both_ways}
 use Rattle.std.proofs.lemmas.List.{take_all}
 use Rattle.dv_model.specs.declared.types.Extension.{Extension}
-use Rattle.dv_index.proofs.Distinct.{Differ, one_more, doubled}
+use Rattle.dv_index.proofs.Distinct.{one_more, doubled}
 use Rattle.dv_index.proofs.reading.extensions.are_distinct.Goals as goal
 
 pub returns-then-not-is_new : goal.returns-then-not-is_new

@@ -1,8 +1,7 @@
-use Rattle.std.proofs.Common.{◌≡◌, ◌∙◌, ◌++◌, length, take, drop, ap, arith, refl, rules, sym}
+use Rattle.std.proofs.Common.{◌≡◌, ◌∙◌, ◌++◌, length, take, drop, ap, arith, refl, sym}
 use Rattle.std.specs.Int.{w16, from_le_bytes}
 use Rattle.dv_model.specs.declared.types.Extension.{Extension}
 use Rattle.dv_formats.specs.Snapshots.{filled}
-use Rattle.dv_formats.specs.SnapshotFaults.{word_at}
 use Rattle.dv_index.proofs.Extensions.{HasExtension, header_next, text_header, text_is}
 use Rattle.dv_index.proofs.reading.extensions.read_extension.Goals as goal
 

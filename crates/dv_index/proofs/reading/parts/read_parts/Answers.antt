@@ -1,5 +1,4 @@
-use Rattle.std.proofs.Common.{◌≡◌, [], ◌∷◌, ◌++◌, ◌∙◌, ap, length, arith, refl, rules, subst, sym}
-use Rattle.dv_formats.specs.Snapshots.{filled}
+use Rattle.std.proofs.Common.{◌≡◌, [], ◌∷◌, ◌++◌, ◌∙◌, ap, length, arith, refl}
 use Rattle.dv_index.proofs.Parts.{no_part, parts_more}
 use Rattle.dv_index.proofs.reading.parts.read_parts.Goals as goal
 

@@ -1,4 +1,4 @@
-use Rattle.std.proofs.Common.{◌≡◌, ◌≤◌, length, arith, rules, sym}
+use Rattle.std.proofs.Common.{◌≤◌, length, arith}
 use Rattle.dv_formats.proofs.Passing.{which_version}
 use Rattle.dv_index.proofs.Records.{modseq_one, modseq_two}
 use Rattle.dv_index.proofs.reading.records.read_modseq.Goals as goal

@@ -1,7 +1,7 @@
-use Rattle.std.proofs.Common.{◌≡◌, ◌<◌, ◌≤◌, ◌+◌, ◌∷◌, [], ◌++◌, length, take, drop, ap, arith, rules, subst, sym, ◌∙◌, length-drop}
+use Rattle.std.proofs.Common.{◌<◌, ◌+◌, length, ap, arith, subst, sym, ◌∙◌, length-drop}
 use Rattle.std.proofs.lemmas.List.{length_push}
 use Rattle.std.proofs.lemmas.Result.{err_from_is_err_and}
-use Rattle.dv_formats.specs.SnapshotFaults.{IsRecord, record_at, record_place, version_at, word_at}
+use Rattle.dv_formats.specs.SnapshotFaults.{IsRecord, version_at, word_at}
 use Rattle.dv_index.proofs.Ends.{check_weaker}
 use Rattle.dv_index.proofs.Headers.{next_place}
 use Rattle.dv_index.proofs.Records.{no_records, record_is, records_more, room}
@@ -31,7 +31,6 @@ returns-in_err-read_record-clause-check c =
 pub loop-preserved : goal.loop-preserved
 loop-preserved c =
     let here = record_is c.loop.counter c.loop.at c.u32_at-size.result c.args.b.now c.split_at.result.1.now c.split_at-in-loop.result.0.now c.loop.invariant.place c.u32_at-size.ensures c.split_at.ensures.back c.split_at-in-loop.ensures.front in
-    let row = c.in_ok-read_record.field-0 in
     record {
       place = next_place c.loop.counter c.args.b.now c.loop.at c.u32_at-size.result c.loop.invariant.place c.u32_at-size.ensures;
       counted = ap length c.in_ok-push.ensures.ok ∙ length_push c.loop.rows c.in_ok-read_record.field-0 ∙ ap (λ n. n + 1) c.loop.invariant.counted;

@@ -1,8 +1,8 @@
-use Rattle.std.proofs.Common.{◌≡◌, ◌^◌, ◌<◌, ℕ, List, length, arith, refl, rules, sym}
+use Rattle.std.proofs.Common.{◌^◌, ◌<◌, ℕ, List, length, arith, refl}
 use Rattle.std.specs.List.{flat_map}
 use Rattle.dv_formats.specs.Snapshots.{keyword_text}
 use Rattle.dv_keywords.specs.Tables.{IsTableAt}
-use Rattle.dv_index.proofs.Headers.{names_found, table_of}
+use Rattle.dv_index.proofs.Headers.{table_of}
 use Rattle.dv_index.proofs.reading.tables.read_names.Goals as goal
 
 pub returns-in-Err-Bad-clause-check : goal.returns-in-Err-Bad-clause-check

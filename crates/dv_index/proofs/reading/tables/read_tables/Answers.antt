@@ -1,9 +1,9 @@
-use Rattle.std.proofs.Common.{◌≡◌, ◌∙◌, ap, drop, arith, refl, rules, sym, subst}
+use Rattle.std.proofs.Common.{◌∙◌, ap, drop, arith, refl, sym, subst}
 use Rattle.std.proofs.lemmas.Bool.{both_ways}
 use Rattle.std.proofs.lemmas.Result.{err_from_is_err_and}
 use Rattle.dv_model.specs.Mailboxes.{AreExtensions}
 use Rattle.dv_index.proofs.Ends.{check_weaker}
-use Rattle.dv_index.proofs.TableTexts.{AreTableBytes, no_extensions, not_allowed, tables_found}
+use Rattle.dv_index.proofs.TableTexts.{AreTableBytes, no_extensions, not_allowed}
 use Rattle.dv_index.proofs.reading.tables.read_tables.Goals as goal
 
 pub returns-in_err-extensions-clause-check : goal.returns-in_err-extensions-clause-check
