@@ -296,3 +296,25 @@ fn tables_of_sixteen_kilobytes_are_read_and_written(rt: HostRuntime) -> Result<(
     assert_eq!(rt; again.as_slice(), text.as_slice());
     Ok(())
 }
+
+#[test]
+fn extension_named_keywords_is_refused(rt: HostRuntime) -> Result<(), Fail> {
+    let base = wide_text(rt.alloc(), 0, 16, &[])?;
+    let base = changed(rt.alloc(), base.as_slice(), 4, 144)?;
+    let base = changed(rt.alloc(), base.as_slice(), 48, 1)?;
+    let refused = Some(IndexEnd::Fault(IndexFault::Counts { check: 2 }));
+    let names: [(&[u8], Option<IndexEnd>); 2] = [(b"keywords", refused), (b"keyword2", None)];
+    for (name, end) in names {
+        let mut text = Bytes::new(rt.alloc());
+        for place in 0..base.len() {
+            if place == 120 {
+                text.extend(&[0, 0, 0, 0, 0, 0, 0, 0, 0, 0, 0, 0, 0, 0, 8, 0])?;
+                text.extend(name)?;
+            }
+            text.push(*base.get(place))?;
+        }
+        assert_eq!(rt; text.len(), 160);
+        assert_eq!(rt; fault_of(rt.alloc(), text.as_slice()), end);
+    }
+    Ok(())
+}
