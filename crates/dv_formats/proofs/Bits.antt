@@ -51,41 +51,57 @@ where_is word k =
 -- ---- a word fits 32 bits
 
 -- the lowest bit of the word that numbers from n on can have
-abbrev lowest : ℕ → ℕ → ℕ
+abbrev pub lowest : ℕ → ℕ → ℕ
 lowest word n = min (n - 32 * word) 32
 
-fits_step : (word n k : ℕ) (sum : ℕ) → n ≤ k → sum + 2 ^ lowest word (k + 1) ≤ 2 ^ 32
+fits_step : (top word n k : ℕ) (sum : ℕ) → n ≤ k → sum + 2 ^ lowest word (k + 1) ≤ top
     → IsIn word k ⊎ ((k < 32 * word) ⊎ (32 * word + 32 ≤ k))
-    → bit_of word k + sum + 2 ^ lowest word n ≤ 2 ^ 32
-fits_step word n k sum le others (inl inside) =
+    → bit_of word k + sum + 2 ^ lowest word n ≤ top
+fits_step top word n k sum le others (inl inside) =
     let bit = bit_in word k inside in
     let next : lowest word (k + 1) ≡ (k - 32 * word) + 1 = omega (arith, inside.0, inside.1) in
     let double : 2 ^ ((k - 32 * word) + 1) ≡ 2 ^ (k - 32 * word) * 2 = pow-add 2 (k - 32 * word) 1 in
     let low : 2 ^ lowest word n ≤ 2 ^ (k - 32 * word) = pow_mono (omega (arith, le, inside.0, inside.1)) in
-    let room : sum + 2 ^ (k - 32 * word) * 2 ≤ 2 ^ 32 = subst (λ p. sum + p ≤ 2 ^ 32) (ap (λ j. 2 ^ j) next ∙ double) others in
+    let room : sum + 2 ^ (k - 32 * word) * 2 ≤ top = subst (λ p. sum + p ≤ top) (ap (λ j. 2 ^ j) next ∙ double) others in
     omega (arith, bit, low, room)
-fits_step word n k sum le others (inr (inl below)) =
+fits_step top word n k sum le others (inr (inl below)) =
     let bit = bit_out word k (inl below) in
     let next : lowest word (k + 1) ≡ 0 = omega (arith, below) in
     let first : lowest word n ≡ 0 = omega (arith, below, le) in
-    let room : sum + 1 ≤ 2 ^ 32 = subst (λ j. sum + 2 ^ j ≤ 2 ^ 32) next others in
-    subst (λ j. bit_of word k + sum + 2 ^ j ≤ 2 ^ 32) (sym first) (omega (arith, bit, room))
-fits_step word n k sum le others (inr (inr above)) =
+    let room : sum + 1 ≤ top = subst (λ j. sum + 2 ^ j ≤ top) next others in
+    subst (λ j. bit_of word k + sum + 2 ^ j ≤ top) (sym first) (omega (arith, bit, room))
+fits_step top word n k sum le others (inr (inr above)) =
     let bit = bit_out word k (inr above) in
     let next : lowest word (k + 1) ≡ 32 = omega (arith, above) in
     let most : lowest word n ≤ 32 = omega arith in
     let low : 2 ^ lowest word n ≤ 2 ^ 32 = pow_mono most in
-    let room : sum + 2 ^ 32 ≤ 2 ^ 32 = subst (λ j. sum + 2 ^ j ≤ 2 ^ 32) next others in
+    let room : sum + 2 ^ 32 ≤ top = subst (λ j. sum + 2 ^ j ≤ top) next others in
     omega (arith, bit, low, room)
 
 fits_from : (word n : ℕ) (ks : List ℕ) → Rise n ks
     → keyword_word ks word + 2 ^ lowest word n ≤ 2 ^ 32
 fits_from word n [] rise = let most : lowest word n ≤ 32 = omega arith in let low : 2 ^ lowest word n ≤ 2 ^ 32 = pow_mono most in omega (arith, low)
 fits_from word n (k ∷ ks) rise =
-    subst (λ sum. sum + 2 ^ lowest word n ≤ 2 ^ 32) (sym (word_cons word k ks)) (fits_step word n k (keyword_word ks word) rise.0 (fits_from word (k + 1) ks rise.1) (where_is word k))
+    subst (λ sum. sum + 2 ^ lowest word n ≤ 2 ^ 32) (sym (word_cons word k ks)) (fits_step (2 ^ 32) word n k (keyword_word ks word) rise.0 (fits_from word (k + 1) ks rise.1) (where_is word k))
 
 pub word_fits : (word : ℕ) (ks : List ℕ) → Rise 0 ks → keyword_word ks word < 2 ^ 32
 word_fits word ks rise = let fits = fits_from word 0 ks rise in let some = pow_pos (lowest word 0) in omega (arith, fits, some)
+
+-- ---- a word of keywords below a bound is below its bit
+
+-- numbers below a bound
+abbrev pub Below : ℕ → List ℕ → Type 0
+Below n [] = Unit {0}
+Below n (k ∷ ks) = (k < n) × Below n ks
+
+below_from : (word bound n : ℕ) (ks : List ℕ) → n ≤ bound → Rise n ks → Below bound ks → keyword_word ks word + 2 ^ lowest word n ≤ 2 ^ lowest word bound
+below_from word bound n [] le rise below = let low : 2 ^ lowest word n ≤ 2 ^ lowest word bound = pow_mono (omega (arith, le)) in omega (arith, low)
+below_from word bound n (k ∷ ks) le rise below =
+    subst (λ sum. sum + 2 ^ lowest word n ≤ 2 ^ lowest word bound) (sym (word_cons word k ks))
+    (fits_step (2 ^ lowest word bound) word n k (keyword_word ks word) rise.0 (below_from word bound (k + 1) ks (omega (arith, below.0)) rise.1 below.1) (where_is word k))
+
+pub word_below : (word bound : ℕ) (ks : List ℕ) → Rise 0 ks → Below bound ks → keyword_word ks word < 2 ^ lowest word bound
+word_below word bound ks rise below = let fits = below_from word bound 0 ks (omega arith) rise below in let some = pow_pos (lowest word 0) in omega (arith, fits, some)
 
 -- ---- equal words are of equal keywords
 
@@ -145,11 +161,6 @@ same_tail : (k : ℕ) (ks ks' : List ℕ) (word : ℕ)
     → keyword_word (k ∷ ks) word ≡ keyword_word (k ∷ ks') word
     → keyword_word ks word ≡ keyword_word ks' word
 same_tail k ks ks' word same = let one = word_cons word k ks in let other = word_cons word k ks' in omega (arith, one, other, same)
-
--- numbers below a bound
-abbrev pub Below : ℕ → List ℕ → Type 0
-Below n [] = Unit {0}
-Below n (k ∷ ks) = (k < n) × Below n ks
 
 -- keywords whose words are equal are equal; words stands for all words that they have
 pub bits_one : (words n : ℕ) (ks ks' : List ℕ) → Rise n ks → Rise n ks' → Below (32 * words) ks

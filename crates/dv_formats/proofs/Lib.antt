@@ -5,3 +5,7 @@ pub mod Lines
 pub mod Stops
 pub mod Values
 pub mod Replies
+pub mod Faults
+pub mod Passing
+pub mod Passed
+pub mod Outcomes

@@ -13,7 +13,7 @@ use Rattle.dv_formats.proofs.Bits.{Rise, word_fits}
 
 -- ---- numbers and lists
 
-half_one : (m n : ℕ) → m < 2 ^ 16 → n < 2 ^ 16 → to_le_bytes w16 m ≡ to_le_bytes w16 n → m ≡ n
+pub half_one : (m n : ℕ) → m < 2 ^ 16 → n < 2 ^ 16 → to_le_bytes w16 m ≡ to_le_bytes w16 n → m ≡ n
 half_one m n p q e = sym (from_le_bytes-to_le_bytes_2 m p) ∙ ap (from_le_bytes w16) e ∙ from_le_bytes-to_le_bytes_2 n q
 
 pub word_one : (m n : ℕ) → m < 2 ^ 32 → n < 2 ^ 32 → to_le_bytes w32 m ≡ to_le_bytes w32 n → m ≡ n
@@ -35,7 +35,7 @@ parts_one (x ∷ a) (y ∷ c) b d same e =
     let rest = parts_one a c b d (omega (arith, same)) (ap (drop 1) e) in
     (ap (λ z. z ∷ a) first ∙ ap (λ zs. y ∷ zs) rest.0, rest.1)
 
-length_filled : (a : List ℕ) → length (filled a) ≡ length a + padding (length a)
+pub length_filled : (a : List ℕ) → length (filled a) ≡ length a + padding (length a)
 length_filled a = length-append a (replicate (padding (length a)) 0) ∙ ap (λ n. length a + n) (length-replicate (padding (length a)) 0)
 
 -- texts of one length that are filled up
@@ -75,7 +75,7 @@ pub record IsShortExtension (e : Extension) : Type 0 where
   pub numbers : (e.reset_id < 2 ^ 32) × (e.record_size < 2 ^ 16) × (e.record_align < 2 ^ 16) × (e.flags < 2 ^ 16)
   pub texts : (length e.name < 2 ^ 16) × (length e.header < 2 ^ 32)
 
-extension_one : (x y : Extension) (b b' : List ℕ) → IsShortExtension x → IsShortExtension y
+pub extension_one : (x y : Extension) (b b' : List ℕ) → IsShortExtension x → IsShortExtension y
     → extension_text x ++ b ≡ extension_text y ++ b' → (x ≡ y) × (b ≡ b')
 extension_one x y b b' p q e =
     let reset = word_one x.reset_id y.reset_id p.numbers.0 q.numbers.0 (ap (take 4) e) in

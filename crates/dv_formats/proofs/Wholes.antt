@@ -111,29 +111,29 @@ old_rows_one n sizes (x ∷ xs) (y ∷ ys) b b' same p q r s e =
 -- ---- the header
 
 -- its numbers
-record Fields : Type 0 where
-  header_size : ℕ
-  row_size : ℕ
-  indexid : ℕ
-  validity : ℕ
-  next_uid : ℕ
-  rows : ℕ
-  file_seq : ℕ
-  offset : ℕ
-  names : ℕ
-  extensions : ℕ
-  seen : ℕ
-  deleted : ℕ
+pub record Fields : Type 0 where
+  pub header_size : ℕ
+  pub row_size : ℕ
+  pub indexid : ℕ
+  pub validity : ℕ
+  pub next_uid : ℕ
+  pub rows : ℕ
+  pub file_seq : ℕ
+  pub offset : ℕ
+  pub names : ℕ
+  pub extensions : ℕ
+  pub seen : ℕ
+  pub deleted : ℕ
 
-record AreWords (f : Fields) : Type 0 where
-  ids : (f.indexid < 2 ^ 32) × (f.validity < 2 ^ 32) × (f.next_uid < 2 ^ 32)
-  place : (f.file_seq < 2 ^ 32) × (f.offset < 2 ^ 32)
-  counts : (f.rows < 2 ^ 32) × (f.names < 2 ^ 32) × (f.extensions < 2 ^ 32)
+pub record AreWords (f : Fields) : Type 0 where
+  pub ids : (f.indexid < 2 ^ 32) × (f.validity < 2 ^ 32) × (f.next_uid < 2 ^ 32)
+  pub place : (f.file_seq < 2 ^ 32) × (f.offset < 2 ^ 32)
+  pub counts : (f.rows < 2 ^ 32) × (f.names < 2 ^ 32) × (f.extensions < 2 ^ 32)
 
-abbrev IsShortCurrent : Option Current → Type 0
+abbrev pub IsShortCurrent : Option Current → Type 0
 IsShortCurrent c = IfSome c (λ current. (current.extension + 1 < 2 ^ 32) × (current.size < 2 ^ 32))
 
-abbrev whole : ℕ → Fields → Option Current → List ℕ → List ℕ → List ℕ → List ℕ
+abbrev pub whole : ℕ → Fields → Option Current → List ℕ → List ℕ → List ℕ → List ℕ
 whole version f c highest tables rows =
     (201 ∷ version ∷ to_le_bytes w16 120
     ++ to_le_bytes w32 f.header_size ++ to_le_bytes w32 f.row_size ++ to_le_bytes w32 0
@@ -236,7 +236,7 @@ current_of : (es : List Extension) (c : Option Current) → length es ≤ 16
 current_of es None le short there = tt
 current_of es (Some c) le short there = let both = short_current es c.extension c.size short there in (omega (arith, both.0, le), omega (arith, both.1))
 
-extensions_of : (es : List Extension) → All HasFieldsOf es
+pub extensions_of : (es : List Extension) → All HasFieldsOf es
     → All (λ e. (1 ≤ length e.name) × (length e.name ≤ 255) × (e.name ≡ codes "keywords" → ⊥)) es
     → All (λ e. length e.header ≤ 65536) es → AllByRecursion IsShortExtension es
 extensions_of [] fields names headers = tt
@@ -261,7 +261,7 @@ row_of_valid m valid row is = record {
   parts = is.parts;
 }
 
-abbrev fields_of : ℕ → Mailbox → ℕ → Mark → Fields
+abbrev pub fields_of : ℕ → Mailbox → ℕ → Mark → Fields
 fields_of version m indexid mark = record {
   header_size = 120 + length (tables_text m);
   row_size = row_size version m;
@@ -287,10 +287,10 @@ module _ (version : ℕ) (m : Mailbox) (indexid : ℕ) (mark : Mark) (b : List �
   short_rows : AllByRecursion (IsShortRow (length m.keywords) (sizes_of m)) m.rows
   short_rows = each_of_all (IsRowOf m) (IsShortRow (length m.keywords) (sizes_of m)) (row_of_valid m is.valid) m.rows is.valid.rows
 
-  small_current : IsShortCurrent m.current
+  pub small_current : IsShortCurrent m.current
   small_current = current_of m.extensions m.current is.valid.extensions.count (each_of_all HasFieldsOf (λ e. e.record_size < 2 ^ 16) (λ e h. h.numbers.1) m.extensions is.fits.extensions) is.valid.current
 
-  are_words : AreWords (fields_of version m indexid mark)
+  pub are_words : AreWords (fields_of version m indexid mark)
   are_words =
       let rows = few 0 m.next_uid m.rows (omega arith) (rise_of (map (λ row. row.uid) m.rows) is.valid.rising) (each_of_all (IsRowOf m) (λ row. row.uid < m.next_uid) (λ row h. h.uid.1) m.rows is.valid.rows) in
       let names = names_in_tables m.keywords in

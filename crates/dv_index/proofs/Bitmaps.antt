@@ -21,10 +21,10 @@ pub record AreWords (places : List ℕ) (done count : ℕ) (words : List ℕ) : 
   pub size : length words ≡ count
   pub each : (word : ℕ) → word < count → get_or words word 0 ≡ keyword_word (take done places) word
 
-own_bit : (k : ℕ) → bit_of (k / 32) k ≡ 2 ^ (k % 32)
+pub own_bit : (k : ℕ) → bit_of (k / 32) k ≡ 2 ^ (k % 32)
 own_bit k = let test : nat_eq (k / 32) (k / 32) ≡ true = grind (arith, nat_tests) in ap (λ b. cond b (2 ^ (k % 32)) 0) test
 
-other_bit : (word k : ℕ) → (k / 32 ≡ word → ⊥) → bit_of word k ≡ 0
+pub other_bit : (word k : ℕ) → (k / 32 ≡ word → ⊥) → bit_of word k ≡ 0
 other_bit word k other = let test : nat_eq (k / 32) word ≡ false = grind (arith, nat_tests, other) in ap (λ b. cond b (2 ^ (k % 32)) 0) test
 
 -- a bit that isn't set yet has room

@@ -1,4 +1,13 @@
 pub mod Bitmaps
+pub mod Places
+pub mod Distinct
+pub mod TableTexts
+pub mod Outcomes
+pub mod Headers
+pub mod Records
+pub mod Ends
+pub mod Parts
+pub mod Extensions
 pub mod Counts
 pub mod Texts
 pub mod Firsts

@@ -9,12 +9,12 @@ use crate::words::{padding, write_words};
 use dv_model::{Bytes, Current, Extension, Mailbox, Mark, NoMemory, Row};
 
 // The flag bits that the header counts.
-const DELETED: u8 = 0x04;
+pub const DELETED: u8 = 0x04;
 
-const SEEN: u8 = 0x08;
+pub const SEEN: u8 = 0x08;
 
-// How many of these rows have a flag.
-fn count_with(bit: u8, rows: &[Row]) -> u32
+/// How many of these rows have a flag.
+pub fn count_with(bit: u8, rows: &[Row]) -> u32
     requires { length rows.now < 2 ^ 32 }
     ensures { result ≡ count_by (λ row. not (nat_eq (bit_and row.flags bit) 0)) rows.now }
 {

@@ -19,7 +19,8 @@ pub fn keyword_words(names: usize) -> usize
 pub fn words_of(alloc: Global, count: usize, places: &[u32]) -> Result<Vec<u32>, AllocError>
     requires rising { IsStrictlyIncreasing places.now }
     requires below { All (λ k. k < 32 * count) places.now }
-    ensures { IfOk result (λ words. words.items ≡ map (keyword_word places.now) (range_with_len 0 count)) }
+    ensures { IfOk result (λ words.
+        words.items ≡ map (keyword_word places.now) (range_with_len 0 count)) }
 {
     let mut words = vec![in alloc; 0; count]?;
     for place in places {

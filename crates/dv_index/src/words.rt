@@ -1,4 +1,4 @@
-ghost use Rattle.std.specs.Prelude.{◌≡◌, ◌^◌, ◌<◌, ◌++◌, All, flat_map, OnOk};
+ghost use Rattle.std.specs.Prelude.{◌≡◌, ◌↔◌, ◌^◌, ◌<◌, ◌++◌, ℕ, All, List, flat_map, length, replicate, IfNone, IfSome, IsTrue, OnOk};
 ghost use Rattle.std.specs.Int.{w16, w32, to_le_bytes};
 ghost use Rattle.dv_model.specs.Spelling.{padding};
 ghost use Rattle.dv_formats.specs.Snapshots.{AreBytes, filled};
@@ -52,4 +52,33 @@ pub fn write_filled(bytes: &[u8], out: &mut Bytes) -> Result<(), NoMemory>
     out.extend(bytes)?;
     out.extend(zeros)?;
     Ok(())
+}
+
+/// Whether all bytes are zero.
+pub fn are_zero(bytes: &[u8]) -> bool
+    ensures { IsTrue result ↔ (bytes.now ≡ replicate (length bytes.now) 0) }
+{
+    bytes.iter().all(|byte| *byte == 0)
+}
+
+/// So many bytes at the front, and what follows them and the zero bytes up to a multiple of four.
+pub fn split_filled(size: usize, b: &[u8]) -> Option<(&[u8], &[u8])>
+    requires { size < 2 ^ 32 }
+    ensures some { IfSome result (λ x.
+        (length x.0.now ≡ size) × (b.now ≡ filled x.0.now ++ x.1.now)) }
+    ensures none { IfNone result ((text rest : List ℕ)
+        → length text ≡ size
+        → b.now ≡ filled text ++ rest
+        → ⊥) }
+{
+    let end = size + padding(size);
+    if b.len() < end {
+        return None;
+    }
+    let (front, rest) = b.split_at(end);
+    let (text, zeros) = front.split_at(size);
+    if !are_zero(zeros) {
+        return None;
+    }
+    Some((text, rest))
 }
