@@ -22,29 +22,29 @@ use Rattle.dv_model.specs.Views.{View, Known, unknown, with_number, heard, all_h
 
 -- ---- tests and lists
 
-false_is_not_true : {A : Type 0} → false ≡ true → A
+pub false_is_not_true : {A : Type 0} → false ≡ true → A
 false_is_not_true e = absurd cc
 
-reverse_first : {X : Type 0} (x : X) (xs : List X) → reverse (x ∷ xs) ≡ reverse xs ++ x ∷ []
+pub reverse_first : {X : Type 0} (x : X) (xs : List X) → reverse (x ∷ xs) ≡ reverse xs ++ x ∷ []
 reverse_first x xs = reverse-append (x ∷ []) xs
 
-not_not : (b : Bool) → not (not b) ≡ b
+pub not_not : (b : Bool) → not (not b) ≡ b
 not_not true = refl
 not_not false = refl
 
-filter_same : {X : Type 0} (p q : X → Bool) (xs : List X) → AllByRecursion (λ x. p x ≡ q x) xs → filter p xs ≡ filter q xs
+pub filter_same : {X : Type 0} (p q : X → Bool) (xs : List X) → AllByRecursion (λ x. p x ≡ q x) xs → filter p xs ≡ filter q xs
 filter_same p q [] same = refl
 filter_same p q (x ∷ xs) same = ap (λ b. cond b (x ∷ filter p xs) (filter p xs)) same.0 ∙ ap (λ ys. cond (q x) (x ∷ ys) ys) (filter_same p q xs same.1)
 
-filter_none : {X : Type 0} (xs : List X) → filter (λ x. false) xs ≡ []
+pub filter_none : {X : Type 0} (xs : List X) → filter (λ x. false) xs ≡ []
 filter_none [] = refl
 filter_none (x ∷ xs) = filter_none xs
 
-each_of_all : {X : Type 0} (P : X → Type 0) (xs : List X) → All P xs → AllByRecursion P xs
+pub each_of_all : {X : Type 0} (P : X → Type 0) (xs : List X) → All P xs → AllByRecursion P xs
 each_of_all P [] all = tt
 each_of_all P (x ∷ xs) all = (All-head P x xs all, each_of_all P xs (All-tail P x xs all))
 
-each_weaker : {X : Type 0} (P Q : X → Type 0) → ((x : X) → P x → Q x) → (xs : List X) → AllByRecursion P xs → AllByRecursion Q xs
+pub each_weaker : {X : Type 0} (P Q : X → Type 0) → ((x : X) → P x → Q x) → (xs : List X) → AllByRecursion P xs → AllByRecursion Q xs
 each_weaker P Q weaker [] each = tt
 each_weaker P Q weaker (x ∷ xs) each = (weaker x each.0, each_weaker P Q weaker xs each.1)
 
@@ -141,11 +141,11 @@ module _ (m : Mailbox) (p : Shown → Bool) where
 -- ---- rows in rising order
 
 -- the UIDs rise, from n on
-abbrev Above : ℕ → List Shown → Type 0
+abbrev pub Above : ℕ → List Shown → Type 0
 Above n [] = Unit {0}
 Above n (s ∷ rows) = (n ≤ s.uid) × Above (s.uid + 1) rows
 
-above_lower : (k n : ℕ) (rows : List Shown) → k ≤ n → Above n rows → Above k rows
+pub above_lower : (k n : ℕ) (rows : List Shown) → k ≤ n → Above n rows → Above k rows
 above_lower k n [] le above = tt
 above_lower k n (s ∷ rows) le above = (omega (arith, above.0), above.1)
 
@@ -159,22 +159,22 @@ rising_behind first [] up = tt
 rising_behind first (next ∷ rest) up =
     let step = up 0 (omega arith) in (omega (arith, step), rising_behind next rest (rising_tail first.uid (map (λ t. t.uid) (next ∷ rest)) up))
 
-above_of_rising : (rows : List Shown) → IsStrictlyIncreasing (map (λ s. s.uid) rows) → Above 0 rows
+pub above_of_rising : (rows : List Shown) → IsStrictlyIncreasing (map (λ s. s.uid) rows) → Above 0 rows
 above_of_rising [] rising = tt
 above_of_rising (s ∷ rows) rising = (omega arith, rising_behind s rows rising)
 
 -- the row is one of these
-abbrev IsOne : Shown → List Shown → Type 0
+abbrev pub IsOne : Shown → List Shown → Type 0
 IsOne s [] = ⊥
 IsOne s (x ∷ rows) = (s ≡ x) ⊎ IsOne s rows
 
-one_above : (n : ℕ) (rows : List Shown) (s : Shown) → Above n rows → IsOne s rows → n ≤ s.uid
+pub one_above : (n : ℕ) (rows : List Shown) (s : Shown) → Above n rows → IsOne s rows → n ≤ s.uid
 one_above n [] s above one = absurd one
 one_above n (x ∷ rows) s above (inl e) = let same : s.uid ≡ x.uid = ap (λ (t : Shown). t.uid) e in omega (arith, above.0)
 one_above n (x ∷ rows) s above (inr one) = let low = one_above (x.uid + 1) rows s above.1 one in omega (arith, above.0)
 
 -- no two have one UID
-only_one : (n : ℕ) (rows : List Shown) (s t : Shown) → Above n rows → IsOne s rows → IsOne t rows → s.uid ≡ t.uid → s ≡ t
+pub only_one : (n : ℕ) (rows : List Shown) (s t : Shown) → Above n rows → IsOne s rows → IsOne t rows → s.uid ≡ t.uid → s ≡ t
 only_one n [] s t above one other same = absurd one
 only_one n (x ∷ rows) s t above (inl e) (inl f) same = e ∙ sym f
 only_one n (x ∷ rows) s t above (inl e) (inr other) same =
@@ -189,26 +189,26 @@ found_here : (test : Shown → Bool) (x : Shown) (rows : List Shown) → (list_a
 found_here test x rows later true is e = (x, inl refl, is)
 found_here test x rows later false is e = let one = later e in (one.0, inr one.1, one.2)
 
-found_one : (test : Shown → Bool) (rows : List Shown) → list_any test rows ≡ true → (s : Shown) × IsOne s rows × (test s ≡ true)
+pub found_one : (test : Shown → Bool) (rows : List Shown) → list_any test rows ≡ true → (s : Shown) × IsOne s rows × (test s ≡ true)
 found_one test [] e = false_is_not_true e
 found_one test (x ∷ rows) e = found_here test x rows (found_one test rows) (test x) refl e
 
 -- ---- which rows stay, and which are new
 
-abbrev shows : List Shown → ℕ → Bool
+abbrev pub shows : List Shown → ℕ → Bool
 shows rows uid = list_any (λ s. nat_eq s.uid uid) rows
 
-not_same : (a b : ℕ) → a < b → nat_eq a b ≡ false
+pub not_same : (a b : ℕ) → a < b → nat_eq a b ≡ false
 not_same a b below = grind (arith, nat_tests)
 
-not_same_back : (a b : ℕ) → b < a → nat_eq a b ≡ false
+pub not_same_back : (a b : ℕ) → b < a → nat_eq a b ≡ false
 not_same_back a b below = grind (arith, nat_tests)
 
-none_shown : (n uid : ℕ) (rows : List Shown) → Above n rows → uid < n → shows rows uid ≡ false
+pub none_shown : (n uid : ℕ) (rows : List Shown) → Above n rows → uid < n → shows rows uid ≡ false
 none_shown n uid [] above below = refl
 none_shown n uid (s ∷ rows) above below = rw (not_same_back s.uid uid (omega (arith, above.0))) (none_shown (s.uid + 1) uid rows above.1 (omega (arith, above.0)))
 
-none_past : (b uid : ℕ) (rows : List Shown) → AllByRecursion (λ s. s.uid < b) rows → b ≤ uid → shows rows uid ≡ false
+pub none_past : (b uid : ℕ) (rows : List Shown) → AllByRecursion (λ s. s.uid < b) rows → b ≤ uid → shows rows uid ≡ false
 none_past b uid [] below le = refl
 none_past b uid (s ∷ rows) below le = let low = below.0 in rw (not_same s.uid uid (omega arith)) (none_past b uid rows below.1 le)
 
@@ -350,16 +350,16 @@ module _ (In : Shown → Type 0) (b : ℕ) where
 
 -- ---- rows that were shown as they are
 
-one_each : (P : Shown → Type 0) (rows : List Shown) (s : Shown) → AllByRecursion P rows → IsOne s rows → P s
+pub one_each : (P : Shown → Type 0) (rows : List Shown) (s : Shown) → AllByRecursion P rows → IsOne s rows → P s
 one_each P [] s each one = absurd one
 one_each P (x ∷ rows) s each (inl e) = subst P (sym e) each.0
 one_each P (x ∷ rows) s each (inr one) = one_each P rows s each.1 one
 
-each_is_one : (rows more : List Shown) → ((s : Shown) → IsOne s rows → IsOne s more) → AllByRecursion (λ s. IsOne s more) rows
+pub each_is_one : (rows more : List Shown) → ((s : Shown) → IsOne s rows → IsOne s more) → AllByRecursion (λ s. IsOne s more) rows
 each_is_one [] more inside = tt
 each_is_one (x ∷ rows) more inside = (inside x (inl refl), each_is_one rows more (λ s one. inside s (inr one)))
 
-get_before : {X : Type 0} (xs more : List X) (k : ℕ) → k < length xs → slice_get (xs ++ more) k ≡ slice_get xs k
+pub get_before : {X : Type 0} (xs more : List X) (k : ℕ) → k < length xs → slice_get (xs ++ more) k ≡ slice_get xs k
 get_before [] more k below = absurd (omega (arith, below))
 get_before (x ∷ xs) more zero below = refl
 get_before (x ∷ xs) more (suc k) below = get_before xs more k (omega (arith, below))
@@ -371,7 +371,7 @@ names_same before m more is (k ∷ places) each =
     ap (λ n. unwrap_or n [] ∷ names_of before places) (sym name) ∙ ap (λ ns. unwrap_or (slice_get m.keywords k) [] ∷ ns) (names_same before m more is places each.1)
 
 -- two rows that look the same have the same UID, flags and keywords
-same_parts : (s t : Shown) → same_row s t ≡ true → (s.uid ≡ t.uid) × (s.flags ≡ t.flags) × (s.keywords ≡ t.keywords)
+pub same_parts : (s t : Shown) → same_row s t ≡ true → (s.uid ≡ t.uid) × (s.flags ≡ t.flags) × (s.keywords ≡ t.keywords)
 same_parts s t e =
     let first = and_first (nat_eq s.uid t.uid && nat_eq s.flags t.flags) (bytes_eq s.keywords t.keywords) e in
     let keywords = (bytes_eq-Decides s.keywords t.keywords).0 (and_second (nat_eq s.uid t.uid && nat_eq s.flags t.flags) (bytes_eq s.keywords t.keywords) e) in
@@ -379,11 +379,11 @@ same_parts s t e =
     let flags_test = and_second (nat_eq s.uid t.uid) (nat_eq s.flags t.flags) first in
     (grind (arith, nat_tests, uid_test), grind (arith, nat_tests, flags_test), keywords)
 
-not_true : (b : Bool) → not b ≡ false → b ≡ true
+pub not_true : (b : Bool) → not b ≡ false → b ≡ true
 not_true true e = refl
 not_true false e = false_is_not_true (sym e)
 
-none_same : (b : ℕ) (s : Shown) (old : List Shown) → AllByRecursion (λ o. o.uid < b) old → b ≤ s.uid → list_any (same_row s) old ≡ false
+pub none_same : (b : ℕ) (s : Shown) (old : List Shown) → AllByRecursion (λ o. o.uid < b) old → b ≤ s.uid → list_any (same_row s) old ≡ false
 none_same b s [] below le = refl
 none_same b s (o ∷ old) below le = let low = below.0 in rw (not_same_back s.uid o.uid (omega arith)) (none_same b s old below.1 le)
 
@@ -466,11 +466,11 @@ module _ (before m : Mailbox) (view : View) (read : IsReadIn before view) (more 
 
 -- ---- both steps
 
-shown_uids : (rows : List Row) → map (λ s. s.uid) (map shown rows) ≡ map (λ row. row.uid) rows
+pub shown_uids : (rows : List Row) → map (λ s. s.uid) (map shown rows) ≡ map (λ row. row.uid) rows
 shown_uids [] = refl
 shown_uids (row ∷ rows) = ap (λ uids. row.uid ∷ uids) (shown_uids rows)
 
-all_shown_rise : (m : Mailbox) → IsStrictlyIncreasing (map (λ row. row.uid) m.rows) → Above 0 (map shown m.rows)
+pub all_shown_rise : (m : Mailbox) → IsStrictlyIncreasing (map (λ row. row.uid) m.rows) → Above 0 (map shown m.rows)
 all_shown_rise m rising = above_of_rising (map shown m.rows) (subst IsStrictlyIncreasing (sym (shown_uids m.rows)) rising)
 
 shown_comes : (view : View) (rows : List Row) → AllByRecursion (λ row. (shows_uid view row.uid ≡ true) ⊎ (view.next_uid ≤ row.uid)) rows → Comes view.next_uid view.rows (map shown rows)
@@ -484,10 +484,10 @@ full_moves before m view follows = record {
 }
 
 -- a row of the view as the mailbox has it now, or as it was shown
-abbrev held_row : Mailbox → Shown → Shown
+abbrev pub held_row : Mailbox → Shown → Shown
 held_row m s = unwrap_or (option_map shown (row_of m s.uid)) s
 
-held_uid : (m : Mailbox) (s : Shown) → (held_row m s).uid ≡ s.uid
+pub held_uid : (m : Mailbox) (s : Shown) → (held_row m s).uid ≡ s.uid
 held_uid m s = by_rows m.rows
   where
     by_test : (row : Row) (rest : Option Row) → (unwrap_or (option_map shown rest) s).uid ≡ s.uid → (b : Bool) → nat_eq row.uid s.uid ≡ b → (unwrap_or (option_map shown (cond b (Some row) rest)) s).uid ≡ s.uid
@@ -498,7 +498,7 @@ held_uid m s = by_rows m.rows
     by_rows [] = refl
     by_rows (row ∷ rows) = by_test row (find (λ r. nat_eq r.uid s.uid) rows) (by_rows rows) (nat_eq row.uid s.uid) refl
 
-held_above : (m : Mailbox) (n b : ℕ) (rows tail : List Shown) → n ≤ b → Above n rows → AllByRecursion (λ s. s.uid < b) rows → Above b tail → Above n (map (held_row m) rows ++ tail)
+pub held_above : (m : Mailbox) (n b : ℕ) (rows tail : List Shown) → n ≤ b → Above n rows → AllByRecursion (λ s. s.uid < b) rows → Above b tail → Above n (map (held_row m) rows ++ tail)
 held_above m n b [] tail le above below behind = above_lower n b tail le behind
 held_above m n b (s ∷ rows) tail le above below behind =
     let low = below.0 in (
@@ -507,10 +507,10 @@ held_above m n b (s ∷ rows) tail le above below behind =
     )
 
 -- the rows from a UID on
-abbrev from_uid : ℕ → List Row → List Row
+abbrev pub from_uid : ℕ → List Row → List Row
 from_uid b rows = filter (λ row. nat_le b row.uid) rows
 
-new_above : (n b : ℕ) (rows : List Row) → Above n (map shown rows) → Above n (map shown (from_uid b rows))
+pub new_above : (n b : ℕ) (rows : List Row) → Above n (map shown rows) → Above n (map shown (from_uid b rows))
 new_above n b [] above = tt
 new_above n b (row ∷ rows) above =
     let others = new_above (row.uid + 1) b rows above.1 in
@@ -519,7 +519,7 @@ new_above n b (row ∷ rows) above =
       | false ↦ above_lower n (row.uid + 1) (map shown (from_uid b rows)) (omega (arith, above.0)) others
     ]
 
-new_from : (b : ℕ) (rows : List Row) → AllByRecursion (λ s. b ≤ s.uid) (map shown (from_uid b rows))
+pub new_from : (b : ℕ) (rows : List Row) → AllByRecursion (λ s. b ≤ s.uid) (map shown (from_uid b rows))
 new_from b [] = tt
 new_from b (row ∷ rows) = by_test (nat_le b row.uid) refl (new_from b rows)
   where
@@ -527,11 +527,11 @@ new_from b (row ∷ rows) = by_test (nat_le b row.uid) refl (new_from b rows)
     by_test true is others = (grind (arith, nat_tests, is), others)
     by_test false is others = others
 
-above_from : (n b : ℕ) (rows : List Shown) → Above n rows → AllByRecursion (λ s. b ≤ s.uid) rows → Above b rows
+pub above_from : (n b : ℕ) (rows : List Shown) → Above n rows → AllByRecursion (λ s. b ≤ s.uid) rows → Above b rows
 above_from n b [] above from = tt
 above_from n b (s ∷ rows) above from = (from.0, above.1)
 
-each_append : {X : Type 0} (P : X → Type 0) (xs ys : List X) → AllByRecursion P xs → AllByRecursion P ys → AllByRecursion P (xs ++ ys)
+pub each_append : {X : Type 0} (P : X → Type 0) (xs ys : List X) → AllByRecursion P xs → AllByRecursion P ys → AllByRecursion P (xs ++ ys)
 each_append P [] ys each others = others
 each_append P (x ∷ xs) ys each others = (each.0, each_append P xs ys each.1 others)
 

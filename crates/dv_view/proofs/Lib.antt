@@ -1,0 +1,4 @@
+pub mod Finding
+pub mod Moving
+pub mod Numbers
+pub mod Rising
