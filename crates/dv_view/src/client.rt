@@ -49,8 +49,10 @@ fn add_unknown(alloc: Global, rows: &mut Vec<Shown>, count: usize)
     requires { vec_len rows.old + count ≤ vec_capacity rows.old }
     ensures { rows.new.items ≡ rows.old.items ++ replicate count (bare_row 0 0) }
 {
-    for _ in 0..count {
+    let mut more = count;
+    while more > 0 {
         rows.push(bare_row(alloc, 0, 0)).unwrap();
+        more -= 1;
     }
 }
 

@@ -4,10 +4,15 @@
 
 mod client;
 mod copies;
+mod laws;
 mod moves;
 mod places;
 mod replies;
 mod view;
 
 pub use client::Client;
+pub use laws::bare_client_has_view;
 pub use view::View;
+
+#[cfg(test)]
+mod tests;

@@ -19,7 +19,8 @@ pub fn add_removals(old: &[Shown], new: &[Shown], said: &mut List<Reply>) -> Res
 {
     let mut number = old.len() as u32;
     while number > 0 {
-        if !shows(new, old[number as usize - 1].uid) {
+        let uid = old[number as usize - 1].uid;
+        if !shows(new, uid) {
             said.push(Reply::Expunge(number))?;
         }
         number -= 1;
@@ -63,7 +64,12 @@ pub fn add_changes(
 }
 
 /// What is said where the old rows become the new ones.
-pub fn said(alloc: Global, names: &Table, old: &[Shown], new: &[Shown]) -> Result<List<Reply>, NoMemory>
+pub fn said(
+    alloc: Global,
+    names: &Table,
+    old: &[Shown],
+    new: &[Shown],
+) -> Result<List<Reply>, NoMemory>
     requires old_rows { AreRising old.now }
     requires new_rows { AreRising new.now }
     ensures { IfOk result (λ replies. replies ≡ said_of names.now old.now new.now) }

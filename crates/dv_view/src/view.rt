@@ -76,7 +76,12 @@ impl View {
         ensures err { OnErr result (self.new ≡ self.old) }
     {
         let rows = moved_rows(self.alloc, live, self.rows.as_slice(), self.next_uid, step)?;
-        let replies = said(self.alloc, live.names(), self.rows.as_slice(), rows.as_slice())?;
+        let replies = said(
+            self.alloc,
+            live.names(),
+            self.rows.as_slice(),
+            rows.as_slice(),
+        )?;
         self.rows = rows;
         self.next_uid = live.next_uid();
         Ok(replies)

@@ -20,10 +20,10 @@ loop-k-preserved c =
     let is : get_or rows k row ≡ row = get_or_from_slice_get rows k row row c.row-row.ensures in
     elim c.if-row-from.branch [
       | then-row-from+in_ok-shown+in_ok-push w ↦
-        let test : nat_le b row.uid ≡ true = grind (arith, nat_tests, w.if-row-from.true) in
-        w.rows-is ∙ w.in_ok-push.ensures.ok ∙ ap (λ (s : Shown). c.loop-k.rows ++ s ∷ []) w.in_ok-shown.ensures ∙ ap (λ (rs : List Shown). rs ++ shown row ∷ []) c.loop-k.invariant
-        ∙ append_assoc c.args.rows.now (map shown (from_uid b (take k rows))) (shown row ∷ []) ∙ ap (λ rs. c.args.rows.now ++ rs) (sym (shown_more b rows k row true less is test))
+          let test : nat_le b row.uid ≡ true = grind (arith, nat_tests, w.if-row-from.true) in
+          w.rows-is ∙ w.in_ok-push.ensures.ok ∙ ap (λ (s : Shown). c.loop-k.rows ++ s ∷ []) w.in_ok-shown.ensures ∙ ap (λ (rs : List Shown). rs ++ shown row ∷ []) c.loop-k.invariant
+          ∙ append_assoc c.args.rows.now (map shown (from_uid b (take k rows))) (shown row ∷ []) ∙ ap (λ rs. c.args.rows.now ++ rs) (sym (shown_more b rows k row true less is test))
       | else-row-from w ↦
-        let test : nat_le b row.uid ≡ false = grind (arith, nat_tests, w.if-row-from.false) in
-        w.rows-is ∙ c.loop-k.invariant ∙ ap (λ rs. c.args.rows.now ++ rs) (sym (shown_more b rows k row false less is test ∙ append-nil (map shown (from_uid b (take k rows)))))
+          let test : nat_le b row.uid ≡ false = grind (arith, nat_tests, w.if-row-from.false) in
+          w.rows-is ∙ c.loop-k.invariant ∙ ap (λ rs. c.args.rows.now ++ rs) (sym (shown_more b rows k row false less is test ∙ append-nil (map shown (from_uid b (take k rows)))))
     ]

@@ -1,4 +1,4 @@
-use Rattle.std.proofs.Common.{◌≡◌, ◌<◌, ◌≤◌, ◌++◌, ◌∷◌, ◌-◌, [], ◌∙◌, true, false, not, length, get_or, take, ap, sym, arith, append-nil}
+use Rattle.std.proofs.Common.{◌≡◌, ◌<◌, ◌≤◌, ◌++◌, ◌∷◌, ◌-◌, [], ◌∙◌, true, false, not, length, get_or, take, ap, sym, arith, append-nil, rules}
 use Rattle.dv_model.specs.declared.types.Shown.{Shown}
 use Rattle.dv_model.specs.declared.types.Reply.TheVariants as reply
 use Rattle.dv_model.proofs.Clients.{shows}
@@ -16,19 +16,19 @@ loop-number-preserved c =
     let some : 0 < k = omega (arith, c.loop-number-test.true) in
     elim c.if-not-shows.branch [
       | then-not-shows+in_ok-push w ↦
-        let here : shows new s.uid ≡ false = cc in
-        let is : shows new (get_or old (k - 1) s).uid ≡ false = ap (shows new) uid ∙ here in
-        record {
-          inside = omega (arith, c.loop-number.invariant.inside);
-          said = ap (λ said. said ++ removals_of new (take (k - 1) old)) (w.said-is ∙ w.in_ok-push.ensures.ok)
-              ∙ sym (removed_more new old k s false some c.loop-number.invariant.inside is c.loop-number.said) ∙ c.loop-number.invariant.said;
-        }
+          let here : shows new s.uid ≡ false = search rules in
+          let is : shows new (get_or old (k - 1) s).uid ≡ false = ap (shows new) uid ∙ here in
+          record {
+            inside = omega (arith, c.loop-number.invariant.inside);
+            said = ap (λ said. said ++ removals_of new (take (k - 1) old)) (w.said-is ∙ w.in_ok-push.ensures.ok)
+                ∙ sym (removed_more new old k s false some c.loop-number.invariant.inside is c.loop-number.said) ∙ c.loop-number.invariant.said;
+          }
       | else-not-shows w ↦
-        let here : shows new s.uid ≡ true = cc in
-        let is : shows new (get_or old (k - 1) s).uid ≡ true = ap (shows new) uid ∙ here in
-        record {
-          inside = omega (arith, c.loop-number.invariant.inside);
-          said = ap (λ said. said ++ removals_of new (take (k - 1) old)) (w.said-is ∙ sym (append-nil c.loop-number.said))
-              ∙ sym (removed_more new old k s true some c.loop-number.invariant.inside is c.loop-number.said) ∙ c.loop-number.invariant.said;
-        }
+          let here : shows new s.uid ≡ true = search rules in
+          let is : shows new (get_or old (k - 1) s).uid ≡ true = ap (shows new) uid ∙ here in
+          record {
+            inside = omega (arith, c.loop-number.invariant.inside);
+            said = ap (λ said. said ++ removals_of new (take (k - 1) old)) (w.said-is ∙ sym (append-nil c.loop-number.said))
+                ∙ sym (removed_more new old k s true some c.loop-number.invariant.inside is c.loop-number.said) ∙ c.loop-number.invariant.said;
+          }
     ]
