@@ -1,5 +1,5 @@
 -- A client without names hears what any client hears.
-use Rattle.std.proofs.Common.{◌≡◌, ℕ, zero, suc, ◌+◌, ◌-◌, List, [], ◌∷◌, ◌++◌, length, map, take, drop, Some, None, refl, sym, ◌∙◌, ap, arith}
+use Rattle.std.proofs.Common.{◌≡◌, ℕ, zero, suc, ◌-◌, List, [], ◌∷◌, ◌++◌, length, map, take, drop, refl, sym, ◌∙◌, ap}
 use Rattle.std.specs.Prelude.{All, fold, replicate, slice_set}
 use Rattle.std.proofs.lemmas.List.{drop-map, length-map, map-append, map-set, take-map}
 use Rattle.std.proofs.lemmas.List.Elements.{All-append, All-drop, All-replicate, All-set, All-take}
@@ -9,7 +9,7 @@ use Rattle.dv_model.specs.declared.types.Reply.TheVariants as reply
 use Rattle.dv_model.specs.declared.types.Shown.{Shown}
 use Rattle.dv_model.specs.declared.types.Value.{Value}
 use Rattle.dv_model.specs.declared.types.Value.TheVariants as value
-use Rattle.dv_model.specs.Views.{Known, View, heard, known_of, known_row, moved, said, unknown, with_number, with_values}
+use Rattle.dv_model.specs.Views.{Known, heard, known_of, known_row, moved, said, unknown, with_number, with_values}
 use Rattle.dv_model.proofs.Clients.{client_has_view}
 use Rattle.dv_view.specs.Laws.{BareClientHasView}
 use Rattle.dv_view.specs.Clients.{bare_row, flags_of, heard_bare, heard_rows, known_bare, nameless, with_flags, with_row}

@@ -1,18 +1,16 @@
 -- Rows by rising UID: how many there can be, and where a UID stands.
-use Rattle.std.proofs.Common.{◌≡◌, ◌≢◌, ◌⊎◌, inl, inr, ℕ, zero, suc, ◌+◌, ◌-◌, ◌^◌, ◌<◌, ◌≤◌, Bool, true, false, cond, not, ◌&&◌, ◌||◌, eqb, ltb, List, [], ◌∷◌, ◌++◌, length, get_or, Option, Some, None, refl, sym, ◌∙◌, ap, subst, arith}
-use Rattle.std.specs.Prelude.{All, map, position, is_some, nat_eq}
-use Rattle.std.specs.List.{list_any, position_or_len, AllByRecursion}
-use Rattle.std.specs.List.Sorted.{IsPartitionedBy, IsPartitionPoint, IsStrictlyIncreasing}
+use Rattle.std.proofs.Common.{◌≡◌, ◌≢◌, ◌⊎◌, inl, inr, ℕ, ◌+◌, ◌-◌, ◌^◌, ◌<◌, ◌≤◌, true, false, cond, eqb, ltb, List, [], ◌∷◌, length, get_or, Some, None, sym, ◌∙◌, ap, subst, arith}
+use Rattle.std.specs.Prelude.{map, position, nat_eq}
+use Rattle.std.specs.List.{position_or_len, AllByRecursion}
+use Rattle.std.specs.List.Sorted.{IsPartitionedBy, IsPartitionPoint}
 use Rattle.std.proofs.lemmas.Bool.{cases_lt, cond-true, cond-false, eq-eqb, le-ltb, lt-ltb, ltb-true, ltb-false, ne_eqb}
 use Rattle.std.proofs.lemmas.List.{get_or-map, length-map}
-use Rattle.std.proofs.lemmas.List.Folds.{list_any_at, list_any_none}
 use Rattle.std.proofs.lemmas.List.Kept.{AllPairs-from_increasing}
 use Rattle.std.proofs.lemmas.List.Sorted.{IsPartitionedBy-ltb}
 use Rattle.std.proofs.lemmas.List.Sums.{position_or_len_is}
 use Rattle.dv_model.specs.declared.types.Shown.{Shown}
-use Rattle.dv_model.specs.Views.{View, same_row}
-use Rattle.dv_model.proofs.Clients.{Above, above_of_rising, each_of_all, IsOne, only_one, found_one, same_parts, shows, false_is_not_true}
-use Rattle.dv_view.specs.Orders.{AreRising, IsOrdered}
+use Rattle.dv_model.proofs.Clients.{Above, above_of_rising, each_of_all}
+use Rattle.dv_view.specs.Orders.{AreRising}
 
 -- ---- how many
 

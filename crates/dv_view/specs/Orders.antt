@@ -1,5 +1,5 @@
 -- The order in which a view has its rows.
-use Rattle.std.specs.Prelude.{ℕ, ◌-◌, ◌^◌, ◌<◌, List, map, All}
+use Rattle.std.specs.Prelude.{◌-◌, ◌^◌, ◌<◌, List, map, All}
 use Rattle.std.specs.List.Sorted.{IsStrictlyIncreasing}
 use Rattle.dv_model.specs.declared.types.Shown.{Shown}
 use Rattle.dv_model.specs.Views.{View}

@@ -1,4 +1,4 @@
-use Rattle.std.proofs.Common.{◌≡◌, ◌+◌, ◌-◌, ◌≤◌, ◌++◌, vec_capacity, vec_len}
+use Rattle.std.proofs.Common.{◌≡◌, ◌+◌, ◌≤◌, ◌++◌, vec_capacity, vec_len}
 use Rattle.std.specs.Prelude.{replicate}
 use Rattle.dv_view.specs.Clients.{bare_row}
 use Rattle.dv_view.proofs.client.add_unknown.Given as goal

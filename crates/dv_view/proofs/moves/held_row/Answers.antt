@@ -1,7 +1,6 @@
-use Rattle.std.proofs.Common.{nat_eq, ◌≡◌, ◌∙◌, sym, ap, Some, None}
-use Rattle.std.specs.Prelude.{IfOk, unwrap_or, option_map}
+use Rattle.std.proofs.Common.{nat_eq, ◌≡◌, ◌∙◌, sym, Some, None}
 use Rattle.dv_model.specs.declared.types.Row.{Row}
-use Rattle.dv_model.specs.Views.{row_of, shown}
+use Rattle.dv_model.specs.Views.{row_of}
 use Rattle.dv_view.proofs.Finding.{found_at, found_nowhere}
 use Rattle.dv_view.proofs.moves.held_row.Goals as goal
 

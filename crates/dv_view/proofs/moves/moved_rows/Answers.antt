@@ -1,5 +1,5 @@
-use Rattle.std.proofs.Common.{◌∙◌, ◌++◌, [], ap, map}
-use Rattle.dv_model.specs.Views.{moved, shown}
+use Rattle.std.proofs.Common.{◌∙◌, ◌++◌, ap, map}
+use Rattle.dv_model.specs.Views.{shown}
 use Rattle.dv_view.proofs.Moving.{from_zero}
 use Rattle.dv_view.proofs.moves.moved_rows.Goals as goal
 

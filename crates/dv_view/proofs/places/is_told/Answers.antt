@@ -1,5 +1,4 @@
-use Rattle.std.proofs.Common.{nat_eq, ◌≡◌, ◌<◌, ◌∙◌, sym, ap, not, false, length, arith}
-use Rattle.std.specs.List.{list_any}
+use Rattle.std.proofs.Common.{nat_eq, ◌≡◌, ◌∙◌, sym, ap, not, arith}
 use Rattle.std.proofs.lemmas.Bool.Decides.{nat_tests}
 use Rattle.std.proofs.lemmas.List.Quantifiers.{position-Some}
 use Rattle.dv_model.specs.declared.types.Shown.{Shown}

@@ -1,5 +1,4 @@
-use Rattle.std.proofs.Common.{nat_eq, ◌∙◌, sym, ap}
-use Rattle.std.specs.Prelude.{is_some}
+use Rattle.std.proofs.Common.{nat_eq, ◌∙◌, sym}
 use Rattle.dv_model.specs.declared.types.Shown.{Shown}
 use Rattle.dv_view.proofs.Finding.{any_by_place}
 use Rattle.dv_view.proofs.places.shows.Goals as goal

@@ -1,6 +1,5 @@
-use Rattle.std.proofs.Common.{◌≡◌, ◌<◌, ◌≤◌, ◌++◌, ◌∷◌, ◌-◌, [], ◌∙◌, true, false, not, length, get_or, take, ap, sym, arith, append-nil, rules}
+use Rattle.std.proofs.Common.{◌≡◌, ◌<◌, ◌++◌, ◌-◌, ◌∙◌, true, false, get_or, take, ap, sym, arith, append-nil, rules}
 use Rattle.dv_model.specs.declared.types.Shown.{Shown}
-use Rattle.dv_model.specs.declared.types.Reply.TheVariants as reply
 use Rattle.dv_model.proofs.Clients.{shows}
 use Rattle.dv_view.proofs.Numbers.{removed_more, removals_of}
 use Rattle.dv_view.proofs.replies.add_removals.Goals as goal

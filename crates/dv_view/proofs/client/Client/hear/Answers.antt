@@ -1,7 +1,7 @@
-use Rattle.std.proofs.Common.{◌≡◌, ◌∙◌, ap, subst, sym, List, map, []}
+use Rattle.std.proofs.Common.{◌≡◌, ◌∙◌, ap, subst, sym, map, []}
 use Rattle.std.specs.Prelude.{All}
 use Rattle.dv_model.specs.declared.types.Shown.{Shown}
-use Rattle.dv_view.specs.Clients.{heard_bare, heard_rows, known_bare}
+use Rattle.dv_view.specs.Clients.{heard_rows, known_bare}
 use Rattle.dv_view.proofs.Listening.{heard_is, stays_bare}
 use Rattle.dv_view.proofs.client.Client.hear.Goals as goal
 

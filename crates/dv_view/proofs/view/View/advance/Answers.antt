@@ -1,7 +1,6 @@
-use Rattle.std.proofs.Common.{◌≡◌, ◌∙◌, ap, subst, sym, List}
-use Rattle.dv_model.specs.declared.types.Shown.{Shown}
+use Rattle.std.proofs.Common.{◌≡◌, ◌∙◌, ap, subst}
 use Rattle.dv_model.specs.Views.{View, moved}
-use Rattle.dv_view.specs.Orders.{AreRising, IsOrdered}
+use Rattle.dv_view.specs.Orders.{IsOrdered}
 use Rattle.dv_view.proofs.Moving.{moved_is, ordered_after, rising_after, said_is}
 use Rattle.dv_view.proofs.view.View.advance.Goals as goal
 
