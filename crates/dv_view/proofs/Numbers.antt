@@ -8,7 +8,7 @@ use Rattle.dv_model.specs.declared.types.Reply.TheVariants as reply
 use Rattle.dv_model.specs.declared.types.Shown.{Shown}
 use Rattle.dv_model.specs.Views.{numbers, same_row}
 use Rattle.dv_model.proofs.Clients.{shows}
-use Rattle.dv_view.specs.Tells.{fetch_of}
+use Rattle.dv_view.specs.Tells.{changes_of, fetch_of, removals_of}
 
 pub numbers-append : (test : Shown → Bool) (k : ℕ) (xs ys : List Shown) → numbers test k (xs ++ ys) ≡ numbers test k xs ++ numbers test (k + length xs) ys
 numbers-append test k [] ys = ap (λ n. numbers test n ys) (omega arith)
@@ -23,10 +23,6 @@ numbers-append test k (x ∷ xs) ys =
     by_test false others = others
 
 -- ---- EXPUNGE
-
--- one for each of these rows that isn't among the new ones, from the last one on
-abbrev pub removals_of : List Shown → List Shown → List Reply
-removals_of new old = map (λ row. reply.Expunge row.0) (reverse (numbers (λ s. not (shows new s.uid)) 1 old))
 
 abbrev expunged : Bool → ℕ → List Reply
 expunged left n = cond left (reply.Expunge n ∷ []) []
@@ -54,10 +50,6 @@ removed_more new old k d b some inside is said =
     ∙ sym (append_assoc said (expunged (not b) k) (removals_of new (take (k - 1) old)))
 
 -- ---- FETCH
-
--- one for each of these rows, numbered from k, that isn't as one of the old ones
-abbrev pub changes_of : List (List ℕ) → List Shown → ℕ → List Shown → List Reply
-changes_of names old k new = map (fetch_of names) (numbers (λ s. not (list_any (same_row s) old)) k new)
 
 -- a row is told of, or is as it was
 pub told_more : (names : List (List ℕ)) (old new : List Shown) (k i : ℕ) (d : Shown) (b : Bool) → i < length new → not (list_any (same_row (get_or new i d)) old) ≡ b

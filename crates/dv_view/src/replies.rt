@@ -1,9 +1,6 @@
-ghost use Rattle.std.specs.Prelude.{◌≡◌, ◌++◌, ◌<◌, ◌^◌, length, map, nat_eq, not, reverse, OnOk, IfOk};
-ghost use Rattle.std.specs.List.{list_any, list_all};
-ghost use Rattle.dv_model.specs.Views.{numbers, same_row};
-ghost use Rattle.dv_model.specs.declared.types.Reply.TheVariants as reply;
+ghost use Rattle.std.specs.Prelude.{◌≡◌, ◌++◌, ◌<◌, ◌^◌, length, OnOk, IfOk};
 ghost use Rattle.dv_view.specs.Orders.{AreRising};
-ghost use Rattle.dv_view.specs.Tells.{fetch_of, said_of};
+ghost use Rattle.dv_view.specs.Tells.{changes_of, removals_of, said_of, shows_all};
 
 use crate::copies::fetch_of;
 use crate::places::{is_told, shows};
@@ -15,7 +12,7 @@ use std::alloc::Global;
 pub fn add_removals(old: &[Shown], new: &[Shown], said: &mut List<Reply>) -> Result<(), NoMemory>
     requires count { length old.now < 2 ^ 32 }
     requires rising { AreRising new.now }
-    ensures { OnOk result (said.new ≡ said.old ++ map (λ row. reply.Expunge row.0) (reverse (numbers (λ s. not (list_any (λ t. nat_eq t.uid s.uid) new.now)) 1 old.now))) }
+    ensures { OnOk result (said.new ≡ said.old ++ removals_of new.now old.now) }
 {
     let mut number = old.len() as u32;
     while number > 0 {
@@ -31,7 +28,7 @@ pub fn add_removals(old: &[Shown], new: &[Shown], said: &mut List<Reply>) -> Res
 /// Whether no row is new.
 pub fn shows_all(old: &[Shown], new: &[Shown]) -> bool
     requires { AreRising old.now }
-    ensures { result ≡ list_all (λ s. list_any (λ t. nat_eq t.uid s.uid) old.now) new.now }
+    ensures { result ≡ shows_all old.now new.now }
 {
     for s in new {
         if !shows(old, s.uid) {
@@ -51,7 +48,7 @@ pub fn add_changes(
 ) -> Result<(), NoMemory>
     requires count { length new.now < 2 ^ 32 }
     requires rising { AreRising old.now }
-    ensures { OnOk result (said.new ≡ said.old ++ map (fetch_of names.now) (numbers (λ s. not (list_any (same_row s) old.now)) 1 new.now)) }
+    ensures { OnOk result (said.new ≡ said.old ++ changes_of names.now old.now 1 new.now) }
 {
     let mut number = 0;
     for s in new {

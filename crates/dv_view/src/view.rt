@@ -69,10 +69,13 @@ impl View {
     /// Moves on to a mailbox, and gives what the session is told of it. After `NoMemory`, which is
     /// the only error, the view is as before. The time is in proportion to the rows of both.
     pub fn advance(&mut self, live: &Live, step: Step) -> Result<List<Reply>, NoMemory>
+        // The mailbox isn't older than the view.
         requires valid { IsValid live.now.mailbox }
         requires later { self.old.next_uid ≤ live.now.mailbox.next_uid }
+        // The view moves by the step, and exactly that is said.
         ensures view { OnOk result (self.new ≡ moved step self.old live.now.mailbox) }
-        ensures said { IfOk result (λ replies. replies ≡ said live.now.mailbox self.old (moved step self.old live.now.mailbox)) }
+        ensures said { IfOk result (λ replies.
+            replies ≡ said live.now.mailbox self.old (moved step self.old live.now.mailbox)) }
         ensures err { OnErr result (self.new ≡ self.old) }
     {
         let rows = moved_rows(self.alloc, live, self.rows.as_slice(), self.next_uid, step)?;

@@ -1,5 +1,5 @@
 use Rattle.std.proofs.Common.{◌≡◌, ◌+◌, ◌++◌, drop}
-use Rattle.dv_view.proofs.Numbers.{changes_of}
+use Rattle.dv_view.specs.Tells.{changes_of}
 use Rattle.dv_view.proofs.replies.add_changes.Given as goal
 
 abbrev pub invariant-loop-s : goal.invariant-loop-s

@@ -1,7 +1,8 @@
 use Rattle.std.proofs.Common.{◌≡◌, ◌<◌, ◌++◌, ◌-◌, ◌∙◌, true, false, get_or, take, ap, sym, arith, append-nil, rules}
 use Rattle.dv_model.specs.declared.types.Shown.{Shown}
 use Rattle.dv_model.proofs.Clients.{shows}
-use Rattle.dv_view.proofs.Numbers.{removed_more, removals_of}
+use Rattle.dv_view.specs.Tells.{removals_of}
+use Rattle.dv_view.proofs.Numbers.{removed_more}
 use Rattle.dv_view.proofs.replies.add_removals.Goals as goal
 use Rattle.dv_view.proofs.replies.add_removals.Goals.{then-not-shows+in_ok-push, else-not-shows}
 

@@ -1,5 +1,5 @@
 use Rattle.std.proofs.Common.{◌≡◌, ◌≤◌, ◌++◌, length, take}
-use Rattle.dv_view.proofs.Numbers.{removals_of}
+use Rattle.dv_view.specs.Tells.{removals_of}
 use Rattle.dv_view.proofs.replies.add_removals.Given as goal
 
 abbrev pub invariant-loop-number : goal.invariant-loop-number
