@@ -22,13 +22,13 @@ use Rattle.dv_model.specs.Views.{View, Known, unknown, with_number, heard, all_h
 
 -- ---- tests and lists
 
-false_is_not_true : {A : Type 0} → false ≡ true → A
+pub false_is_not_true : {A : Type 0} → false ≡ true → A
 false_is_not_true e = absurd cc
 
-reverse_first : {X : Type 0} (x : X) (xs : List X) → reverse (x ∷ xs) ≡ reverse xs ++ x ∷ []
+pub reverse_first : {X : Type 0} (x : X) (xs : List X) → reverse (x ∷ xs) ≡ reverse xs ++ x ∷ []
 reverse_first x xs = reverse-append (x ∷ []) xs
 
-not_not : (b : Bool) → not (not b) ≡ b
+pub not_not : (b : Bool) → not (not b) ≡ b
 not_not true = refl
 not_not false = refl
 
@@ -36,7 +36,7 @@ pub filter_same : {X : Type 0} (p q : X → Bool) (xs : List X) → AllByRecursi
 filter_same p q [] same = refl
 filter_same p q (x ∷ xs) same = ap (λ b. cond b (x ∷ filter p xs) (filter p xs)) same.0 ∙ ap (λ ys. cond (q x) (x ∷ ys) ys) (filter_same p q xs same.1)
 
-filter_none : {X : Type 0} (xs : List X) → filter (λ x. false) xs ≡ []
+pub filter_none : {X : Type 0} (xs : List X) → filter (λ x. false) xs ≡ []
 filter_none [] = refl
 filter_none (x ∷ xs) = filter_none xs
 
@@ -168,13 +168,13 @@ abbrev pub IsOne : Shown → List Shown → Type 0
 IsOne s [] = ⊥
 IsOne s (x ∷ rows) = (s ≡ x) ⊎ IsOne s rows
 
-one_above : (n : ℕ) (rows : List Shown) (s : Shown) → Above n rows → IsOne s rows → n ≤ s.uid
+pub one_above : (n : ℕ) (rows : List Shown) (s : Shown) → Above n rows → IsOne s rows → n ≤ s.uid
 one_above n [] s above one = absurd one
 one_above n (x ∷ rows) s above (inl e) = let same : s.uid ≡ x.uid = ap (λ (t : Shown). t.uid) e in omega (arith, above.0)
 one_above n (x ∷ rows) s above (inr one) = let low = one_above (x.uid + 1) rows s above.1 one in omega (arith, above.0)
 
 -- no two have one UID
-only_one : (n : ℕ) (rows : List Shown) (s t : Shown) → Above n rows → IsOne s rows → IsOne t rows → s.uid ≡ t.uid → s ≡ t
+pub only_one : (n : ℕ) (rows : List Shown) (s t : Shown) → Above n rows → IsOne s rows → IsOne t rows → s.uid ≡ t.uid → s ≡ t
 only_one n [] s t above one other same = absurd one
 only_one n (x ∷ rows) s t above (inl e) (inl f) same = e ∙ sym f
 only_one n (x ∷ rows) s t above (inl e) (inr other) same =
@@ -189,7 +189,7 @@ found_here : (test : Shown → Bool) (x : Shown) (rows : List Shown) → (list_a
 found_here test x rows later true is e = (x, inl refl, is)
 found_here test x rows later false is e = let one = later e in (one.0, inr one.1, one.2)
 
-found_one : (test : Shown → Bool) (rows : List Shown) → list_any test rows ≡ true → (s : Shown) × IsOne s rows × (test s ≡ true)
+pub found_one : (test : Shown → Bool) (rows : List Shown) → list_any test rows ≡ true → (s : Shown) × IsOne s rows × (test s ≡ true)
 found_one test [] e = false_is_not_true e
 found_one test (x ∷ rows) e = found_here test x rows (found_one test rows) (test x) refl e
 
@@ -198,17 +198,17 @@ found_one test (x ∷ rows) e = found_here test x rows (found_one test rows) (te
 abbrev pub shows : List Shown → ℕ → Bool
 shows rows uid = list_any (λ s. nat_eq s.uid uid) rows
 
-not_same : (a b : ℕ) → a < b → nat_eq a b ≡ false
+pub not_same : (a b : ℕ) → a < b → nat_eq a b ≡ false
 not_same a b below = grind (arith, nat_tests)
 
-not_same_back : (a b : ℕ) → b < a → nat_eq a b ≡ false
+pub not_same_back : (a b : ℕ) → b < a → nat_eq a b ≡ false
 not_same_back a b below = grind (arith, nat_tests)
 
-none_shown : (n uid : ℕ) (rows : List Shown) → Above n rows → uid < n → shows rows uid ≡ false
+pub none_shown : (n uid : ℕ) (rows : List Shown) → Above n rows → uid < n → shows rows uid ≡ false
 none_shown n uid [] above below = refl
 none_shown n uid (s ∷ rows) above below = rw (not_same_back s.uid uid (omega (arith, above.0))) (none_shown (s.uid + 1) uid rows above.1 (omega (arith, above.0)))
 
-none_past : (b uid : ℕ) (rows : List Shown) → AllByRecursion (λ s. s.uid < b) rows → b ≤ uid → shows rows uid ≡ false
+pub none_past : (b uid : ℕ) (rows : List Shown) → AllByRecursion (λ s. s.uid < b) rows → b ≤ uid → shows rows uid ≡ false
 none_past b uid [] below le = refl
 none_past b uid (s ∷ rows) below le = let low = below.0 in rw (not_same s.uid uid (omega arith)) (none_past b uid rows below.1 le)
 
@@ -342,7 +342,7 @@ module _ (In : Shown → Type 0) (b : ℕ) where
 
 -- ---- rows that were shown as they are
 
-one_each : (P : Shown → Type 0) (rows : List Shown) (s : Shown) → AllByRecursion P rows → IsOne s rows → P s
+pub one_each : (P : Shown → Type 0) (rows : List Shown) (s : Shown) → AllByRecursion P rows → IsOne s rows → P s
 one_each P [] s each one = absurd one
 one_each P (x ∷ rows) s each (inl e) = subst P (sym e) each.0
 one_each P (x ∷ rows) s each (inr one) = one_each P rows s each.1 one
@@ -351,7 +351,7 @@ pub each_is_one : (rows more : List Shown) → ((s : Shown) → IsOne s rows →
 each_is_one [] more inside = tt
 each_is_one (x ∷ rows) more inside = (inside x (inl refl), each_is_one rows more (λ s one. inside s (inr one)))
 
-get_before : {X : Type 0} (xs more : List X) (k : ℕ) → k < length xs → slice_get (xs ++ more) k ≡ slice_get xs k
+pub get_before : {X : Type 0} (xs more : List X) (k : ℕ) → k < length xs → slice_get (xs ++ more) k ≡ slice_get xs k
 get_before [] more k below = absurd (omega (arith, below))
 get_before (x ∷ xs) more zero below = refl
 get_before (x ∷ xs) more (suc k) below = get_before xs more k (omega (arith, below))
@@ -363,7 +363,7 @@ names_same before m more is (k ∷ places) each =
     ap (λ n. unwrap_or n [] ∷ names_of before places) (sym name) ∙ ap (λ ns. unwrap_or (slice_get m.keywords k) [] ∷ ns) (names_same before m more is places each.1)
 
 -- two rows that look the same have the same UID, flags and keywords
-same_parts : (s t : Shown) → same_row s t ≡ true → (s.uid ≡ t.uid) × (s.flags ≡ t.flags) × (s.keywords ≡ t.keywords)
+pub same_parts : (s t : Shown) → same_row s t ≡ true → (s.uid ≡ t.uid) × (s.flags ≡ t.flags) × (s.keywords ≡ t.keywords)
 same_parts s t e =
     let looks = and_parts (nat_eq s.uid t.uid && nat_eq s.flags t.flags) (bytes_eq s.keywords t.keywords) e in
     let numbers = and_parts (nat_eq s.uid t.uid) (nat_eq s.flags t.flags) looks.0 in
@@ -372,11 +372,11 @@ same_parts s t e =
     let flags_test = numbers.1 in
     (grind (arith, nat_tests, uid_test), grind (arith, nat_tests, flags_test), keywords)
 
-not_true : (b : Bool) → not b ≡ false → b ≡ true
+pub not_true : (b : Bool) → not b ≡ false → b ≡ true
 not_true true e = refl
 not_true false e = false_is_not_true (sym e)
 
-none_same : (b : ℕ) (s : Shown) (old : List Shown) → AllByRecursion (λ o. o.uid < b) old → b ≤ s.uid → list_any (same_row s) old ≡ false
+pub none_same : (b : ℕ) (s : Shown) (old : List Shown) → AllByRecursion (λ o. o.uid < b) old → b ≤ s.uid → list_any (same_row s) old ≡ false
 none_same b s [] below le = refl
 none_same b s (o ∷ old) below le = let low = below.0 in rw (not_same_back s.uid o.uid (omega arith)) (none_same b s old below.1 le)
 
@@ -459,7 +459,7 @@ module _ (before m : Mailbox) (view : View) (read : IsReadIn before view) (more 
 
 -- ---- both steps
 
-shown_uids : (rows : List Row) → map (λ s. s.uid) (map shown rows) ≡ map (λ row. row.uid) rows
+pub shown_uids : (rows : List Row) → map (λ s. s.uid) (map shown rows) ≡ map (λ row. row.uid) rows
 shown_uids [] = refl
 shown_uids (row ∷ rows) = ap (λ uids. row.uid ∷ uids) (shown_uids rows)
 
@@ -491,7 +491,7 @@ held_uid m s = by_rows m.rows
     by_rows [] = refl
     by_rows (row ∷ rows) = by_test row (find (λ r. nat_eq r.uid s.uid) rows) (by_rows rows) (nat_eq row.uid s.uid) refl
 
-held_above : (m : Mailbox) (n b : ℕ) (rows tail : List Shown) → n ≤ b → Above n rows → AllByRecursion (λ s. s.uid < b) rows → Above b tail → Above n (map (held_row m) rows ++ tail)
+pub held_above : (m : Mailbox) (n b : ℕ) (rows tail : List Shown) → n ≤ b → Above n rows → AllByRecursion (λ s. s.uid < b) rows → Above b tail → Above n (map (held_row m) rows ++ tail)
 held_above m n b [] tail le above below behind = above_lower n b tail le behind
 held_above m n b (s ∷ rows) tail le above below behind =
     let low = below.0 in (
@@ -503,7 +503,7 @@ held_above m n b (s ∷ rows) tail le above below behind =
 abbrev pub from_uid : ℕ → List Row → List Row
 from_uid b rows = filter (λ row. nat_le b row.uid) rows
 
-new_above : (n b : ℕ) (rows : List Row) → Above n (map shown rows) → Above n (map shown (from_uid b rows))
+pub new_above : (n b : ℕ) (rows : List Row) → Above n (map shown rows) → Above n (map shown (from_uid b rows))
 new_above n b [] above = tt
 new_above n b (row ∷ rows) above =
     let others = new_above (row.uid + 1) b rows above.1 in
@@ -512,7 +512,7 @@ new_above n b (row ∷ rows) above =
       | false ↦ above_lower n (row.uid + 1) (map shown (from_uid b rows)) (omega (arith, above.0)) others
     ]
 
-new_from : (b : ℕ) (rows : List Row) → AllByRecursion (λ s. b ≤ s.uid) (map shown (from_uid b rows))
+pub new_from : (b : ℕ) (rows : List Row) → AllByRecursion (λ s. b ≤ s.uid) (map shown (from_uid b rows))
 new_from b [] = tt
 new_from b (row ∷ rows) = by_test (nat_le b row.uid) refl (new_from b rows)
   where
@@ -520,11 +520,11 @@ new_from b (row ∷ rows) = by_test (nat_le b row.uid) refl (new_from b rows)
     by_test true is others = (grind (arith, nat_tests, is), others)
     by_test false is others = others
 
-above_from : (n b : ℕ) (rows : List Shown) → Above n rows → AllByRecursion (λ s. b ≤ s.uid) rows → Above b rows
+pub above_from : (n b : ℕ) (rows : List Shown) → Above n rows → AllByRecursion (λ s. b ≤ s.uid) rows → Above b rows
 above_from n b [] above from = tt
 above_from n b (s ∷ rows) above from = (from.0, above.1)
 
-each_append : {X : Type 0} (P : X → Type 0) (xs ys : List X) → AllByRecursion P xs → AllByRecursion P ys → AllByRecursion P (xs ++ ys)
+pub each_append : {X : Type 0} (P : X → Type 0) (xs ys : List X) → AllByRecursion P xs → AllByRecursion P ys → AllByRecursion P (xs ++ ys)
 each_append P [] ys each others = others
 each_append P (x ∷ xs) ys each others = (each.0, each_append P xs ys each.1 others)
 

@@ -1,0 +1,5 @@
+pub mod Finding
+pub mod Listening
+pub mod Moving
+pub mod Numbers
+pub mod Rising

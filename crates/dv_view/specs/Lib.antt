@@ -1,0 +1,4 @@
+pub mod Clients
+pub mod Laws
+pub mod Orders
+pub mod Tells

@@ -1,0 +1,18 @@
+//! What a session was shown of a mailbox, and what it is told when that moves on (RFC 3501,
+//! section 7.4.1).
+#![tactic(auto)]
+
+mod client;
+mod copies;
+mod laws;
+mod moves;
+mod places;
+mod replies;
+mod view;
+
+pub use client::Client;
+pub use laws::bare_client_has_view;
+pub use view::View;
+
+#[cfg(test)]
+mod tests;

@@ -1,0 +1,92 @@
+ghost use Rattle.std.specs.Prelude.{◌≡◌, ◌≤◌, nat_eq, position, IfOk, OnErr, OnOk};
+ghost use Rattle.dv_model.specs.Laws.{IsReadIn, Follows};
+ghost use Rattle.dv_model.specs.Mailboxes.{IsValid};
+ghost use Rattle.dv_model.specs.Views.{all_heard, empty_view, known_of, moved, said};
+ghost use Rattle.dv_model.specs.declared.types.Mailbox.{Mailbox};
+ghost use Rattle.dv_view.specs.Orders.{IsOrdered};
+
+use crate::moves::moved_rows;
+use crate::places::place_of;
+use crate::replies::said;
+use dv_apply::Live;
+use dv_model::{List, NoMemory, Reply, Shown, Step};
+use std::alloc::Global;
+use std::marker::Model;
+
+/// The rows that a session was shown, by message number, and the UIDNEXT up to which it was told.
+#[derive(Drop)]
+pub struct View {
+    alloc: Global,
+    rows: List<Shown>,
+    next_uid: u32,
+}
+
+impl Model for View {
+    ghost use Rattle.dv_model.specs.Views.{View as ShownRows};
+    ghost use Rattle.dv_view.specs.Orders.{IsOrdered};
+
+    ghost Value = { ShownRows };
+
+    ghost view = { λ v. record { rows = v.rows; next_uid = v.next_uid } };
+
+    ghost invariant = { λ v. IsOrdered (record { rows = v.rows; next_uid = v.next_uid }) };
+}
+
+impl View {
+    /// Nothing was shown yet. Takes no memory.
+    pub fn empty(alloc: Global) -> View
+        ensures { result ≡ empty_view }
+    {
+        View {
+            alloc,
+            rows: List::new(alloc),
+            next_uid: 1,
+        }
+    }
+
+    /// The rows: the k-th has message number k, counted from 1.
+    pub fn rows(&self) -> &List<Shown>
+        ensures is { result.now ≡ self.now.rows }
+        ensures ordered { IsOrdered self.now }
+    {
+        &self.rows
+    }
+
+    /// The UIDNEXT up to which the session was told.
+    pub fn next_uid(&self) -> u32
+        ensures { result ≡ self.now.next_uid }
+    {
+        self.next_uid
+    }
+
+    /// The place of the row with this UID, counted from 0, found by halves.
+    pub fn position(&self, uid: u32) -> Option<usize>
+        ensures { result ≡ position (λ s. nat_eq s.uid uid) self.now.rows }
+    {
+        place_of(self.rows.as_slice(), uid)
+    }
+
+    /// Moves on to a mailbox, and gives what the session is told of it. After `NoMemory`, which is
+    /// the only error, the view is as before. The time is in proportion to the rows of both.
+    pub fn advance(&mut self, live: &Live, step: Step) -> Result<List<Reply>, NoMemory>
+        // The mailbox isn't older than the view.
+        requires valid { IsValid live.now.mailbox }
+        requires later { self.old.next_uid ≤ live.now.mailbox.next_uid }
+        // The view moves by the step, and exactly that is said.
+        ensures view { OnOk result (self.new ≡ moved step self.old live.now.mailbox) }
+        ensures said { IfOk result (λ replies.
+            replies ≡ said live.now.mailbox self.old (moved step self.old live.now.mailbox)) }
+        ensures err { OnErr result (self.new ≡ self.old) }
+    {
+        let rows = moved_rows(self.alloc, live, self.rows.as_slice(), self.next_uid, step)?;
+        let replies = said(
+            self.alloc,
+            live.names(),
+            self.rows.as_slice(),
+            rows.as_slice(),
+        )?;
+        self.rows = rows;
+        self.next_uid = live.next_uid();
+        Ok(replies)
+    }
+}
