@@ -181,9 +181,10 @@ fn a_fetch_and_a_removal_are_copied(rt: HostRuntime) -> Result<(), Fail> {
         return Err("another command".into());
     };
     assert!(rt; by_uid && is_all(&set));
-    let is_same =
-        matches!(items.as_slice(), [Item::Modseq, Item::Field(name)] if name.as_slice() == b"Subject".as_slice());
-    assert!(rt; is_same);
+    let [Item::Modseq, Item::Field(name)] = items.as_slice() else {
+        return Err("other items".into());
+    };
+    assert_eq!(rt; name.as_slice(), b"Subject".as_slice());
     let removal = Command::UidRemove { set };
     let copy = removal.copy(rt.alloc())?;
     assert!(rt; matches!(&copy, Command::UidRemove { set } if is_all(set)));

@@ -58,7 +58,8 @@ fn add_unknown(alloc: Global, rows: &mut Vec<Shown>, count: usize)
 
 // Cuts the rows to so many, or fills them up.
 fn resize(alloc: Global, rows: &mut Vec<Shown>, count: u32) -> Result<(), AllocError>
-    ensures ok { OnOk result (rows.new.items ≡ take count rows.old.items ++ replicate (count - length rows.old.items) (bare_row 0 0)) }
+    ensures ok { OnOk result (rows.new.items
+        ≡ take count rows.old.items ++ replicate (count - length rows.old.items) (bare_row 0 0)) }
     ensures err { OnErr result (rows.new.items ≡ rows.old.items) }
 {
     let count = count as usize;
@@ -110,9 +111,11 @@ impl Client {
     /// `NoMemory`, which is the answer to an EXISTS alone, the rows are as before.
     pub fn hear(&mut self, alloc: Global, r: &Reply) -> Result<(), NoMemory>
         // What is known is what any client knows, without names.
-        ensures ok { OnOk result (map known_bare self.new.rows ≡ heard_bare (map known_bare self.old.rows) r.now) }
+        ensures ok { OnOk result (map known_bare self.new.rows
+            ≡ heard_bare (map known_bare self.old.rows) r.now) }
         // Lists of keywords stay empty.
-        ensures keywords { All (λ s. s.keywords ≡ []) self.old.rows → All (λ s. s.keywords ≡ []) self.new.rows }
+        ensures keywords { All (λ s. s.keywords ≡ []) self.old.rows
+            → All (λ s. s.keywords ≡ []) self.new.rows }
         ensures err { OnErr result (self.new.rows ≡ self.old.rows) }
     {
         let mut rows = mem::replace(&mut self.rows, List::new(alloc)).into_vec();

@@ -8,7 +8,8 @@ use std::alloc::Global;
 
 // A row of a view as the mailbox has it now, or as it was shown.
 fn held_row(alloc: Global, live: &Live, s: &Shown) -> Result<Shown, NoMemory>
-    ensures { IfOk result (λ made. made ≡ unwrap_or (option_map shown (row_of live.now.mailbox s.now.uid)) s.now) }
+    ensures { IfOk result (λ made. made
+        ≡ unwrap_or (option_map shown (row_of live.now.mailbox s.now.uid)) s.now) }
 {
     match live.position(s.uid) {
         Some(k) => shown(alloc, live.row(k)),
@@ -17,7 +18,8 @@ fn held_row(alloc: Global, live: &Live, s: &Shown) -> Result<Shown, NoMemory>
 }
 
 fn held_rows(alloc: Global, live: &Live, rows: &[Shown]) -> Result<List<Shown>, NoMemory>
-    ensures { IfOk result (λ made. made ≡ map (λ s. unwrap_or (option_map shown (row_of live.now.mailbox s.uid)) s) rows.now) }
+    ensures { IfOk result (λ made. made
+        ≡ map (λ s. unwrap_or (option_map shown (row_of live.now.mailbox s.uid)) s) rows.now) }
 {
     let mut made = List::new(alloc);
     for s in rows {
@@ -28,7 +30,8 @@ fn held_rows(alloc: Global, live: &Live, rows: &[Shown]) -> Result<List<Shown>, 
 
 // Adds the mailbox's rows from this UID on.
 fn add_rows(alloc: Global, live: &Live, from: u32, rows: &mut List<Shown>) -> Result<(), NoMemory>
-    ensures { OnOk result (rows.new ≡ rows.old ++ map shown (filter (λ row. nat_le from row.uid) live.now.mailbox.rows)) }
+    ensures { OnOk result (rows.new
+        ≡ rows.old ++ map shown (filter (λ row. nat_le from row.uid) live.now.mailbox.rows)) }
 {
     for k in 0..live.count() {
         let row = live.row(k);
@@ -47,7 +50,8 @@ pub fn moved_rows(
     next_uid: u32,
     step: Step,
 ) -> Result<List<Shown>, NoMemory>
-    ensures { IfOk result (λ made. made ≡ (moved step (record { rows = rows.now; next_uid = next_uid }) live.now.mailbox).rows) }
+    ensures { IfOk result (λ made. made
+        ≡ (moved step (record { rows = rows.now; next_uid = next_uid }) live.now.mailbox).rows) }
 {
     match step {
         Step::Held => {
