@@ -44,7 +44,7 @@ impl Live {
         }
     }
 
-    /// This mailbox, with no spare row. `NoMemory` is the answer only where its keywords are too
+    /// This mailbox, with no spare row. `NoMemory` is also the answer where its keywords are too
     /// many to be counted.
     pub fn of(alloc: Global, m: Mailbox) -> Result<Live, NoMemory>
         requires { IsValid m }

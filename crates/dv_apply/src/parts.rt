@@ -62,7 +62,7 @@ pub fn copied(alloc: Global, rows: &Rows) -> Result<Rows, NoMemory>
     ensures { IfOk result (λ made. made.rows ≡ rows.now.rows) }
 {
     let list = listed(alloc, rows)?;
-    Ok(Rows::of(alloc, list))
+    Rows::of(alloc, list)
 }
 
 /// Introduces extensions in turn. After `NoMemory` some may have been introduced.

@@ -63,7 +63,7 @@ fn seen_as(alloc: Global, rows: &Rows) -> Result<Vec<(u32, u8, u32, u64)>, NoMem
 #[test]
 fn rows_are_counted_and_found(rt: HostRuntime) -> Result<(), Fail> {
     let rows = five(rt.alloc())?;
-    let rows = Rows::of(rt.alloc(), rows.into_list());
+    let rows = Rows::of(rt.alloc(), rows.into_list())?;
     assert!(rt; rows.count() == 5);
     assert!(rt; rows.seen() == 2);
     assert!(rt; rows.deleted() == 2);
