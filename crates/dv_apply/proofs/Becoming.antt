@@ -17,7 +17,7 @@ use Rattle.dv_apply.specs.States.{Becomes, HasSpare, IsKept, blank_parts, mailbo
 use Rattle.dv_apply.proofs.Changing.{body_valid}
 use Rattle.dv_apply.proofs.Extending.{stamped_like}
 
-pub becomes : (old new : State) (body : Body) (n : Mailbox) → IsKept old → IsInRange body → after_body (mailbox_of old) body ≡ Some n → n ≡ mailbox_of new → new.spare ≡ spare_after old.spare body → HasSpare new.spare new → Becomes old body new
+pub becomes : (old new : State) (body : Body) (n : Mailbox) → IsKept old → IsInRange body → after_body (mailbox_of old) body ≡ Some n → n ≡ mailbox_of new → new.spare ≡ spare_after old.extensions.extensions old.spare body → HasSpare new.spare new → Becomes old body new
 becomes old new body n kept range e same spare has =
     let after : after_body (mailbox_of old) body ≡ Some (mailbox_of new) = e ∙ ap Some same in
     record {
@@ -28,7 +28,7 @@ becomes old new body n kept range e same spare has =
 
 -- the rows and the modification sequence are other ones
 pub rows_become : (old : State) (body : Body) (after : List Row) (r : rows.Kept) (h : ℕ) → IsKept old → IsInRange body → after_body (mailbox_of old) body ≡ Some (record (with_higher (mailbox_of old)) { rows = after })
-    → r.rows ≡ after → h ≡ (with_higher (mailbox_of old)).highest → spare_after old.spare body ≡ old.spare → old.rows.room ≤ r.room → Becomes old body (record old { rows = r; highest = h })
+    → r.rows ≡ after → h ≡ (with_higher (mailbox_of old)).highest → spare_after old.extensions.extensions old.spare body ≡ old.spare → old.rows.room ≤ r.room → Becomes old body (record old { rows = r; highest = h })
 rows_become old body after r h kept range e is high spare room =
     let m : Mailbox = mailbox_of old in
     becomes old (record old { rows = r; highest = h }) body (record (with_higher m) { rows = after }) kept range e
@@ -39,7 +39,7 @@ rows_become old body after r h kept range e is high spare room =
 -- the table of extensions, the parts of rows and the modification sequence are other ones
 pub table_becomes : (old : State) (body : Body) (after : Table) (r : rows.Kept) (h : ℕ) (made : Mailbox) → IsKept old → IsInRange body
     → after_body (mailbox_of old) body ≡ Some (stamped (mailbox_of old).rows made) → made ≡ with_table after (record (with_higher (mailbox_of old)) { rows = r.rows })
-    → IsAlike old.rows.rows r.rows → blank_parts made.extensions ≡ blank_parts old.extensions.extensions → h ≡ (with_higher (mailbox_of old)).highest → spare_after old.spare body ≡ old.spare → old.rows.room ≤ r.room
+    → IsAlike old.rows.rows r.rows → blank_parts made.extensions ≡ blank_parts old.extensions.extensions → h ≡ (with_higher (mailbox_of old)).highest → spare_after old.extensions.extensions old.spare body ≡ old.spare → old.rows.room ≤ r.room
     → Becomes old body (record old { extensions = after; rows = r; highest = h })
 table_becomes old body after r h made kept range e is alike sizes high spare room =
     let m : Mailbox = mailbox_of old in

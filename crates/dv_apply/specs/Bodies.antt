@@ -1,11 +1,14 @@
 -- What a record does by its body, and which appends are refused.
-use Rattle.std.specs.Prelude.{ℕ, ◌+◌, ◌-◌, ◌^◌, ◌<◌, ◌≤◌, All, ⊤, List, [], ◌∷◌, length, Option, Some, None, option_map, nat_lt, if◌then◌else◌}
+use Rattle.std.specs.Prelude.{◌≡◌, ℕ, ◌+◌, ◌-◌, ◌^◌, ◌<◌, ◌≤◌, All, ⊤, List, [], ◌∷◌, length, Option, Some, None, option_map, nat_lt, if◌then◌else◌, true}
 use Rattle.dv_model.specs.declared.types.Body.{Body}
-use Rattle.dv_model.specs.declared.types.Body.TheVariants.{Append, ExtIntro, ExtReset, KeywordUpdate}
+use Rattle.dv_model.specs.declared.types.Body.TheVariants.{Append, ExtIntro, KeywordUpdate}
+use Rattle.dv_model.specs.declared.types.Extension.{Extension}
 use Rattle.dv_model.specs.declared.types.Mailbox.{Mailbox}
 use Rattle.dv_model.specs.declared.types.NewRow.{NewRow}
 use Rattle.dv_model.specs.Effects.{effect, stamped, with_higher}
 use Rattle.dv_model.specs.Names.{IsName}
+use Rattle.std.specs.List.{list_all}
+use Rattle.dv_ext.specs.Quiet.{is_quiet}
 
 -- the mailbox after a record with this body, unless it is refused; an expunge is no mere request here
 abbrev pub after_body : Mailbox → Body → Option Mailbox
@@ -26,11 +29,11 @@ abbrev pub refused_row : Mailbox → Body → Option Refused
 refused_row m (Append rows) = first_refused m.next_uid rows
 refused_row m body = None
 
--- an append takes as many rows from the spare ones as it has, and an introduction may take all
-abbrev pub spare_after : ℕ → Body → ℕ
-spare_after n (Append rows) = n - length rows
-spare_after n (ExtIntro intros) = 0
-spare_after n body = n
+-- an append takes as many rows from the spare ones as it has; an introduction takes all, unless it leaves the extensions
+abbrev pub spare_after : List Extension → ℕ → Body → ℕ
+spare_after es n (Append rows) = n - length rows
+spare_after es n (ExtIntro intros) = if list_all (is_quiet es) intros then n else 0
+spare_after es n body = n
 
 -- what a record that can be written has: new UIDs are below the largest number, and a keyword is a name
 abbrev pub IsSound : Body → Type 0
@@ -43,10 +46,9 @@ abbrev pub IsOther : Body → Type 0
 IsOther (Append rows) = ⊥
 IsOther body = ⊤
 
--- takes no memory where so many rows are spare
-abbrev pub TakesNone : ℕ → Body → Type 0
-TakesNone n (Append rows) = length rows ≤ n
-TakesNone n (KeywordUpdate how name pairs) = ⊥
-TakesNone n (ExtIntro intros) = ⊥
-TakesNone n (ExtReset reset_id preserve) = ⊥
-TakesNone n body = ⊤
+-- takes no memory, where the mailbox has these extensions and so many rows are spare
+abbrev pub TakesNone : List Extension → ℕ → Body → Type 0
+TakesNone es n (Append rows) = length rows ≤ n
+TakesNone es n (KeywordUpdate how name pairs) = ⊥
+TakesNone es n (ExtIntro intros) = list_all (is_quiet es) intros ≡ true
+TakesNone es n body = ⊤

@@ -47,4 +47,4 @@ pub record IsKept (s : State) : Type 0 where
 pub record Becomes (old : State) (body : Body) (new : State) : Type 0 where
   pub mailbox : after_body (mailbox_of old) body ≡ Some (mailbox_of new)
   pub kept : IsKept new
-  pub spare : new.spare ≡ spare_after old.spare body
+  pub spare : new.spare ≡ spare_after old.extensions.extensions old.spare body

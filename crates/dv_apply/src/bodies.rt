@@ -43,7 +43,7 @@ fn change(state: &mut State, body: &Body) -> Result<(), NoMemory>
     requires other { IsOther body.now }
     ensures ok { OnOk result (Becomes state.old body.now state.new) }
     ensures err { OnErr result (state.new ≡ state.old) }
-    ensures memory { TakesNone state.old.spare body.now → result ≡ Ok tt }
+    ensures memory { TakesNone state.old.extensions.extensions state.old.spare body.now → result ≡ Ok tt }
 {
     match body {
         Body::Append(_) => Ok(()),
@@ -51,7 +51,10 @@ fn change(state: &mut State, body: &Body) -> Result<(), NoMemory>
             update_keyword(state, *how, name.as_slice(), pairs.as_slice())
         }
         Body::ExtIntro(intros) => introduce_all(state, intros.as_slice()),
-        Body::ExtReset { reset_id, preserve } => reset(state, *reset_id, *preserve),
+        Body::ExtReset { reset_id, preserve } => {
+            reset(state, *reset_id, *preserve);
+            Ok(())
+        }
         Body::Expunge(pairs) => {
             expunge(state, pairs.as_slice());
             Ok(())
@@ -96,7 +99,7 @@ pub fn apply_body(state: &mut State, body: &Body) -> Result<(), ApplyFault>
     ensures refused { (refused : Refused) → refused_row (mailbox_of state.old) body.now ≡ Some refused → result ≡ Err (fault.BadAppend refused.uid refused.next_uid) }
     ensures err { OnErr result (kept_of state.new ≡ kept_of state.old) }
     ensures kept { OnErr result (IsKept state.new) }
-    ensures memory { TakesNone state.old.spare body.now → result ≡ Err fault.NoMemory → ⊥ }
+    ensures memory { TakesNone state.old.extensions.extensions state.old.spare body.now → result ≡ Err fault.NoMemory → ⊥ }
 {
     match body {
         Body::Append(rows) => append(state, rows.as_slice()),

@@ -1,17 +1,56 @@
-ghost use Rattle.std.specs.Prelude.{◌≡◌, OnErr, OnOk};
+ghost use Rattle.std.specs.Prelude.{◌≡◌, Ok, OnErr, OnOk, fold, true, false};
+ghost use Rattle.std.specs.List.{list_all};
+ghost use Rattle.dv_ext.specs.Quiet.{is_quiet};
+ghost use Rattle.dv_ext.specs.Tables.{with_table};
+ghost use Rattle.dv_model.specs.declared.types.Mailbox.{Mailbox};
+ghost use Rattle.dv_model.specs.Effects.{with_intro};
+ghost use Rattle.dv_model.specs.Mailboxes.{IsValid};
 ghost use Rattle.dv_model.specs.declared.types.Body.TheVariants.{ExtHeaderUpdate, ExtIntro, ExtRecordUpdate, ExtReset};
 ghost use Rattle.dv_apply.specs.States.{Becomes, IsKept};
 
 use crate::changes::higher;
-use crate::parts::{change_parts, copied, introduce, write_parts};
+use crate::parts::{copied, introduce, write_parts, zero_parts};
 use crate::state::State;
-use dv_ext::RowUpdates;
+use dv_ext::{Extensions, RowUpdates};
 use dv_model::{Duplicate, Intro, List, NoMemory, Part};
 
-/// Introduces extensions (Dovecot's `mail_transaction_ext_intro`). No row is spare then. After
-/// `NoMemory` nothing has changed.
-pub fn introduce_all(state: &mut State, intros: &[Intro]) -> Result<(), NoMemory>
-    requires { IsKept state.old }
+// Whether the introductions leave the extensions, and so each row, as they are.
+fn are_quiet(extensions: &Extensions, intros: &[Intro]) -> bool
+    ensures { result ≡ list_all (is_quiet extensions.now.extensions) intros.now }
+{
+    for intro in intros {
+        if !extensions.is_quiet(intro) {
+            return false;
+        }
+    }
+    true
+}
+
+// Makes the introduced extensions current in turn, where that leaves them all as they are.
+fn make_current(extensions: &mut Extensions, intros: &[Intro])
+    requires { list_all (is_quiet extensions.old.extensions) intros.now ≡ true }
+    ensures is { (m : Mailbox) → IsValid (with_table extensions.old m) → fold with_intro (with_table extensions.old m) intros.now ≡ with_table extensions.new m }
+    ensures list { extensions.new.extensions ≡ extensions.old.extensions }
+{
+    for intro in intros {
+        extensions.make_current(intro);
+    }
+}
+
+// Introductions that leave the extensions as they are.
+fn introduce_quietly(state: &mut State, intros: &[Intro])
+    requires kept { IsKept state.old }
+    requires quiet { list_all (is_quiet state.old.extensions.extensions) intros.now ≡ true }
+    ensures { Becomes state.old (ExtIntro intros.now) state.new }
+{
+    state.highest = higher(state.highest);
+    make_current(&mut state.extensions, intros);
+}
+
+// Introductions that change the extensions.
+fn introduce_new(state: &mut State, intros: &[Intro]) -> Result<(), NoMemory>
+    requires kept { IsKept state.old }
+    requires loud { list_all (is_quiet state.old.extensions.extensions) intros.now ≡ false }
     ensures ok { OnOk result (Becomes state.old (ExtIntro intros.now) state.new) }
     ensures err { OnErr result (state.new ≡ state.old) }
 {
@@ -26,19 +65,29 @@ pub fn introduce_all(state: &mut State, intros: &[Intro]) -> Result<(), NoMemory
     Ok(())
 }
 
-/// Resets the current extension (Dovecot's `mail_transaction_ext_reset`). After `NoMemory` nothing
-/// has changed.
-pub fn reset(state: &mut State, reset_id: u32, preserve: u8) -> Result<(), NoMemory>
+/// Introduces extensions (Dovecot's `mail_transaction_ext_intro`). Where that leaves them as they
+/// are, it takes no memory; else no row is spare then. After `NoMemory` nothing has changed.
+pub fn introduce_all(state: &mut State, intros: &[Intro]) -> Result<(), NoMemory>
     requires { IsKept state.old }
-    ensures ok { OnOk result (Becomes state.old (ExtReset reset_id preserve) state.new) }
+    ensures ok { OnOk result (Becomes state.old (ExtIntro intros.now) state.new) }
     ensures err { OnErr result (state.new ≡ state.old) }
+    ensures memory { list_all (is_quiet state.old.extensions.extensions) intros.now ≡ true → result ≡ Ok tt }
 {
-    let mut extensions = state.extensions.duplicate(state.alloc)?;
-    let change = extensions.reset(reset_id, preserve);
-    change_parts(&mut state.rows, change)?;
+    if are_quiet(&state.extensions, intros) {
+        introduce_quietly(state, intros);
+        return Ok(());
+    }
+    introduce_new(state, intros)
+}
+
+/// Resets the current extension (Dovecot's `mail_transaction_ext_reset`), without memory.
+pub fn reset(state: &mut State, reset_id: u32, preserve: u8)
+    requires { IsKept state.old }
+    ensures { Becomes state.old (ExtReset reset_id preserve) state.new }
+{
     state.highest = higher(state.highest);
-    state.extensions = extensions;
-    Ok(())
+    let change = state.extensions.reset(reset_id, preserve);
+    zero_parts(&mut state.rows, change);
 }
 
 /// Writes parts into the header of the current extension (Dovecot's

@@ -7,7 +7,7 @@ ghost use Rattle.dv_apply.specs.States.{Becomes, IsKept};
 
 use crate::changes::higher;
 use crate::state::State;
-use dv_model::{Duplicate, How, NoMemory, Pair};
+use dv_model::{How, NoMemory, Pair};
 
 // Changes a keyword that the table has.
 fn change_known(
@@ -38,10 +38,15 @@ fn change_new(state: &mut State, how: How, name: &[u8], pairs: &[Pair]) -> Resul
     ensures err { OnErr result (state.new ≡ state.old) }
 {
     let modseq = higher(state.highest);
-    let mut names = state.names.duplicate(state.alloc)?;
-    let place = names.add(name)?;
-    state.rows.change_keywords(pairs, how, place, modseq)?;
-    state.names = names;
+    let count = state.names.count();
+    let place = state.names.add(name)?;
+    match state.rows.change_keywords(pairs, how, place, modseq) {
+        Ok(()) => {}
+        Err(e) => {
+            state.names.truncate(count);
+            return Err(e);
+        }
+    }
     state.highest = modseq;
     Ok(())
 }

@@ -44,7 +44,7 @@ impl Live {
         }
     }
 
-    /// This mailbox, with no spare row. `NoMemory` is the answer only where its keywords are too
+    /// This mailbox, with no spare row. `NoMemory` is also the answer where its keywords are too
     /// many to be counted.
     pub fn of(alloc: Global, m: Mailbox) -> Result<Live, NoMemory>
         requires { IsValid m }
@@ -65,8 +65,9 @@ impl Live {
     /// Applies a record of the log (Dovecot's `mail-transaction-log.h`). `BadAppend` is the answer
     /// exactly where a row of an append has a UID below the UIDNEXT that the rows before it leave;
     /// it names the first such row. After an error all is as before. An append of at most the spare
-    /// rows, an expunge, a flag update, a header update, a keyword reset, and an update of an
-    /// extension's header or rows take no memory.
+    /// rows, an expunge, a flag update, a header update, a keyword reset, an introduction that leaves
+    /// the extensions as they are, and a reset or an update of an extension's header or rows take no
+    /// memory.
     pub fn apply(&mut self, r: &Record) -> Result<(), ApplyFault>
         requires { IsRecord r.now }
         // What is applied has the record's effect.
@@ -77,10 +78,10 @@ impl Live {
         ensures refused { (refused : Refused) → refused_row self.old.mailbox r.now.body ≡ Some refused → result ≡ Err (fault.BadAppend refused.uid refused.next_uid) }
         // Nothing changes by an error.
         ensures err { OnErr result (self.new ≡ self.old) }
-        // Only appends and introductions use up spare rows.
-        ensures spare { OnOk result (self.new.spare ≡ spare_after self.old.spare r.now.body) }
+        // Only appends use up spare rows, and introductions that change the extensions.
+        ensures spare { OnOk result (self.new.spare ≡ spare_after self.old.mailbox.extensions self.old.spare r.now.body) }
         // Some records take no memory.
-        ensures memory { TakesNone self.old.spare r.now.body → result ≡ Err fault.NoMemory → ⊥ }
+        ensures memory { TakesNone self.old.mailbox.extensions self.old.spare r.now.body → result ≡ Err fault.NoMemory → ⊥ }
     {
         if is_request(r) {
             pass(&mut self.state);

@@ -2,7 +2,7 @@ ghost use Rattle.std.specs.Prelude.{◌≡◌, ◌<◌, All, IfOk, OnErr, OnOk, 
 ghost use Rattle.dv_model.specs.declared.types.Mailbox.{Mailbox};
 ghost use Rattle.dv_model.specs.Effects.{with_intro, with_update};
 ghost use Rattle.dv_model.specs.Mailboxes.{IsValid};
-ghost use Rattle.dv_ext.specs.Changes.{rows_changed};
+ghost use Rattle.dv_ext.specs.Changes.{Zeroes, rows_changed};
 ghost use Rattle.dv_ext.specs.Tables.{with_table};
 ghost use Rattle.dv_apply.specs.Alike.{IsAlike, IsWide};
 ghost use Rattle.dv_rows.specs.Kept.{AreRows};
@@ -27,6 +27,21 @@ pub fn change_parts(rows: &mut Rows, change: PartsChange) -> Result<(), NoMemory
             rows.clear_part(place);
             Ok(())
         }
+    }
+}
+
+/// Zeroes the parts of each row that a reset zeroes, without memory.
+pub fn zero_parts(rows: &mut Rows, change: PartsChange)
+    requires { Zeroes change }
+    ensures is { (m : Mailbox) → m.rows ≡ rows.old.rows → rows_changed change m ≡ record m { rows = rows.new.rows } }
+    ensures alike { IsAlike rows.old.rows rows.new.rows }
+    ensures room { rows.new.room ≡ rows.old.room }
+{
+    match change {
+        PartsChange::Zeroed { place } => rows.clear_part(place),
+        PartsChange::Same => {}
+        PartsChange::Added { .. } => {}
+        PartsChange::Grown { .. } => {}
     }
 }
 
@@ -62,7 +77,7 @@ pub fn copied(alloc: Global, rows: &Rows) -> Result<Rows, NoMemory>
     ensures { IfOk result (λ made. made.rows ≡ rows.now.rows) }
 {
     let list = listed(alloc, rows)?;
-    Ok(Rows::of(alloc, list))
+    Rows::of(alloc, list)
 }
 
 /// Introduces extensions in turn. After `NoMemory` some may have been introduced.

@@ -44,7 +44,7 @@ pub fn empty_state(alloc: Global, uid_validity: u32) -> State
     }
 }
 
-/// The state of a mailbox. `NoMemory` is the answer only where its keywords are too many to be
+/// The state of a mailbox. `NoMemory` is also the answer where its keywords are too many to be
 /// counted.
 pub fn state_of(alloc: Global, m: Mailbox) -> Result<State, NoMemory>
     requires { IsValid m }
@@ -53,7 +53,7 @@ pub fn state_of(alloc: Global, m: Mailbox) -> Result<State, NoMemory>
     ensures spare { IfOk result (λ made. made.spare ≡ 0) }
 {
     let names = Table::of(alloc, m.keywords)?;
-    let rows = Rows::of(alloc, m.rows);
+    let rows = Rows::of(alloc, m.rows)?;
     let extensions = Extensions::new(alloc, m.extensions, m.current);
     Ok(State {
         alloc,

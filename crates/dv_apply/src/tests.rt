@@ -135,3 +135,81 @@ fn records_are_applied_in_turn(rt: HostRuntime) -> Result<(), Fail> {
     assert_eq!(rt; live.uid_validity(), 1000);
     Ok(())
 }
+
+// UID 1, and UID 2 with Seen.
+const TWO: &[u8] = b"\x80\x80\x80\x86\x02\0\0\0\x01\0\0\0\0\0\0\0\x02\0\0\0\x08\0\0\0";
+
+// UID 2 gets `old`.
+const OLD: &[u8] = b"\x80\x80\x80\x86\0\x04\0\0\0\0\x03\0old\0\x02\0\0\0\x02\0\0\0";
+
+// An extension `abc` with a header of four bytes and two bytes of each row.
+const INTRO: &[u8] =
+    b"\x80\x80\x80\x88\x40\0\0\0\xff\xff\xff\xff\x05\0\0\0\x04\0\0\0\x02\0\x01\0\0\0\x03\0abc\0";
+
+// The bytes 7 and 8 of UID 1.
+const UPDATE: &[u8] = b"\x80\x80\x80\x84\0\x02\0\0\x01\0\0\0\x07\x08\0\0";
+
+// The extension 0, once more with the same sizes.
+const AGAIN: &[u8] = b"\x80\x80\x80\x87\x40\0\0\0\0\0\0\0\x05\0\0\0\x04\0\0\0\x02\0\x01\0\0\0\0\0";
+
+// The reset number 6, and zero bytes.
+const RESET: &[u8] = b"\x80\x80\x80\x84\x80\0\0\0\x06\0\0\0\0\0\0\0";
+
+// No UID has keywords.
+const NO_KEYWORDS: &[u8] = b"\x80\x80\x80\x84\0\x08\0\0\x01\0\0\0\xff\xff\xff\xff";
+
+// UID 1 is expunged, by its GUID too.
+const NAMED: &[u8] = b"\x80\x80\x80\x87\x90\xed\0\x10\x01\0\0\0\0\0\0\0\0\0\0\0\0\0\0\0\0\0\0\0";
+
+// Whether the first row has these bytes of the first extension.
+fn has_part(live: &Live, bytes: &[u8]) -> bool {
+    if live.count() == 0 {
+        return false;
+    }
+    match live.row(0).parts.as_slice().get(0) {
+        Some(part) => part.as_slice() == bytes,
+        None => bytes.is_empty(),
+    }
+}
+
+// A record, the first extension's bytes of the first row behind it, and the rows.
+type Further = (
+    &'static [u8],
+    &'static [u8],
+    &'static [(u32, u8, &'static [u32], u64)],
+);
+
+const FURTHER: [Further; 8] = [
+    (TWO, b"", &[(1, 0, &[], 2), (2, 8, &[], 2)]),
+    (OLD, b"", &[(1, 0, &[], 2), (2, 8, &[0], 3)]),
+    (INTRO, b"\0\0", &[(1, 0, &[], 2), (2, 8, &[0], 3)]),
+    (UPDATE, b"\x07\x08", &[(1, 0, &[], 2), (2, 8, &[0], 3)]),
+    (AGAIN, b"\x07\x08", &[(1, 0, &[], 2), (2, 8, &[0], 3)]),
+    (RESET, b"\0\0", &[(1, 0, &[], 2), (2, 8, &[0], 3)]),
+    (NO_KEYWORDS, b"\0\0", &[(1, 0, &[], 2), (2, 8, &[], 8)]),
+    (NAMED, b"\0\0", &[(2, 8, &[], 8)]),
+];
+
+#[test]
+fn records_of_extensions_and_removals_are_applied(rt: HostRuntime) -> Result<(), Fail> {
+    let mut live = Live::empty(rt.alloc(), 1000);
+    for (bytes, part, rows) in FURTHER {
+        assert_eq!(rt; apply(rt.alloc(), &mut live, bytes), Ok(()));
+        assert!(rt; has_part(&live, part));
+        assert!(rt; has_rows(&live, rows));
+    }
+    Ok(())
+}
+
+#[test]
+fn a_copied_mailbox_is_kept_apart(rt: HostRuntime) -> Result<(), Fail> {
+    let mut live = Live::empty(rt.alloc(), 1000);
+    assert_eq!(rt; live.reserve(3), Ok(()));
+    assert_eq!(rt; apply(rt.alloc(), &mut live, TWO), Ok(()));
+    let mailbox = live.mailbox(rt.alloc())?;
+    let mut other = Live::of(rt.alloc(), mailbox)?;
+    assert_eq!(rt; apply(rt.alloc(), &mut other, OLD), Ok(()));
+    assert!(rt; has_rows(&other, &[(1, 0, &[], 2), (2, 8, &[0], 3)]));
+    assert_eq!(rt; counts(&live), (2, 3, 2, 1, 0));
+    Ok(())
+}

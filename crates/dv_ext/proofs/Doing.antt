@@ -21,7 +21,7 @@ not_smaller : (a b : ℕ) → false ≡ nat_lt a b → b ≤ a
 not_smaller a b e = grind (arith, nat_tests)
 
 -- a known extension that grows
-grown_does : (t : Table) (k : ℕ) (e : Extension) (intro : Intro) (b : Bool) → slice_get t.extensions k ≡ Some e → nat_eq e.reset_id intro.reset_id ≡ true → fit (with_item k (grown_extension intro) t.extensions) ≡ true → b ≡ nat_lt e.record_size intro.record_size → Does (λ m. reintroduced m k e intro) t (record { extensions = with_item k (grown_extension intro) t.extensions; current = Some (record { extension = k; size = intro.record_size }) }) (if b then Grown k intro.record_size else Same)
+pub grown_does : (t : Table) (k : ℕ) (e : Extension) (intro : Intro) (b : Bool) → slice_get t.extensions k ≡ Some e → nat_eq e.reset_id intro.reset_id ≡ true → fit (with_item k (grown_extension intro) t.extensions) ≡ true → b ≡ nat_lt e.record_size intro.record_size → Does (λ m. reintroduced m k e intro) t (record { extensions = with_item k (grown_extension intro) t.extensions; current = Some (record { extension = k; size = intro.record_size }) }) (if b then Grown k intro.record_size else Same)
 grown_does t k e intro true there same fits larger m valid = both (nat_eq e.reset_id intro.reset_id) (fit (with_item k (grown_extension intro) t.extensions)) _ _ _ same fits
 grown_does t k e intro false there same fits larger m valid =
     let rows : map (with_row_parts (with_item k (grown_to intro.record_size))) m.rows ≡ m.rows =

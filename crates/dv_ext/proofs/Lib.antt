@@ -6,3 +6,4 @@ pub mod Parts
 pub mod Doing
 pub mod Validity
 pub mod Rows
+pub mod Quieting

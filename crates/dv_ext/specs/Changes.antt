@@ -21,3 +21,10 @@ Does effect before after change = (m : Mailbox) → IsValid (with_table before m
 -- a valid mailbox with the one table is valid with the other, once its rows' parts are changed so
 abbrev pub Keeps : Table → Table → PartsChange → Type 0
 Keeps before after change = (m : Mailbox) → IsValid (with_table before m) → IsValid (with_table after (rows_changed change m))
+
+-- the parts stay, or one of each row becomes zero bytes
+abbrev pub Zeroes : PartsChange → Type 0
+Zeroes Same = Unit {0}
+Zeroes (Zeroed place) = Unit {0}
+Zeroes (Added size) = ⊥
+Zeroes (Grown place size) = ⊥

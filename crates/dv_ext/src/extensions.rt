@@ -1,6 +1,7 @@
-ghost use Rattle.std.specs.Prelude.{◌≡◌, ◌<◌, IfOk, IsSomeAnd, None, OnErr, length, slice_get, if◌then◌else◌};
+ghost use Rattle.std.specs.Prelude.{◌≡◌, ◌<◌, ◌&&◌, true, IfOk, IsSomeAnd, None, OnErr, length, nat_le, slice_get, if◌then◌else◌};
 ghost use Rattle.dv_model.specs.Effects.{added_extension, introduced, may_be_added, on_current, reintroduced, with_header_parts, with_intro, with_reset, without_current};
-ghost use Rattle.dv_ext.specs.Changes.{Does, Keeps};
+ghost use Rattle.dv_ext.specs.Changes.{Does, Keeps, Zeroes};
+ghost use Rattle.dv_ext.specs.Quiet.{is_quiet};
 ghost use Rattle.dv_ext.specs.Tables.{IsTable, empty_table};
 ghost use Rattle.dv_ext.specs.declared.change.PartsChange.TheVariants.{Grown, Same};
 
@@ -123,6 +124,44 @@ impl Extensions {
         Ok(PartsChange::Added { size })
     }
 
+    /// Whether an introduction leaves the extensions, and so each row, as they are.
+    pub fn is_quiet(&self, intro: &Intro) -> bool
+        ensures { result ≡ is_quiet self.now.extensions intro.now }
+    {
+        let list = self.list.as_slice();
+        match place_of(list, intro) {
+            Some(place) => {
+                let known = &list[place];
+                known.reset_id != intro.reset_id
+                    || !fits_grown(list, place, intro)
+                    || has_sizes(known, intro)
+            }
+            None => !may_be_added(intro) || !fits_added(list, intro),
+        }
+    }
+
+    /// Introduces an extension, which becomes current, or none does, where that leaves the
+    /// extensions as they are. Takes no memory, and changes no row.
+    pub fn make_current(&mut self, intro: &Intro)
+        requires { is_quiet self.old.extensions intro.now ≡ true }
+        ensures does { Does (λ m. with_intro m intro.now) self.old self.new Same }
+        ensures list { self.new.extensions ≡ self.old.extensions }
+    {
+        let list = self.list.as_slice();
+        let Some(place) = place_of(list, intro) else {
+            self.current = None;
+            return;
+        };
+        if list[place].reset_id != intro.reset_id || !fits_grown(list, place, intro) {
+            self.current = None;
+            return;
+        }
+        self.current = Some(Current {
+            extension: place as u32,
+            size: intro.record_size,
+        });
+    }
+
     /// Introduces an extension, which becomes current, or none does. After `NoMemory` nothing has
     /// changed.
     pub fn intro(&mut self, intro: &Intro) -> Result<PartsChange, NoMemory>
@@ -140,6 +179,7 @@ impl Extensions {
     /// parts unless `preserve` isn't 0. Takes no memory.
     pub fn reset(&mut self, reset_id: u32, preserve: u8) -> PartsChange
         ensures does { Does (λ m. on_current m (with_reset reset_id preserve m)) self.old self.new result }
+        ensures zeroes { Zeroes result }
         ensures valid { Keeps self.old self.new result }
     {
         let Some(current) = self.current else {
@@ -172,6 +212,13 @@ impl Extensions {
         let place = current.extension as usize;
         write_at(self.alloc, &mut self.list, place, parts.as_slice());
     }
+}
+
+// Whether the extension has the sizes of an introduction, or larger ones.
+fn has_sizes(known: &Extension, intro: &Intro) -> bool
+    ensures { result ≡ (nat_le intro.now.hdr_size (length known.now.header) && nat_le intro.now.record_size known.now.record_size) }
+{
+    intro.hdr_size as usize <= known.header.len() && intro.record_size <= known.record_size
 }
 
 fn grown(grows: bool, place: u32, size: u16) -> PartsChange

@@ -1,10 +1,10 @@
 -- Where a name stands among others.
-use Rattle.std.proofs.Common.{◌≡◌, ◌≢◌, ℕ, suc, ◌+◌, ◌-◌, ◌^◌, ◌<◌, ◌≤◌, Bool, true, false, cond, not, ◌||◌, ltb, List, [], ◌∷◌, ◌++◌, length, get_or, Option, Some, None, refl, sym, ◌∙◌, ap, arith}
+use Rattle.std.proofs.Common.{◌≡◌, ◌≢◌, ℕ, suc, ◌+◌, ◌-◌, ◌^◌, ◌<◌, ◌≤◌, Bool, true, false, cond, not, ◌||◌, ltb, List, [], ◌∷◌, ◌++◌, length, get_or, take, Option, Some, None, refl, subst, sym, ◌∙◌, ap, arith}
 use Rattle.std.specs.List.{list_any, prefix_len, position_or_len}
 use Rattle.std.specs.Str.{bytes_eq}
 use Rattle.std.proofs.lemmas.Bool.{both_ways, cond-true, cond-false, lt-ltb, ltb-false, eq-eqb}
 use Rattle.std.proofs.lemmas.Bool.Decides.{nat_tests}
-use Rattle.std.proofs.lemmas.List.{length-take, length_push}
+use Rattle.std.proofs.lemmas.List.{get_or-take, length-take, length_push, take_all, take_at}
 use Rattle.std.proofs.lemmas.List.Elements.{All-push}
 use Rattle.std.proofs.lemmas.List.Folds.{length-prefix_len, list_any_at, position_or_len_push}
 use Rattle.std.proofs.lemmas.List.Quantifiers.{all_pairs_push}
@@ -74,3 +74,21 @@ table_push names name table is e few = record {
   distinct = all_pairs_push (λ a b. a ≢ b) names name table.distinct (is_new names name e);
   few = omega (arith, few, length_push names name);
 }
+
+-- the first names of a table are one
+pub table_front : (names : List (List ℕ)) (n : ℕ) → IsTable names → IsTable (take n names)
+table_front names n table =
+    let most = length-take n names in
+    record {
+      valid = λ k d h. subst IsName (sym (get_or-take n names k d (omega arith))) (table.valid k d (omega arith));
+      distinct = λ i j d less h same. table.distinct i j d less (omega arith) (sym (get_or-take n names i d (omega arith)) ∙ same ∙ get_or-take n names j d (omega arith));
+      few = let few = table.few in omega arith;
+    }
+
+named_by : (b : Bool) (name : List ℕ) (names : List (List ℕ)) → take (length names) (cond b names (names ++ name ∷ [])) ≡ names
+named_by true name names = take_all (length names) names (omega arith)
+named_by false name names = take_at names (name ∷ []) (length names) refl
+
+-- the names before a name that is added
+pub before_named : (name : List ℕ) (names : List (List ℕ)) → take (length names) (with_name name names) ≡ names
+before_named name names = named_by (list_any (bytes_eq name) names) name names

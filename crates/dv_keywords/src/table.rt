@@ -1,4 +1,4 @@
-ghost use Rattle.std.specs.Prelude.{◌≡◌, ◌≢◌, ◌<◌, ◌^◌, ℕ, List, [], All, AllPairs, flat_map, length, slice_get, IfOk, IsOk, OnErr, Ok, Err, Some};
+ghost use Rattle.std.specs.Prelude.{◌≡◌, ◌≢◌, ◌<◌, ◌^◌, ℕ, List, [], All, AllPairs, flat_map, length, slice_get, take, IfOk, IsOk, OnErr, Ok, Err, Some};
 ghost use Rattle.dv_model.specs.Effects.{place_of, with_name};
 ghost use Rattle.dv_model.specs.Names.{IsName};
 ghost use Rattle.dv_formats.specs.Snapshots.{keyword_text};
@@ -12,6 +12,7 @@ use crate::text::{read_name, size_of, write_name};
 use dv_model::{Bytes, Duplicate, List, NoMemory};
 use std::alloc::Global;
 use std::marker::Model;
+use std::mem;
 
 /// The keyword names of a mailbox, in the order of their first use. They are distinct, and there
 /// are at most 4294967295.
@@ -105,6 +106,15 @@ impl Table {
         let copy = Bytes::from_slice(self.alloc, name)?;
         self.names.push(copy)?;
         Ok(at as u32)
+    }
+
+    /// Keeps the first names, so many. Takes no memory.
+    pub fn truncate(&mut self, count: u32)
+        ensures { self.new ≡ take count self.old }
+    {
+        let mut items = mem::replace(&mut self.names, List::new(self.alloc)).into_vec();
+        items.truncate(count as usize);
+        self.names = List::from_vec(items);
     }
 
     /// The table's text in a snapshot: each name with its length, up to a multiple of four bytes.

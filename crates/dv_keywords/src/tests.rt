@@ -167,3 +167,14 @@ fn name_of_256_bytes_is_no_name(rt: HostRuntime) -> Result<(), Fail> {
     assert_eq!(rt; read.err(), Some(TableEnd::Bad));
     Ok(())
 }
+
+#[test]
+fn first_names_are_kept(rt: HostRuntime) -> Result<(), Fail> {
+    let mut table = table_of(rt.alloc(), &[b"old", b"new", b"off"])?;
+    table.truncate(2);
+    assert!(rt; has_names(&table, &[b"old", b"new"]));
+    assert_eq!(rt; table.index_of(b"off"), None);
+    table.truncate(5);
+    assert!(rt; has_names(&table, &[b"old", b"new"]));
+    Ok(())
+}

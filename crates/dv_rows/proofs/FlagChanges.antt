@@ -5,8 +5,6 @@ use Rattle.dv_model.specs.declared.types.Change.{Change}
 use Rattle.dv_model.specs.declared.types.Row.{Row}
 use Rattle.dv_model.specs.Effects.{is_as_before, with_bits}
 use Rattle.dv_validity.specs.Laws.{changed_flags, restamped}
-use Rattle.dv_rows.proofs.Narrowing.{fold_narrowed}
-use Rattle.dv_rows.specs.Narrowed.{IsNarrowed}
 
 -- the change has the UID
 abbrev pub is_in_change : ℕ → Change → Bool
@@ -23,20 +21,9 @@ one_by false row flags = refl
 one : (row : Row) (change : Change) → changed_flags row change ≡ record row { flags = flags_by row.uid row.flags change }
 one row change = one_by (is_in_change row.uid change) row (with_bits change.add change.remove row.flags)
 
-all_in_turn : (row : Row) (changes : List Change) → fold changed_flags row changes ≡ record row { flags = fold (flags_by row.uid) row.flags changes }
+pub all_in_turn : (row : Row) (changes : List Change) → fold changed_flags row changes ≡ record row { flags = fold (flags_by row.uid) row.flags changes }
 all_in_turn row [] = refl
 all_in_turn row (change ∷ changes) = ap (λ r. fold changed_flags r changes) (one row change) ∙ all_in_turn (record row { flags = flags_by row.uid row.flags change }) changes
-
-misses : (uid flags : ℕ) (change : Change) → is_in_change uid change ≡ false → flags_by uid flags change ≡ flags
-misses uid flags change none = ap (λ b. cond b (with_bits change.add change.remove flags) flags) none
-
--- the changes that have the UID are enough
-pub narrowed_flags : (all some : List Change) (uid flags after : ℕ) → IsNarrowed (is_in_change uid) all some → after ≡ fold (flags_by uid) flags some
-    → (row : Row) → row.uid ≡ uid → row.flags ≡ flags → fold changed_flags row all ≡ record row { flags = after }
-narrowed_flags all some uid flags after narrowed is row named had =
-    all_in_turn row all ∙ ap (λ n. record row { flags = n })
-    (ap (λ u. fold (flags_by u) row.flags all) named ∙ ap (λ f. fold (flags_by uid) f all) had
-    ∙ fold_narrowed (is_in_change uid) (flags_by uid) (λ f change none. misses uid f change none) flags all some narrowed ∙ sym is)
 
 -- ---- the modification sequence
 

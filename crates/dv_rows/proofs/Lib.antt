@@ -1,7 +1,10 @@
+pub mod Counting
 pub mod FlagChanges
-pub mod Narrowing
 pub mod OtherPlaces
 pub mod PartChanges
 pub mod Placing
 pub mod PutBack
+pub mod Putting
 pub mod Rising
+pub mod Walked
+pub mod Walking

@@ -2,17 +2,20 @@
 use Rattle.std.proofs.Common.{◌≡◌, ◌≢◌, ◌⊎◌, inl, inr, ℕ, zero, suc, ◌+◌, ◌-◌, ◌^◌, ◌<◌, ◌≤◌, Bool, true, false, cond, eqb, ltb, List, [], ◌∷◌, ◌++◌, length, get_or, refl, sym, ◌∙◌, ap, subst, arith}
 use Rattle.std.specs.Prelude.{All, IsTrue, map, filter, position, slice_get, sum, not, Some, None, nat_eq, bit_and}
 use Rattle.std.specs.List.{position_or_len}
-use Rattle.std.specs.List.Sorted.{IsPartitionedBy, IsPartitionPoint, IsStrictlyIncreasing}
+use Rattle.std.specs.List.Sorted.{IsPartitionedBy, IsStrictlyIncreasing}
 use Rattle.std.proofs.lemmas.Bool.{cases_lt, cond-true, cond-false, eq-eqb, le-ltb, lt-ltb, ltb-true, ltb-false, ne_eqb}
-use Rattle.std.proofs.lemmas.List.{get_or-map, length-map, length_push}
+use Rattle.std.proofs.lemmas.List.{get_or-map, length-map, map_push}
 use Rattle.std.proofs.lemmas.Option.{slice_get-get_or, slice_get_within}
 use Rattle.std.proofs.lemmas.List.Elements.{All-filter, All-map, All-push, All-weaker}
 use Rattle.std.proofs.lemmas.List.Kept.{AllPairs-from_increasing, IsStrictlyIncreasing-filter}
 use Rattle.std.proofs.lemmas.List.Sorted.{IsPartitionedBy-ltb}
-use Rattle.std.proofs.lemmas.List.Sums.{count_by-le-length, position_or_len_is, sum-map, sum_by-append}
+use Rattle.std.proofs.lemmas.List.Sums.{position_or_len_is, sum-map}
 use Rattle.dv_model.specs.declared.types.Row.{Row}
 use Rattle.dv_validity.proofs.Rows.{map_filter, map_map, map_same, rising_mapped, rising_push}
 use Rattle.dv_rows.specs.Kept.{AreCounted, AreRows, flag_count}
+use Rattle.dv_rows.specs.Noted.{IsTally, note_count}
+use Rattle.dv_rows.specs.Places.{IsPlace}
+use Rattle.dv_rows.specs.declared.counts.Counts.{Counts}
 
 -- ---- how many
 
@@ -38,9 +41,6 @@ few rows are =
     few_numbers_by (2 ^ 32 - 1) (map (λ (row : Row). row.uid) rows) are.rising (All-map (λ x. x < 2 ^ 32 - 1) (λ (row : Row). row.uid) rows are.below) (length (map (λ (row : Row). row.uid) rows)) refl in
     omega arith
 
-pub few_flagged : (flag : ℕ) (rows : List Row) → flag_count flag rows ≤ length rows
-few_flagged flag rows = count_by-le-length (λ (row : Row). not (nat_eq (bit_and row.flags flag) 0)) rows
-
 -- ---- they stay rows
 
 pub mapped_rows : (f : Row → Row) → ((row : Row) → (f row).uid ≡ row.uid) → (rows : List Row) → AreRows rows → AreRows (map f rows)
@@ -55,10 +55,6 @@ filtered_rows test rows are = record {
   below = All-filter (λ row. test row.uid) (λ row. row.uid < 2 ^ 32 - 1) rows are.below;
 }
 
-map_push : {X Y : Type 0} (f : X → Y) (xs : List X) (x : X) → map f (xs ++ x ∷ []) ≡ map f xs ++ f x ∷ []
-map_push f [] x = refl
-map_push f (y ∷ xs) x = ap (λ l. f y ∷ l) (map_push f xs x)
-
 pub pushed_rows : (rows : List Row) (row : Row) → All (λ other. other.uid < row.uid) rows → row.uid < 2 ^ 32 - 1 → AreRows rows → AreRows (rows ++ row ∷ [])
 pushed_rows rows row above low are = record {
   rising = subst IsStrictlyIncreasing (sym (map_push (λ (r : Row). r.uid) rows row))
@@ -66,48 +62,38 @@ pushed_rows rows row above low are = record {
   below = All-push (λ (r : Row). r.uid < 2 ^ 32 - 1) rows row are.below low;
 }
 
-pub flag_count_push : (flag : ℕ) (rows : List Row) (row : Row) → flag_count flag (rows ++ row ∷ []) ≡ flag_count flag rows + cond (not (nat_eq (bit_and row.flags flag) 0)) 1 0
-flag_count_push flag rows row = sum_by-append (λ (r : Row). cond (not (nat_eq (bit_and r.flags flag) 0)) 1 0) rows (row ∷ []) ∙ omega arith
-
 -- ---- the counts
 
-at_most_one : (b : Bool) → cond b 1 0 ≤ 1
-at_most_one true = omega arith
-at_most_one false = omega arith
-
-pub one_more : (flag n k : ℕ) (rows : List Row) (row : Row) → All (λ other. other.uid < row.uid) rows → row.uid < 2 ^ 32 - 1 → AreRows rows → n ≡ flag_count flag rows → k ≡ cond (not (nat_eq (bit_and row.flags flag) 0)) 1 0 → n + k < 2 ^ 32
-one_more flag n k rows row above low are counted is =
-    let all : length (rows ++ row ∷ []) < 2 ^ 32 = few (rows ++ row ∷ []) (pushed_rows rows row above low are) in
-    let long : length (rows ++ row ∷ []) ≡ length rows + 1 = length_push rows row in
-    let flagged : flag_count flag rows ≤ length rows = few_flagged flag rows in
-    let small : cond (not (nat_eq (bit_and row.flags flag) 0)) 1 0 ≤ 1 = at_most_one (not (nat_eq (bit_and row.flags flag) 0)) in
-    omega arith
-
-pub counted_push : (rows : List Row) (row : Row) (seen deleted s d : ℕ) → All (λ other. other.uid < row.uid) rows → row.uid < 2 ^ 32 - 1 → AreCounted rows seen deleted
-    → s ≡ cond (not (nat_eq (bit_and row.flags 8) 0)) 1 0 → d ≡ cond (not (nat_eq (bit_and row.flags 4) 0)) 1 0 → AreCounted (rows ++ row ∷ []) (seen + s) (deleted + d)
-counted_push rows row seen deleted s d above low counted is_seen is_deleted =
-    let seen_now : flag_count 8 (rows ++ row ∷ []) ≡ flag_count 8 rows + cond (not (nat_eq (bit_and row.flags 8) 0)) 1 0 = flag_count_push 8 rows row in
-    let deleted_now : flag_count 4 (rows ++ row ∷ []) ≡ flag_count 4 rows + cond (not (nat_eq (bit_and row.flags 4) 0)) 1 0 = flag_count_push 4 rows row in
-    record {
-      are = pushed_rows rows row above low counted.are;
-      with_seen = ap (λ n. n + s) counted.with_seen ∙ ap (λ n. flag_count 8 rows + n) is_seen ∙ sym seen_now;
-      with_deleted = ap (λ n. n + d) counted.with_deleted ∙ ap (λ n. flag_count 4 rows + n) is_deleted ∙ sym deleted_now;
-    }
-
-flag_count_mapped : (flag : ℕ) (f : Row → Row) → ((row : Row) → (f row).flags ≡ row.flags) → (rows : List Row) → flag_count flag (map f rows) ≡ flag_count flag rows
-flag_count_mapped flag f same rows =
-    let number : Row → ℕ = λ row. cond (not (nat_eq (bit_and row.flags flag) 0)) 1 0 in
-    sym (sum-map number (map f rows))
-    ∙ ap sum (map_map number f rows ∙ map_same (λ row. number (f row)) number (λ row. ap (λ n. cond (not (nat_eq (bit_and n flag) 0)) 1 0) (same row)) rows)
-    ∙ sum-map number rows
+-- the flags beside the rows have the rows' counts
+pub counted_flags : (bit : ℕ) (rows : List Row) (notes : List ℕ) → notes ≡ map (λ row. row.flags) rows → note_count bit notes ≡ flag_count bit rows
+counted_flags bit rows notes same =
+    let number : ℕ → ℕ = λ n. cond (not (nat_eq (bit_and n bit) 0)) 1 0 in
+    ap (note_count bit) same
+    ∙ sym (sum-map number (map (λ (row : Row). row.flags) rows))
+    ∙ ap sum (map_map number (λ (row : Row). row.flags) rows)
+    ∙ sum-map (λ (row : Row). number row.flags) rows
 
 -- a change that keeps UIDs and flags
-pub counted_mapped : (f : Row → Row) → ((row : Row) → (f row).uid ≡ row.uid) → ((row : Row) → (f row).flags ≡ row.flags) → (rows : List Row) (seen deleted : ℕ) → AreCounted rows seen deleted → AreCounted (map f rows) seen deleted
-counted_mapped f uids flags rows seen deleted counted = record {
+pub counted_mapped : (f : Row → Row) → ((row : Row) → (f row).uid ≡ row.uid) → ((row : Row) → (f row).flags ≡ row.flags)
+    → (rows : List Row) (notes : List ℕ) (counts : Counts) → AreCounted rows notes counts → AreCounted (map f rows) notes counts
+counted_mapped f uids flags rows notes counts counted = record {
   are = mapped_rows f uids rows counted.are;
-  with_seen = counted.with_seen ∙ sym (flag_count_mapped 8 f flags rows);
-  with_deleted = counted.with_deleted ∙ sym (flag_count_mapped 4 f flags rows);
+  flags = counted.flags
+      ∙ sym (map_map (λ (row : Row). row.flags) f rows ∙ map_same (λ row. (f row).flags) (λ row. row.flags) flags rows);
+  tally = counted.tally;
 }
+
+pub counted_push : (rows : List Row) (row : Row) (notes new : List ℕ) (counts after : Counts) → All (λ other. other.uid < row.uid) rows → row.uid < 2 ^ 32 - 1
+    → AreCounted rows notes counts → new ≡ notes ++ row.flags ∷ [] → IsTally after new → AreCounted (rows ++ row ∷ []) new after
+counted_push rows row notes new counts after above low counted is tally = record {
+  are = pushed_rows rows row above low counted.are;
+  flags = is ∙ ap (λ l. l ++ row.flags ∷ []) counted.flags ∙ sym (map_push (λ (r : Row). r.flags) rows row);
+  tally = tally;
+}
+
+-- there are as many flags as rows
+pub counted_many : (rows : List Row) (notes : List ℕ) (counts : Counts) → AreCounted rows notes counts → length notes ≡ length rows
+counted_many rows notes counts counted = ap length counted.flags ∙ length-map rows (λ (row : Row). row.flags)
 
 -- ---- the place of a UID
 
@@ -126,11 +112,11 @@ no_fall_by rows are i j d le inside (inr more) =
     let same : i ≡ j = omega arith in
     subst (λ k. (get_or rows i d).uid ≤ (get_or rows k d).uid) same (omega arith)
 
+pub no_fall : (rows : List Row) → AreRows rows → (i j : ℕ) (d : Row) → i ≤ j → j < length rows → (get_or rows i d).uid ≤ (get_or rows j d).uid
+no_fall rows are i j d le inside = no_fall_by rows are i j d le inside (cases_lt i j)
+
 pub uids_split : (rows : List Row) (uid : ℕ) → AreRows rows → IsPartitionedBy (λ (row : Row). ltb row.uid uid) rows
 uids_split rows uid are = IsPartitionedBy-ltb (λ (row : Row). row.uid) rows uid (λ i j d le inside. no_fall_by rows are i j d le inside (cases_lt i j))
-
-abbrev pub IsPlace : List Row → ℕ → ℕ → Type 0
-IsPlace rows uid at = IsPartitionPoint (λ (row : Row). ltb row.uid uid ≡ true) (λ (row : Row). ltb row.uid uid ≡ false) rows at
 
 no_row : Row
 no_row = record { uid = 0; flags = 0; keywords = []; parts = []; modseq = 0 }

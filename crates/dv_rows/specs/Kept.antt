@@ -2,6 +2,8 @@
 use Rattle.std.specs.Prelude.{◌≡◌, ℕ, ◌-◌, ◌^◌, ◌<◌, List, not, map, All, count_by, nat_eq, bit_and}
 use Rattle.std.specs.List.Sorted.{IsStrictlyIncreasing}
 use Rattle.dv_model.specs.declared.types.Row.{Row}
+use Rattle.dv_rows.specs.Noted.{IsTally}
+use Rattle.dv_rows.specs.declared.counts.Counts.{Counts}
 
 -- rows, and how many more can be added without memory
 pub record Kept : Type 0 where
@@ -17,8 +19,8 @@ pub record AreRows (rows : List Row) : Type 0 where
 abbrev pub flag_count : ℕ → List Row → ℕ
 flag_count bit rows = count_by (λ row. not (nat_eq (bit_and row.flags bit) 0)) rows
 
--- the numbers of rows with Seen and with Deleted are at hand
-pub record AreCounted (rows : List Row) (seen deleted : ℕ) : Type 0 where
+-- each row's flags stand beside it, and the numbers of rows with Seen and with Deleted are at hand
+pub record AreCounted (rows : List Row) (notes : List ℕ) (counts : Counts) : Type 0 where
   pub are : AreRows rows
-  pub with_seen : seen ≡ flag_count 8 rows
-  pub with_deleted : deleted ≡ flag_count 4 rows
+  pub flags : notes ≡ map (λ row. row.flags) rows
+  pub tally : IsTally counts notes

@@ -1,3 +1,6 @@
 pub mod Changed
 pub mod Kept
-pub mod Narrowed
+pub mod Noted
+pub mod Places
+pub mod Plans
+pub mod Steps

@@ -1,82 +1,87 @@
-ghost use Rattle.std.specs.Prelude.{◌≡◌, [], ◌∷◌, IfOk, IsTrue, OnErr, OnOk, map, vec_capacity, vec_len};
-ghost use Rattle.std.specs.List.{AllZip};
-ghost use Rattle.dv_model.specs.Effects.{keywords_after, with_place};
-ghost use Rattle.dv_rows.specs.Narrowed.{AreRising};
+ghost use Rattle.std.specs.Prelude.{◌≡◌, ℕ, ◌<◌, true, List, All, IfOk, get_or, OnErr, OnOk, length, map, refl, vec_capacity, vec_len};
+ghost use Rattle.dv_model.specs.Effects.{is_in_pair, is_in_pairs, keywords_after};
+ghost use Rattle.dv_model.specs.declared.types.How.{How};
+ghost use Rattle.dv_model.specs.declared.types.Pair.{Pair};
+ghost use Rattle.dv_model.specs.declared.types.Row.{Row};
 ghost use Rattle.dv_rows.specs.Changed.{IsOther, changed_keywords};
+ghost use Rattle.dv_rows.specs.Kept.{AreRows};
+ghost use Rattle.dv_rows.specs.Plans.{IsPlan, IsPlanned, IsRight};
+ghost use Rattle.dv_rows.specs.Steps.{without_keywords};
 ghost use Rattle.dv_validity.specs.Laws.{restamped};
 
-use crate::ranges::rise;
-use crate::replacing::put_each;
-use crate::uids::is_in_pairs;
-use dv_model::{How, List, NoMemory, Pair, Row};
-use std::alloc::{AllocError, Global};
+use crate::places::place_from;
+use crate::walks::Step;
+use dv_model::{Duplicate, How, List, NoMemory, Pair, Row};
+use std::alloc::Global;
 
-// Puts a place before the first one that is larger, unless it is there.
-fn insert(place: u32, places: &mut Vec<u32>) -> Result<(), AllocError>
-    ensures { OnOk result (places.new.items ≡ with_place place places.old.items) }
-{
-    let mut at = 0;
-    while at < places.len() && places[at] < place {
-        at += 1;
-    }
-    if at < places.len() && places[at] == place {
-        return Ok(());
-    }
-    places.insert(at, place)?;
-    Ok(())
+/// Other keywords of the row at a place.
+#[derive(Drop)]
+pub struct Other {
+    pub at: usize,
+    pub keywords: List<u32>,
 }
 
-// Leaves this place alone.
-fn replace(place: u32, places: &mut Vec<u32>) -> Result<(), AllocError>
-    ensures { OnOk result (places.new.items ≡ place ∷ []) }
-{
-    places.clear();
-    places.push(place)?;
-    Ok(())
-}
-
-fn change(how: How, place: u32, places: &mut Vec<u32>) -> Result<(), AllocError>
-    ensures { OnOk result (places.new.items ≡ keywords_after how place places.old.items) }
-{
-    match how {
-        How::Add => insert(place, places),
-        How::Remove => {
-            places.retain(|known| *known != place);
-            Ok(())
-        }
-        How::Replace => replace(place, places),
-    }
-}
-
-// A row's keywords, which are places in the table, behind a change of one of them.
-fn places_after(alloc: Global, how: How, place: u32, places: &[u32]) -> Result<List<u32>, NoMemory>
-    ensures { IfOk result (λ made. made ≡ keywords_after how place places.now) }
-{
-    let mut items = Vec::from_slice(alloc, places)?;
-    change(how, place, &mut items)?;
-    Ok(List::from_vec(items))
-}
-
-// The row's other keywords, where the ranges have its UID and its keywords become others.
-fn other_places(
+// A row's keywords, which are places in the table, behind a change of one of them, where they are
+// others then.
+fn other_keywords(
     alloc: Global,
     row: &Row,
-    pairs: &[Pair],
-    rising: bool,
     how: How,
     place: u32,
 ) -> Result<Option<List<u32>>, NoMemory>
-    requires { IsTrue rising → AreRising (λ pair. pair.first) (λ pair. pair.last) pairs.now }
-    ensures { IfOk result (λ other. IsOther pairs.now how place row.now other) }
+    ensures { IfOk result (λ other. IsOther how place row.now other) }
 {
-    if !is_in_pairs(pairs, rising, row.uid) {
+    let mut keywords = row.keywords.duplicate(alloc)?;
+    dv_keywords::change(alloc, how, place, &mut keywords)?;
+    if keywords.as_slice() == row.keywords.as_slice() {
         return Ok(None);
     }
-    let places = places_after(alloc, how, place, row.keywords.as_slice())?;
-    if places.as_slice() == row.keywords.as_slice() {
-        return Ok(None);
+    Ok(Some(keywords))
+}
+
+// Adds those of the row at a place.
+fn plan_row(
+    alloc: Global,
+    rows: &[Row],
+    at: usize,
+    how: How,
+    place: u32,
+    others: &mut Vec<Other>,
+) -> Result<(), NoMemory>
+    requires { at < length rows.now }
+    ensures right { (pairs : List Pair) → ((d : Row) → is_in_pairs pairs (get_or rows.now at d).uid ≡ true)
+        → All (IsRight pairs how place rows.now) others.old.items → OnOk result (All (IsRight pairs how place rows.now) others.new.items) }
+    ensures more { (k : ℕ) → IsPlanned how place rows.now others.old.items k → OnOk result (IsPlanned how place rows.now others.new.items k) }
+    ensures here { OnOk result (IsPlanned how place rows.now others.new.items at) }
+{
+    let Some(keywords) = other_keywords(alloc, &rows[at], how, place)? else {
+        return Ok(());
+    };
+    others.push(Other { at, keywords })?;
+    Ok(())
+}
+
+// Adds those of the rows in one range.
+fn plan_range(
+    alloc: Global,
+    rows: &[Row],
+    pair: &Pair,
+    how: How,
+    place: u32,
+    others: &mut Vec<Other>,
+) -> Result<(), NoMemory>
+    requires { AreRows rows.now }
+    ensures right { (pairs : List Pair) → ((uid : ℕ) → is_in_pair uid pair.now ≡ true → is_in_pairs pairs uid ≡ true)
+        → All (IsRight pairs how place rows.now) others.old.items → OnOk result (All (IsRight pairs how place rows.now) others.new.items) }
+    ensures more { (k : ℕ) → IsPlanned how place rows.now others.old.items k → OnOk result (IsPlanned how place rows.now others.new.items k) }
+    ensures all { OnOk result ((k : ℕ) (d : Row) → k < length rows.now → is_in_pair (get_or rows.now k d).uid pair.now ≡ true → IsPlanned how place rows.now others.new.items k) }
+{
+    let mut at = place_from(rows, pair.first);
+    while at < rows.len() && rows[at].uid <= pair.last {
+        plan_row(alloc, rows, at, how, place, others)?;
+        at += 1;
     }
-    Ok(Some(places))
+    Ok(())
 }
 
 fn plan(
@@ -85,15 +90,34 @@ fn plan(
     pairs: &[Pair],
     how: How,
     place: u32,
-) -> Result<Vec<Option<List<u32>>>, NoMemory>
-    ensures { IfOk result (λ plan. AllZip (IsOther pairs.now how place) rows.now plan.items) }
+) -> Result<Vec<Other>, NoMemory>
+    requires { AreRows rows.now }
+    ensures { IfOk result (λ others. IsPlan pairs.now how place rows.now others.items) }
 {
-    let rising = rise(pairs);
-    let mut plan = Vec::new(alloc);
-    for row in rows {
-        plan.push(other_places(alloc, row, pairs, rising, how, place)?)?;
+    let mut others = Vec::new(alloc);
+    for pair in pairs {
+        plan_range(alloc, rows, pair, how, place, &mut others)?;
     }
-    Ok(plan)
+    Ok(others)
+}
+
+fn put(row: &mut Row, keywords: List<u32>, modseq: u64)
+    ensures { row.new ≡ record row.old { keywords = keywords; modseq = modseq } }
+{
+    row.keywords = keywords;
+    row.modseq = modseq;
+}
+
+// Puts them into the rows, which then have this modification sequence.
+fn put_others(rows: &mut [Row], others: Vec<Other>, modseq: u64)
+    requires { All (λ other. other.at < length rows.old) others.items }
+    ensures { (pairs : List Pair) (how : How) (place : ℕ) → IsPlan pairs how place rows.old others.items
+        → rows.new ≡ map (λ row. restamped modseq row (changed_keywords pairs (keywords_after how place) row)) rows.old }
+{
+    let mut others = others;
+    while let Some(other) = others.pop() {
+        put(&mut rows[other.at], other.keywords, modseq);
+    }
 }
 
 /// Changes one keyword of the rows in the ranges. After `NoMemory` they are as before.
@@ -105,46 +129,34 @@ pub fn change_keywords(
     place: u32,
     modseq: u64,
 ) -> Result<(), NoMemory>
+    requires { AreRows rows.old.items }
     ensures ok { OnOk result (rows.new.items ≡ map (λ row. restamped modseq row (changed_keywords pairs.now (keywords_after how place) row)) rows.old.items) }
     ensures err { OnErr result (rows.new.items ≡ rows.old.items) }
     ensures len { vec_len rows.new ≡ vec_len rows.old }
     ensures capacity { vec_capacity rows.new ≡ vec_capacity rows.old }
 {
-    let plan = plan(alloc, rows, pairs, how, place)?;
-    put_each(rows.as_mut_slice(), plan, modseq);
+    let others = plan(alloc, rows, pairs, how, place)?;
+    put_others(rows.as_mut_slice(), others, modseq);
     Ok(())
 }
 
-// Takes all keywords from a row in the ranges.
-fn clear_row(alloc: Global, row: &mut Row, pairs: &[Pair], rising: bool, modseq: u64)
-    requires { IsTrue rising → AreRising (λ pair. pair.first) (λ pair. pair.last) pairs.now }
-    ensures { row.new ≡ restamped modseq row.old (changed_keywords pairs.now (λ places. []) row.old) }
-{
-    if !is_in_pairs(pairs, rising, row.uid) {
-        return;
-    }
-    if row.keywords.is_empty() {
-        return;
-    }
-    row.keywords = List::new(alloc);
-    row.modseq = modseq;
+/// Takes all keywords from a row. One that had some then has this modification sequence.
+#[derive(Drop)]
+pub struct ClearKeywords {
+    pub alloc: Global,
+    pub modseq: u64,
 }
 
-fn clear_rows(alloc: Global, rows: &mut [Row], pairs: &[Pair], rising: bool, modseq: u64)
-    requires { IsTrue rising → AreRising (λ pair. pair.first) (λ pair. pair.last) pairs.now }
-    ensures { rows.new ≡ map (λ row. restamped modseq row (changed_keywords pairs.now (λ places. []) row)) rows.old }
-{
-    for row in rows.iter_mut() {
-        clear_row(alloc, row, pairs, rising, modseq);
-    }
-}
+impl Step<Pair> for ClearKeywords {
+    ghost after = { λ s r. without_keywords s.modseq };
 
-/// Takes all keywords from the rows in the ranges.
-pub fn clear_keywords(alloc: Global, rows: &mut Vec<Row>, pairs: &[Pair], modseq: u64)
-    ensures items { rows.new.items ≡ map (λ row. restamped modseq row (changed_keywords pairs.now (λ places. []) row)) rows.old.items }
-    ensures len { vec_len rows.new ≡ vec_len rows.old }
-    ensures capacity { vec_capacity rows.new ≡ vec_capacity rows.old }
-{
-    let rising = rise(pairs);
-    clear_rows(alloc, rows.as_mut_slice(), pairs, rising, modseq);
+    fn step(&self, _range: &Pair, row: &mut Row, _note: &mut u8) {
+        if row.keywords.is_empty() {
+            return;
+        }
+        row.keywords = List::new(self.alloc);
+        row.modseq = self.modseq;
+    }
+
+    ghost keeps = { λ s r p. refl };
 }

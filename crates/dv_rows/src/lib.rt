@@ -11,6 +11,7 @@ mod ranges;
 mod replacing;
 mod rows;
 mod uids;
+mod walks;
 
 pub use rows::Rows;
 

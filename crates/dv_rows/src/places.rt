@@ -1,7 +1,19 @@
-ghost use Rattle.std.specs.Prelude.{◌≡◌, ◌+◌, ◌<◌, ◌≤◌, [], ◌∷◌, ◌++◌, IfSome, length, nat_eq, position, vec_capacity, vec_len};
+ghost use Rattle.std.specs.Prelude.{◌≡◌, ◌+◌, ◌<◌, ◌≤◌, ◌^◌, [], ◌∷◌, ◌++◌, IfSome, length, nat_eq, position, vec_capacity, vec_len};
 ghost use Rattle.dv_rows.specs.Kept.{AreRows};
+ghost use Rattle.dv_rows.specs.Noted.{IsTally};
+ghost use Rattle.dv_rows.specs.Places.{IsPlace};
 
+use crate::counts::{Counts, DELETED, SEEN, flag_number};
 use dv_model::Row;
+
+/// The place of the first row whose UID isn't below this, found by halves.
+pub fn place_from(rows: &[Row], uid: u32) -> usize
+    requires { AreRows rows.now }
+    ensures is { IsPlace rows.now uid result }
+    ensures inside { result ≤ length rows.now }
+{
+    rows.partition_point(|row| row.uid < uid)
+}
 
 /// The place of the row with this UID, found by halves.
 pub fn place_of(rows: &[Row], uid: u32) -> Option<usize>
@@ -9,7 +21,7 @@ pub fn place_of(rows: &[Row], uid: u32) -> Option<usize>
     ensures is { result ≡ position (λ row. nat_eq row.uid uid) rows.now }
     ensures inside { IfSome result (λ at. at < length rows.now) }
 {
-    let at = rows.partition_point(|row| row.uid < uid);
+    let at = place_from(rows, uid);
     if at >= rows.len() {
         return None;
     }
@@ -27,4 +39,19 @@ pub fn add_row(rows: &mut Vec<Row>, row: Row)
     ensures capacity { vec_capacity rows.old ≤ vec_capacity rows.new }
 {
     rows.push(row).unwrap();
+}
+
+/// Adds flags at the end, in the room that is there, and counts them.
+pub fn add_note(notes: &mut Vec<u8>, counts: &mut Counts, flags: u8)
+    requires room { vec_len notes.old < vec_capacity notes.old }
+    requires few { length notes.old.items + 1 < 2 ^ 32 }
+    requires tally { IsTally counts.old notes.old.items }
+    ensures items { notes.new.items ≡ notes.old.items ++ flags ∷ [] }
+    ensures tally { IsTally counts.new notes.new.items }
+    ensures len { vec_len notes.new ≡ vec_len notes.old + 1 }
+    ensures capacity { vec_capacity notes.old ≤ vec_capacity notes.new }
+{
+    notes.push(flags).unwrap();
+    counts.seen += flag_number(flags, SEEN);
+    counts.deleted += flag_number(flags, DELETED);
 }

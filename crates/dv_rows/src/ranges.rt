@@ -1,5 +1,4 @@
-ghost use Rattle.std.specs.Prelude.{◌≡◌, ℕ, ◌&&◌, IsTrue, nat_le};
-ghost use Rattle.dv_rows.specs.Narrowed.{AreRising, IsNarrowed};
+ghost use Rattle.std.specs.Prelude.{◌≡◌, ℕ};
 
 use dv_model::{Change, GuidRow, Pair};
 
@@ -58,35 +57,4 @@ impl Range for GuidRow {
     fn last(&self) -> u32 {
         self.uid
     }
-}
-
-/// Whether the ranges rise and are apart, as those of commands do.
-pub fn rise<T: Range>(ranges: &[T]) -> bool
-    ensures { IsTrue result → AreRising T.lowest T.highest ranges.now }
-{
-    let mut free = 0;
-    for range in ranges {
-        if u64::from(range.first()) < free || range.last() < range.first() {
-            return false;
-        }
-        free = u64::from(range.last()) + 1;
-    }
-    true
-}
-
-/// Some of the ranges, with each that has the UID: at most one where they rise.
-pub fn narrow<T: Range>(ranges: &[T], rising: bool, uid: u32) -> &[T]
-    requires { IsTrue rising → AreRising T.lowest T.highest ranges.now }
-    ensures { IsNarrowed (λ range. nat_le (T.lowest range) uid && nat_le uid (T.highest range)) ranges.now result.now }
-{
-    if !rising {
-        return ranges;
-    }
-    let at = ranges.partition_point(|range| range.last() < uid);
-    let (_, rest) = ranges.split_at(at);
-    if rest.is_empty() {
-        return rest;
-    }
-    let (one, _) = rest.split_at(1);
-    one
 }

@@ -1,7 +1,6 @@
 ghost use Rattle.std.specs.Prelude.{◌≡◌, ℕ, length, map, vec_len};
 ghost use Rattle.std.specs.List.{AllZip};
 ghost use Rattle.dv_model.specs.declared.types.Row.{Row};
-ghost use Rattle.dv_rows.specs.Changed.{with_places};
 
 use dv_model::{Bytes, List, Row};
 
@@ -12,17 +11,6 @@ pub trait Made: Drop {
     /// Puts it into the row. A row that changes by it has this modification sequence.
     fn put(self, row: &mut Row, modseq: u64)
         ensures { row.new ≡ put modseq row.old self };
-}
-
-impl Made for Option<List<u32>> {
-    ghost put = { with_places };
-
-    fn put(self, row: &mut Row, modseq: u64) {
-        if let Some(places) = self {
-            row.keywords = places;
-            row.modseq = modseq;
-        }
-    }
 }
 
 impl Made for List<Bytes> {

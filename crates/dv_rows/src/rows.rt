@@ -1,15 +1,19 @@
-ghost use Rattle.std.specs.Prelude.{◌≡◌, ◌↔◌, ◌+◌, ◌-◌, ◌^◌, ◌<◌, ◌≤◌, [], ◌∷◌, ◌++◌, All, filter, fold, length, map, not, position, nat_eq, replicate, IfSome, IsTrue, OnOk, OnErr, Ok, Some, slice_get, if◌then◌else◌};
+ghost use Rattle.std.specs.Prelude.{◌≡◌, ◌↔◌, ◌+◌, ◌-◌, ◌^◌, ◌<◌, ◌≤◌, [], ◌∷◌, ◌++◌, All, filter, fold, length, map, not, position, nat_eq, replicate, IfOk, IfSome, IsTrue, OnOk, OnErr, Ok, Some, slice_get, if◌then◌else◌};
 ghost use Rattle.dv_model.specs.Effects.{grown_to, is_in_pairs, is_in_guid_rows, keywords_after, with_item, with_row_parts, zeroed};
 ghost use Rattle.dv_rows.specs.Changed.{changed_keywords, written_at_front};
 ghost use Rattle.dv_rows.specs.Kept.{AreRows, flag_count};
+ghost use Rattle.dv_rows.specs.Noted.{has};
+ghost use Rattle.std.specs.List.{list_any};
 ghost use Rattle.dv_validity.specs.Laws.{changed_flags, restamped};
 
-use crate::counts::{DELETED, SEEN, flag_count, flag_number};
-use crate::flags::change_flags;
-use crate::keywords::{change_keywords, clear_keywords};
+use crate::counts::{Counts, flags_of, tally};
+use crate::flags::{ChangeFlags, StampFlags};
+use crate::keywords::{ClearKeywords, change_keywords};
 use crate::parts::{add_part, clear_part, grow_part, set_part};
-use crate::places::{add_row, place_of};
-use crate::uids::{remove_in_pairs, remove_named};
+use crate::places::{add_note, add_row, place_of};
+use crate::ranges::Range;
+use crate::uids::{Mark, first_place, remove_marked};
+use crate::walks::walk;
 use dv_model::{Bytes, Change, GuidRow, How, List, NoMemory, Pair, Row};
 use std::alloc::Global;
 use std::marker::Model;
@@ -20,20 +24,27 @@ use std::marker::Model;
 pub struct Rows {
     alloc: Global,
     rows: Vec<Row>,
-    seen: u32,
-    deleted: u32,
+    // The flags of each row.
+    notes: Vec<u8>,
+    counts: Counts,
+    // Both vectors have room for so many more.
+    room: u32,
 }
 
 impl Model for Rows {
-    ghost use Rattle.std.specs.Prelude.{◌-◌, vec_len, vec_capacity};
+    ghost use Rattle.std.specs.Prelude.{◌+◌, ◌≤◌, vec_len, vec_capacity};
     ghost use Rattle.dv_rows.specs.Changed.{changed_keywords, written_at_front};
     ghost use Rattle.dv_rows.specs.Kept.{Kept, AreCounted};
 
     ghost Value = { Kept };
 
-    ghost view = { λ s. record { rows = s.rows.items; room = vec_capacity s.rows - vec_len s.rows } };
+    ghost view = { λ s. record { rows = s.rows.items; room = s.room } };
 
-    ghost invariant = { λ s. AreCounted s.rows.items s.seen s.deleted };
+    ghost invariant = { λ s. record {
+      counted : AreCounted s.rows.items s.notes.items s.counts;
+      for_rows : vec_len s.rows + s.room ≤ vec_capacity s.rows;
+      for_notes : vec_len s.notes + s.room ≤ vec_capacity s.notes;
+    } };
 }
 
 impl Rows {
@@ -44,25 +55,30 @@ impl Rows {
         Rows {
             alloc,
             rows: Vec::new(alloc),
-            seen: 0,
-            deleted: 0,
+            notes: Vec::new(alloc),
+            counts: Counts {
+                seen: 0,
+                deleted: 0,
+            },
+            room: 0,
         }
     }
 
-    /// These rows, kept without further memory.
-    pub fn of(alloc: Global, rows: List<Row>) -> Rows
+    /// These rows, with no room for more. `NoMemory` is the only error.
+    pub fn of(alloc: Global, rows: List<Row>) -> Result<Rows, NoMemory>
         requires { AreRows rows }
-        ensures { result.rows ≡ rows }
+        ensures { IfOk result (λ made. made ≡ record { rows = rows; room = 0 }) }
     {
         let rows = rows.into_vec();
-        let seen = flag_count(&rows, SEEN);
-        let deleted = flag_count(&rows, DELETED);
-        Rows {
+        let notes = flags_of(alloc, &rows)?;
+        let counts = tally(&notes);
+        Ok(Rows {
             alloc,
             rows,
-            seen,
-            deleted,
-        }
+            notes,
+            counts,
+            room: 0,
+        })
     }
 
     /// The rows as a list, without memory.
@@ -120,14 +136,14 @@ impl Rows {
     pub fn seen(&self) -> u32
         ensures { result ≡ flag_count 8 self.now.rows }
     {
-        self.seen
+        self.counts.seen
     }
 
     /// How many rows have the flag Deleted.
     pub fn deleted(&self) -> u32
         ensures { result ≡ flag_count 4 self.now.rows }
     {
-        self.deleted
+        self.counts.deleted
     }
 
     /// Makes room for so many rows more. After `NoMemory` all is as before.
@@ -138,7 +154,12 @@ impl Rows {
         ensures err { OnErr result (self.new ≡ self.old) }
         ensures succeeds { n ≤ self.old.room → result ≡ Ok tt }
     {
+        if n <= self.room {
+            return Ok(());
+        }
+        self.notes.reserve(n as usize)?;
         self.rows.reserve(n as usize)?;
+        self.room = n;
         Ok(())
     }
 
@@ -158,7 +179,7 @@ impl Rows {
         ensures err { OnErr result (self.new ≡ self.old) }
         ensures succeeds { 0 < self.old.room → result ≡ Ok tt }
     {
-        self.rows.reserve(1)?;
+        self.reserve(1)?;
         let row = Row {
             uid,
             flags,
@@ -167,29 +188,41 @@ impl Rows {
             modseq,
         };
         add_row(&mut self.rows, row);
-        self.seen += flag_number(flags, SEEN);
-        self.deleted += flag_number(flags, DELETED);
+        add_note(&mut self.notes, &mut self.counts, flags);
+        self.room -= 1;
         Ok(())
+    }
+
+    // Removes the rows in the ranges. Only those behind the first that leaves are moved.
+    fn remove<R: Range>(&mut self, ranges: &[R])
+        ensures rows { self.new.rows ≡ filter (λ row. not (list_any (has R.lowest R.highest row.uid) ranges.now)) self.old.rows }
+        ensures room { self.new.room ≡ self.old.room }
+    {
+        let from = first_place(&self.rows, ranges);
+        walk(
+            &mut self.rows,
+            &mut self.notes,
+            &mut self.counts,
+            ranges,
+            &Mark,
+        );
+        remove_marked(&mut self.rows, &mut self.notes, from);
     }
 
     /// Removes the rows in the ranges (Dovecot's `mail_transaction_expunge`), without memory.
     pub fn expunge(&mut self, pairs: &[Pair])
         ensures rows { self.new.rows ≡ filter (λ row. not (is_in_pairs pairs.now row.uid)) self.old.rows }
-        ensures room { self.old.room ≤ self.new.room }
+        ensures room { self.new.room ≡ self.old.room }
     {
-        remove_in_pairs(&mut self.rows, pairs);
-        self.seen = flag_count(&self.rows, SEEN);
-        self.deleted = flag_count(&self.rows, DELETED);
+        self.remove(pairs);
     }
 
     /// Removes the rows that are named (Dovecot's `mail_transaction_expunge_guid`), without memory.
     pub fn expunge_named(&mut self, rows: &[GuidRow])
         ensures rows { self.new.rows ≡ filter (λ row. not (is_in_guid_rows rows.now row.uid)) self.old.rows }
-        ensures room { self.old.room ≤ self.new.room }
+        ensures room { self.new.room ≡ self.old.room }
     {
-        remove_named(&mut self.rows, rows);
-        self.seen = flag_count(&self.rows, SEEN);
-        self.deleted = flag_count(&self.rows, DELETED);
+        self.remove(rows);
     }
 
     /// Changes flags (Dovecot's `mail_transaction_flag_update`), without memory. A row whose system
@@ -198,9 +231,20 @@ impl Rows {
         ensures rows { self.new.rows ≡ map (λ row. restamped modseq row (fold changed_flags row changes.now)) self.old.rows }
         ensures room { self.new.room ≡ self.old.room }
     {
-        change_flags(&mut self.rows, changes, modseq);
-        self.seen = flag_count(&self.rows, SEEN);
-        self.deleted = flag_count(&self.rows, DELETED);
+        walk(
+            &mut self.rows,
+            &mut self.notes,
+            &mut self.counts,
+            changes,
+            &ChangeFlags,
+        );
+        walk(
+            &mut self.rows,
+            &mut self.notes,
+            &mut self.counts,
+            changes,
+            &StampFlags { modseq },
+        );
     }
 
     /// Adds the keyword at a place of the table to the rows in the ranges, removes it from them or
@@ -228,7 +272,17 @@ impl Rows {
         ensures rows { self.new.rows ≡ map (λ row. restamped modseq row (changed_keywords pairs.now (λ places. []) row)) self.old.rows }
         ensures room { self.new.room ≡ self.old.room }
     {
-        clear_keywords(self.alloc, &mut self.rows, pairs, modseq);
+        let clear = ClearKeywords {
+            alloc: self.alloc,
+            modseq,
+        };
+        walk(
+            &mut self.rows,
+            &mut self.notes,
+            &mut self.counts,
+            pairs,
+            &clear,
+        );
     }
 
     /// Gives each row one part more, of so many zero bytes. After `NoMemory` all is as before.

@@ -63,7 +63,7 @@ fn seen_as(alloc: Global, rows: &Rows) -> Result<Vec<(u32, u8, u32, u64)>, NoMem
 #[test]
 fn rows_are_counted_and_found(rt: HostRuntime) -> Result<(), Fail> {
     let rows = five(rt.alloc())?;
-    let rows = Rows::of(rt.alloc(), rows.into_list());
+    let rows = Rows::of(rt.alloc(), rows.into_list())?;
     assert!(rt; rows.count() == 5);
     assert!(rt; rows.seen() == 2);
     assert!(rt; rows.deleted() == 2);
@@ -278,5 +278,57 @@ fn many_ranges_over_many_rows_take_little_time(rt: HostRuntime) -> Result<(), Fa
     assert!(rt; rows.count() == 50_000);
     assert!(rt; rows.seen() == 0);
     assert_eq!(rt; rows.position(99_999), Some(49_999));
+    Ok(())
+}
+
+#[test]
+fn changes_in_disorder_are_made_in_turn(rt: HostRuntime) -> Result<(), Fail> {
+    let mut rows = five(rt.alloc())?;
+    // Of the second and third row a flag is set and taken again, of the fourth the same.
+    rows.change_flags(
+        &[
+            change(5, u32::MAX, 0x01, 0x00),
+            change(1, 2, 0x02, 0x00),
+            change(2, 5, 0x00, 0x03),
+            change(9, 9, 0x00, 0x01),
+        ],
+        7,
+    );
+    let after = [
+        (1, 0x0a, 0, 7),
+        (2, 0x00, 0, 3),
+        (5, 0x0c, 0, 3),
+        (9, 0x24, 0, 3),
+        (LAST, 0x81, 0, 3),
+    ];
+    assert_eq!(rt; seen_as(rt.alloc(), &rows)?.as_slice(), after.as_slice());
+    rows.change_flags(
+        &[change(9, u32::MAX, 0x08, 0x04), change(1, 2, 0x04, 0x08)],
+        8,
+    );
+    assert!(rt; rows.seen() == 3);
+    assert!(rt; rows.deleted() == 3);
+    rows.expunge(&[pair(9, u32::MAX), pair(2, 2), pair(1, 2)]);
+    let left = [(5, 0x0c, 0, 3)];
+    assert_eq!(rt; seen_as(rt.alloc(), &rows)?.as_slice(), left.as_slice());
+    assert!(rt; rows.seen() == 1);
+    assert!(rt; rows.deleted() == 1);
+    Ok(())
+}
+
+#[test]
+fn keywords_of_ranges_in_disorder_are_changed_once(rt: HostRuntime) -> Result<(), Fail> {
+    let mut rows = five(rt.alloc())?;
+    let ranges = [pair(5, u32::MAX), pair(1, 1), pair(9, 9), pair(7, 6)];
+    assert_eq!(rt; rows.change_keywords(&ranges, How::Add, 4, 6), Ok(()));
+    assert_eq!(rt; rows.change_keywords(&ranges, How::Add, 4, 9), Ok(()));
+    let after = [
+        (1, 0x08, 5, 6),
+        (2, 0x00, 0, 3),
+        (5, 0x0c, 5, 6),
+        (9, 0x24, 5, 6),
+        (LAST, 0x81, 5, 6),
+    ];
+    assert_eq!(rt; seen_as(rt.alloc(), &rows)?.as_slice(), after.as_slice());
     Ok(())
 }

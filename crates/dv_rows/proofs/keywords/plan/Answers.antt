@@ -1,9 +1,29 @@
-use Rattle.std.proofs.Common.{rules, subst}
-use Rattle.dv_rows.proofs.PutBack.{zip_more}
-use Rattle.dv_rows.specs.Changed.{IsOther}
+use Rattle.std.proofs.Common.{◌≡◌, ◌⊎◌, inl, inr, ℕ, Bool, true, false, get_or, refl, sym, take, ◌∙◌}
+use Rattle.std.specs.Prelude.{◌||◌}
+use Rattle.std.specs.List.{list_any}
+use Rattle.std.proofs.lemmas.List.Folds.{list_any_at, list_any_more}
+use Rattle.dv_model.specs.declared.types.Pair.{Pair}
+use Rattle.dv_model.specs.declared.types.Row.{Row}
+use Rattle.dv_model.specs.Effects.{is_in_pair}
 use Rattle.dv_rows.proofs.keywords.plan.Goals as goal
 
-pub loop-row-preserved : goal.loop-row-preserved
-loop-row-preserved c =
-    zip_more (IsOther c.args.pairs.now c.args.how c.args.place) c.args.rows.now c.loop-row.row-index c.row-item.result c.in_ok-other_places.field-0 c.loop-row.plan.items c.push.new.self.items
-    (search rules) c.loop-row.invariant (subst (λ row. IsOther c.args.pairs.now c.args.how c.args.place row c.in_ok-other_places.field-0) c.row-item.is c.in_ok-other_places.ensures) c.in_ok-push.ensures.items
+or_cases : (a b : Bool) → (a || b) ≡ true → (a ≡ true) ⊎ (b ≡ true)
+or_cases true b e = inl refl
+or_cases false b e = inr e
+
+either : (A B C : Type 0) → A ⊎ B → (A → C) → (B → C) → C
+either A B C (inl a) f g = f a
+either A B C (inr b) f g = g b
+
+pub loop-pair-preserved : goal.loop-pair-preserved
+loop-pair-preserved c =
+    let pairs = c.args.pairs.now in
+    let i = c.loop-pair.pair-index in
+    let none : Pair = record { first = 0; last = 0 } in
+    record {
+      right = c.in_ok-plan_range.ensures.right pairs (λ uid is. list_any_at (is_in_pair uid) pairs i none c.loop-pair-test.true is) c.loop-pair.invariant.right;
+      done = λ k d h is.
+          let uid = (get_or c.args.rows.now k d).uid in
+          either _ _ _ (or_cases (list_any (is_in_pair uid) (take i pairs)) (is_in_pair uid (get_or pairs i none)) (sym (list_any_more (is_in_pair uid) pairs i none c.loop-pair-test.true) ∙ is))
+          (λ before. c.in_ok-plan_range.ensures.more k (c.loop-pair.invariant.done k d h before)) (λ here. c.in_ok-plan_range.ensures.all k d h here);
+    }

@@ -1,12 +1,20 @@
-use Rattle.std.proofs.Common.{[], ◌∷◌, ◌++◌, refl}
+use Rattle.std.proofs.Common.{[], ◌∷◌, ◌++◌, refl, arith}
 use Rattle.std.specs.Prelude.{replicate}
 use Rattle.dv_model.specs.Effects.{with_row_parts}
 use Rattle.dv_rows.proofs.Rising.{counted_mapped}
 use Rattle.dv_rows.proofs.rows.Rows.add_part.Goals as goal
 
 pub invariant_of-self : goal.invariant_of-self
-invariant_of-self c = rw c.in_err-add_part.ensures.err c.self.invariant
+invariant_of-self c = record {
+  counted = rw c.in_err-add_part.ensures.err c.self.invariant.counted;
+  for_rows = omega arith;
+  for_notes = c.self.invariant.for_notes;
+}
 
 pub invariant_of-self-2 : goal.invariant_of-self-2
-invariant_of-self-2 c =
-    rw c.in_ok-add_part.ensures.ok (counted_mapped (with_row_parts (λ parts. parts ++ replicate c.args.size 0 ∷ [])) (λ row. refl) (λ row. refl) c.self.inside.rows.items c.self.inside.seen c.self.inside.deleted c.self.invariant)
+invariant_of-self-2 c = record {
+  counted = rw c.in_ok-add_part.ensures.ok
+      (counted_mapped (with_row_parts (λ parts. parts ++ replicate c.args.size 0 ∷ [])) (λ row. refl) (λ row. refl) c.self.inside.rows.items c.self.inside.notes.items c.self.inside.counts c.self.invariant.counted);
+  for_rows = omega arith;
+  for_notes = c.self.invariant.for_notes;
+}

@@ -1,32 +1,32 @@
-use Rattle.std.proofs.Common.{◌+◌, ◌<◌, ◌^◌, ap, rules, subst, sym}
+use Rattle.std.proofs.Common.{◌≡◌, ◌+◌, ◌<◌, ◌^◌, ◌++◌, [], ◌∷◌, List, ℕ, length, ap, arith, subst, sym, ◌∙◌}
 use Rattle.std.specs.Prelude.{All}
+use Rattle.std.proofs.lemmas.List.{length_push}
 use Rattle.dv_model.specs.declared.types.Row.{Row}
 use Rattle.dv_rows.specs.Kept.{Kept}
-use Rattle.dv_rows.proofs.Rising.{counted_push, one_more}
+use Rattle.dv_rows.proofs.Rising.{counted_many, counted_push, few, pushed_rows}
 use Rattle.dv_rows.proofs.rows.Rows.append.Goals as goal
 
-pub overflow_add-self : goal.overflow_add-self
-overflow_add-self c =
-    let above : All (λ (row : Row). row.uid < c.args.uid) c.self.inside.rows.items = subst (All (λ (row : Row). row.uid < c.args.uid)) (sym (ap (λ (kept : Kept). kept.rows) c.self.view_is)) c.requires.above in
+pub add_note-requires-clause-few : goal.add_note-requires-clause-few
+add_note-requires-clause-few c =
+    let rows : List Row = c.self.inside.rows.items in
+    let same : rows ≡ c.args.self.now.rows = ap (λ (kept : Kept). kept.rows) c.self.view_is ∙ c.in_ok-reserve.ensures.rows in
+    let above : All (λ (row : Row). row.uid < c.args.uid) rows = subst (All (λ (row : Row). row.uid < c.args.uid)) (sym same) c.requires.above in
     let row : Row = record { uid = c.args.uid; flags = c.args.flags; keywords = c.new.result; parts = c.args.parts; modseq = c.args.modseq } in
-    let small : c.self.inside.seen + c.flag_number.result < 2 ^ 32 =
-    one_more 8 c.self.inside.seen c.flag_number.result c.self.inside.rows.items row above c.requires.below c.self.invariant.are c.self.invariant.with_seen c.flag_number.ensures in
-    search rules
-
-pub overflow_add-self-2 : goal.overflow_add-self-2
-overflow_add-self-2 c =
-    let above : All (λ (row : Row). row.uid < c.args.uid) c.self.inside.rows.items = subst (All (λ (row : Row). row.uid < c.args.uid)) (sym (ap (λ (kept : Kept). kept.rows) c.self.view_is)) c.requires.above in
-    let row : Row = record { uid = c.args.uid; flags = c.args.flags; keywords = c.new.result; parts = c.args.parts; modseq = c.args.modseq } in
-    let small : c.self.inside.deleted + c.flag_number-2.result < 2 ^ 32 =
-    one_more 4 c.self.inside.deleted c.flag_number-2.result c.self.inside.rows.items row above c.requires.below c.self.invariant.are c.self.invariant.with_deleted c.flag_number-2.ensures in
-    search rules
+    let all : length (rows ++ row ∷ []) < 2 ^ 32 = few (rows ++ row ∷ []) (pushed_rows rows row above c.requires.below c.self.invariant.counted.are) in
+    let long : length (rows ++ row ∷ []) ≡ length rows + 1 = length_push rows row in
+    let many = counted_many rows c.self.inside.notes.items c.self.inside.counts c.self.invariant.counted in
+    omega arith
 
 pub invariant_of-self : goal.invariant_of-self
-invariant_of-self c = rw c.in_err-reserve.ensures.items c.self.invariant
-
-pub invariant_of-self-2 : goal.invariant_of-self-2
-invariant_of-self-2 c =
-    let above : All (λ (row : Row). row.uid < c.args.uid) c.self.inside.rows.items = subst (All (λ (row : Row). row.uid < c.args.uid)) (sym (ap (λ (kept : Kept). kept.rows) c.self.view_is)) c.requires.above in
+invariant_of-self c =
+    let rows : List Row = c.self.inside.rows.items in
+    let same : rows ≡ c.args.self.now.rows = ap (λ (kept : Kept). kept.rows) c.self.view_is ∙ c.in_ok-reserve.ensures.rows in
+    let above : All (λ (row : Row). row.uid < c.args.uid) rows = subst (All (λ (row : Row). row.uid < c.args.uid)) (sym same) c.requires.above in
     let row : Row = record { uid = c.args.uid; flags = c.args.flags; keywords = c.new.result; parts = c.args.parts; modseq = c.args.modseq } in
-    rw (c.add_row.ensures.items, c.in_ok-reserve.ensures.items)
-    (counted_push c.self.inside.rows.items row c.self.inside.seen c.self.inside.deleted c.flag_number.result c.flag_number-2.result above c.requires.below c.self.invariant c.flag_number.ensures c.flag_number-2.ensures)
+    let room : c.self.inside.room ≡ c.reserve.new.self.room = ap (λ (kept : Kept). kept.room) c.self.view_is in
+    record {
+      counted = rw c.add_row.ensures.items
+          (counted_push rows row c.self.inside.notes.items c.add_note.new.notes.items c.self.inside.counts c.add_note.new.counts above c.requires.below c.self.invariant.counted c.add_note.ensures.items c.add_note.ensures.tally);
+      for_rows = omega (arith, c.in_ok-reserve.ensures.ok, c.add_row.ensures.len, c.add_row.ensures.capacity, c.self.invariant.for_rows, room);
+      for_notes = omega (arith, c.in_ok-reserve.ensures.ok, c.add_note.ensures.len, c.add_note.ensures.capacity, c.self.invariant.for_notes, room);
+    }

@@ -1,11 +1,19 @@
-use Rattle.std.proofs.Common.{refl}
+use Rattle.std.proofs.Common.{refl, arith}
 use Rattle.dv_model.specs.Effects.{grown_to, with_item, with_row_parts}
 use Rattle.dv_rows.proofs.Rising.{counted_mapped}
 use Rattle.dv_rows.proofs.rows.Rows.grow_part.Goals as goal
 
 pub invariant_of-self : goal.invariant_of-self
-invariant_of-self c = rw c.in_err-grow_part.ensures.err c.self.invariant
+invariant_of-self c = record {
+  counted = rw c.in_err-grow_part.ensures.err c.self.invariant.counted;
+  for_rows = omega arith;
+  for_notes = c.self.invariant.for_notes;
+}
 
 pub invariant_of-self-2 : goal.invariant_of-self-2
-invariant_of-self-2 c =
-    rw c.in_ok-grow_part.ensures.ok (counted_mapped (with_row_parts (with_item c.args.place (grown_to c.args.size))) (λ row. refl) (λ row. refl) c.self.inside.rows.items c.self.inside.seen c.self.inside.deleted c.self.invariant)
+invariant_of-self-2 c = record {
+  counted = rw c.in_ok-grow_part.ensures.ok
+      (counted_mapped (with_row_parts (with_item c.args.place (grown_to c.args.size))) (λ row. refl) (λ row. refl) c.self.inside.rows.items c.self.inside.notes.items c.self.inside.counts c.self.invariant.counted);
+  for_rows = omega arith;
+  for_notes = c.self.invariant.for_notes;
+}

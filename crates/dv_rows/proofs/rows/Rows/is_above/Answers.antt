@@ -8,4 +8,4 @@ pub returns-in-Some : goal.returns-in-Some
 returns-in-Some c =
     let last : slice_get c.self.inside.rows.items (length c.self.inside.rows.items - 1) ≡ Some c.in-Some.row.now =
     ap (λ l. slice_get l (length l - 1)) (sym c.deref.ensures.value) ∙ sym c.in-Some.ensures.value in
-    subst (LastTells c.args.uid c.in-Some.row.now) (ap (λ (kept : Kept). kept.rows) c.self.view_is) (last_tells c.self.inside.rows.items c.in-Some.row.now c.args.uid c.self.invariant.are last)
+    subst (LastTells c.args.uid c.in-Some.row.now) (ap (λ (kept : Kept). kept.rows) c.self.view_is) (last_tells c.self.inside.rows.items c.in-Some.row.now c.args.uid c.self.invariant.counted.are last)
