@@ -11,7 +11,6 @@ mod text;
 
 pub use end::TableEnd;
 pub use law::{one_table, places_stay_places, written_is_read};
-pub use names::is_name;
 pub use places::change;
 pub use table::Table;
 pub use text::write_name;

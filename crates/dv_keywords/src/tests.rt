@@ -1,5 +1,6 @@
 use super::*;
 use dv_model::{Bytes, Duplicate, How, List, NoMemory};
+use dv_records::is_name;
 use std::alloc::Global;
 use std::test::*;
 

@@ -4,9 +4,9 @@ ghost use Rattle.dv_model.specs.Spelling.{padding, padded};
 ghost use Rattle.dv_formats.specs.Snapshots.{keyword_text};
 ghost use Rattle.dv_keywords.specs.Tables.{IsNameAt};
 
-use crate::names::is_name;
 use dv_model::{Bytes, NoMemory};
 use dv_num::u16_at;
+use dv_records::is_name;
 
 // The number of zero bytes behind so many others.
 fn padding(n: usize) -> usize

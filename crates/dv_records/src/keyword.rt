@@ -30,7 +30,8 @@ fn is_name_byte(byte: u8) -> bool
     0x21 <= byte && byte <= 0x7e && !b"(){\"\\%*".contains(&byte)
 }
 
-fn is_name(name: &[u8]) -> bool
+/// Whether these bytes are a keyword's name: an atom of at most 255 bytes (RFC 3501, section 9).
+pub fn is_name(name: &[u8]) -> bool
     ensures { IsTrue result ↔ IsName name.now }
 {
     if name.is_empty() || name.len() > 255 {

@@ -6,8 +6,8 @@ ghost use Rattle.dv_sets.specs.declared.end.ParseEnd.TheVariants as parse_end;
 
 use crate::cutting::cut;
 use crate::end::ParseEnd;
-use dv_keywords::is_name;
 use dv_model::{Bytes, List};
+use dv_records::is_name;
 use std::alloc::Global;
 
 // What stands in parentheses.
