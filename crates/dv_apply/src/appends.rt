@@ -18,7 +18,8 @@ fn test_rows(rows: &[NewRow], next_uid: u32) -> Result<(), ApplyFault>
     requires { All (λ row. row.uid < 2 ^ 32 - 1) rows.now }
     ensures ok { OnOk result (first_refused next_uid rows.now ≡ None) }
     ensures bad { OnBadAppend result (λ refused. first_refused next_uid rows.now ≡ Some refused) }
-    ensures refused { (refused : Refused) → first_refused next_uid rows.now ≡ Some refused → result ≡ Err (fault.BadAppend refused.uid refused.next_uid) }
+    ensures refused { (refused : Refused) → first_refused next_uid rows.now ≡ Some refused →
+        result ≡ Err (fault.BadAppend refused.uid refused.next_uid) }
     ensures memory { result ≡ Err fault.NoMemory → ⊥ }
 {
     let mut next = next_uid;
@@ -125,8 +126,11 @@ pub fn append(state: &mut State, rows: &[NewRow]) -> Result<(), ApplyFault>
     requires kept { IsKept state.old }
     requires below { All (λ row. row.uid < 2 ^ 32 - 1) rows.now }
     ensures ok { OnOk result (Becomes state.old (Append rows.now) state.new) }
-    ensures bad { OnBadAppend result (λ refused. first_refused state.old.next_uid rows.now ≡ Some refused) }
-    ensures refused { (refused : Refused) → first_refused state.old.next_uid rows.now ≡ Some refused → result ≡ Err (fault.BadAppend refused.uid refused.next_uid) }
+    ensures bad { OnBadAppend result (λ refused. first_refused state.old.next_uid rows.now
+        ≡ Some refused) }
+    ensures refused { (refused : Refused) →
+        first_refused state.old.next_uid rows.now ≡ Some refused →
+        result ≡ Err (fault.BadAppend refused.uid refused.next_uid) }
     ensures err { OnErr result (kept_of state.new ≡ kept_of state.old) }
     ensures kept { OnErr result (IsKept state.new) }
     ensures memory { length rows.now ≤ state.old.spare → result ≡ Err fault.NoMemory → ⊥ }

@@ -43,7 +43,8 @@ fn change(state: &mut State, body: &Body) -> Result<(), NoMemory>
     requires other { IsOther body.now }
     ensures ok { OnOk result (Becomes state.old body.now state.new) }
     ensures err { OnErr result (state.new ≡ state.old) }
-    ensures memory { TakesNone state.old.extensions.extensions state.old.spare body.now → result ≡ Ok tt }
+    ensures memory { TakesNone state.old.extensions.extensions state.old.spare body.now →
+        result ≡ Ok tt }
 {
     match body {
         Body::Append(_) => Ok(()),
@@ -95,11 +96,15 @@ pub fn apply_body(state: &mut State, body: &Body) -> Result<(), ApplyFault>
     requires kept { IsKept state.old }
     requires sound { IsSound body.now }
     ensures ok { OnOk result (Becomes state.old body.now state.new) }
-    ensures bad { OnBadAppend result (λ refused. refused_row (mailbox_of state.old) body.now ≡ Some refused) }
-    ensures refused { (refused : Refused) → refused_row (mailbox_of state.old) body.now ≡ Some refused → result ≡ Err (fault.BadAppend refused.uid refused.next_uid) }
+    ensures bad { OnBadAppend result (λ refused. refused_row (mailbox_of state.old) body.now
+        ≡ Some refused) }
+    ensures refused { (refused : Refused) →
+        refused_row (mailbox_of state.old) body.now ≡ Some refused →
+        result ≡ Err (fault.BadAppend refused.uid refused.next_uid) }
     ensures err { OnErr result (kept_of state.new ≡ kept_of state.old) }
     ensures kept { OnErr result (IsKept state.new) }
-    ensures memory { TakesNone state.old.extensions.extensions state.old.spare body.now → result ≡ Err fault.NoMemory → ⊥ }
+    ensures memory { TakesNone state.old.extensions.extensions state.old.spare body.now →
+        result ≡ Err fault.NoMemory → ⊥ }
 {
     match body {
         Body::Append(rows) => append(state, rows.as_slice()),

@@ -29,7 +29,8 @@ fn are_quiet(extensions: &Extensions, intros: &[Intro]) -> bool
 // Makes the introduced extensions current in turn, where that leaves them all as they are.
 fn make_current(extensions: &mut Extensions, intros: &[Intro])
     requires { list_all (is_quiet extensions.old.extensions) intros.now ≡ true }
-    ensures is { (m : Mailbox) → IsValid (with_table extensions.old m) → fold with_intro (with_table extensions.old m) intros.now ≡ with_table extensions.new m }
+    ensures is { (m : Mailbox) → IsValid (with_table extensions.old m) →
+        fold with_intro (with_table extensions.old m) intros.now ≡ with_table extensions.new m }
     ensures list { extensions.new.extensions ≡ extensions.old.extensions }
 {
     for intro in intros {
@@ -71,7 +72,8 @@ pub fn introduce_all(state: &mut State, intros: &[Intro]) -> Result<(), NoMemory
     requires { IsKept state.old }
     ensures ok { OnOk result (Becomes state.old (ExtIntro intros.now) state.new) }
     ensures err { OnErr result (state.new ≡ state.old) }
-    ensures memory { list_all (is_quiet state.old.extensions.extensions) intros.now ≡ true → result ≡ Ok tt }
+    ensures memory { list_all (is_quiet state.old.extensions.extensions) intros.now ≡ true →
+        result ≡ Ok tt }
 {
     if are_quiet(&state.extensions, intros) {
         introduce_quietly(state, intros);

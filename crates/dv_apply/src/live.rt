@@ -65,23 +65,28 @@ impl Live {
     /// Applies a record of the log (Dovecot's `mail-transaction-log.h`). `BadAppend` is the answer
     /// exactly where a row of an append has a UID below the UIDNEXT that the rows before it leave;
     /// it names the first such row. After an error all is as before. An append of at most the spare
-    /// rows, an expunge, a flag update, a header update, a keyword reset, an introduction that leaves
-    /// the extensions as they are, and a reset or an update of an extension's header or rows take no
-    /// memory.
+    /// rows, an expunge, a flag update, a header update, a keyword reset, an introduction that
+    /// leaves the extensions as they are, and a reset or an update of an extension's header or rows
+    /// take no memory.
     pub fn apply(&mut self, r: &Record) -> Result<(), ApplyFault>
         requires { IsRecord r.now }
         // What is applied has the record's effect.
         ensures ok { OnOk result (after_record self.old.mailbox r.now ≡ Some self.new.mailbox) }
         // A named row is the first that is refused.
-        ensures bad { OnBadAppend result (λ refused. refused_row self.old.mailbox r.now.body ≡ Some refused) }
+        ensures bad { OnBadAppend result (λ refused. refused_row self.old.mailbox r.now.body
+            ≡ Some refused) }
         // A refused row is named.
-        ensures refused { (refused : Refused) → refused_row self.old.mailbox r.now.body ≡ Some refused → result ≡ Err (fault.BadAppend refused.uid refused.next_uid) }
+        ensures refused { (refused : Refused) →
+            refused_row self.old.mailbox r.now.body ≡ Some refused →
+            result ≡ Err (fault.BadAppend refused.uid refused.next_uid) }
         // Nothing changes by an error.
         ensures err { OnErr result (self.new ≡ self.old) }
         // Only appends use up spare rows, and introductions that change the extensions.
-        ensures spare { OnOk result (self.new.spare ≡ spare_after self.old.mailbox.extensions self.old.spare r.now.body) }
+        ensures spare { OnOk result (self.new.spare
+            ≡ spare_after self.old.mailbox.extensions self.old.spare r.now.body) }
         // Some records take no memory.
-        ensures memory { TakesNone self.old.mailbox.extensions self.old.spare r.now.body → result ≡ Err fault.NoMemory → ⊥ }
+        ensures memory { TakesNone self.old.mailbox.extensions self.old.spare r.now.body →
+            result ≡ Err fault.NoMemory → ⊥ }
     {
         if is_request(r) {
             pass(&mut self.state);
@@ -166,7 +171,8 @@ impl Live {
 
     /// The extensions, and the current one.
     pub fn extensions(&self) -> &Extensions
-        ensures { result.now ≡ record { extensions = self.now.mailbox.extensions; current = self.now.mailbox.current } }
+        ensures { result.now
+            ≡ record { extensions = self.now.mailbox.extensions; current = self.now.mailbox.current } }
     {
         &self.state.extensions
     }

@@ -14,7 +14,8 @@ use std::alloc::Global;
 
 /// Changes the parts of each row. After `NoMemory` they are as before.
 pub fn change_parts(rows: &mut Rows, change: PartsChange) -> Result<(), NoMemory>
-    ensures ok { OnOk result ((m : Mailbox) → m.rows ≡ rows.old.rows → rows_changed change m ≡ record m { rows = rows.new.rows }) }
+    ensures ok { OnOk result ((m : Mailbox) → m.rows ≡ rows.old.rows →
+        rows_changed change m ≡ record m { rows = rows.new.rows }) }
     ensures alike { OnOk result (IsAlike rows.old.rows rows.new.rows) }
     ensures room { rows.new.room ≡ rows.old.room }
     ensures err { OnErr result (rows.new ≡ rows.old) }
@@ -33,7 +34,8 @@ pub fn change_parts(rows: &mut Rows, change: PartsChange) -> Result<(), NoMemory
 /// Zeroes the parts of each row that a reset zeroes, without memory.
 pub fn zero_parts(rows: &mut Rows, change: PartsChange)
     requires { Zeroes change }
-    ensures is { (m : Mailbox) → m.rows ≡ rows.old.rows → rows_changed change m ≡ record m { rows = rows.new.rows } }
+    ensures is { (m : Mailbox) → m.rows ≡ rows.old.rows →
+        rows_changed change m ≡ record m { rows = rows.new.rows } }
     ensures alike { IsAlike rows.old.rows rows.new.rows }
     ensures room { rows.new.room ≡ rows.old.room }
 {
@@ -49,7 +51,9 @@ pub fn zero_parts(rows: &mut Rows, change: PartsChange)
 pub fn write_parts(rows: &mut Rows, updates: &RowUpdates, place: u32)
     requires { All (IsWide place updates.now.size) rows.old.rows }
     ensures is { (m : Mailbox) → m.rows ≡ rows.old.rows
-        → fold (with_update (record { extension = place; size = updates.now.size })) m updates.now.rows ≡ record m { rows = rows.new.rows } }
+        → fold (with_update
+        (record { extension = place; size = updates.now.size })) m updates.now.rows
+        ≡ record m { rows = rows.new.rows } }
     ensures alike { IsAlike rows.old.rows rows.new.rows }
     ensures room { rows.new.room ≡ rows.old.room }
 {
@@ -86,8 +90,10 @@ pub fn introduce(
     rows: &mut Rows,
     intros: &[Intro],
 ) -> Result<(), NoMemory>
-    ensures is { OnOk result ((m : Mailbox) → IsValid (with_table extensions.old m) → m.rows ≡ rows.old.rows
-        → fold with_intro (with_table extensions.old m) intros.now ≡ with_table extensions.new (record m { rows = rows.new.rows })) }
+    ensures is { OnOk result ((m : Mailbox) → IsValid (with_table extensions.old m) →
+        m.rows ≡ rows.old.rows
+        → fold with_intro (with_table extensions.old m) intros.now
+        ≡ with_table extensions.new (record m { rows = rows.new.rows })) }
     ensures alike { OnOk result (IsAlike rows.old.rows rows.new.rows) }
 {
     for intro in intros {

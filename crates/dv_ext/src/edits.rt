@@ -115,7 +115,8 @@ fn write_parts(header: &mut [u8], parts: &[Part])
 }
 
 fn write(alloc: Global, extension: &mut Extension, parts: &[Part])
-    ensures { extension.new ≡ record extension.old { header = fold written_over extension.old.header parts.now } }
+    ensures { extension.new
+        ≡ record extension.old { header = fold written_over extension.old.header parts.now } }
 {
     let mut header = taken(alloc, &mut extension.header);
     write_parts(&mut header, parts);
@@ -125,7 +126,9 @@ fn write(alloc: Global, extension: &mut Extension, parts: &[Part])
 /// Writes each part that fits into the header of the extension at a place.
 pub fn write_at(alloc: Global, list: &mut List<Extension>, place: usize, parts: &[Part])
     requires { place < length list.old }
-    ensures { list.new ≡ with_item place (λ e. record e { header = fold written_over e.header parts.now }) list.old }
+    ensures { list.new
+        ≡ with_item place
+        (λ e. record e { header = fold written_over e.header parts.now }) list.old }
 {
     let mut items = taken(alloc, list);
     write(alloc, &mut items[place], parts);

@@ -165,7 +165,8 @@ impl Extensions {
     /// Introduces an extension, which becomes current, or none does. After `NoMemory` nothing has
     /// changed.
     pub fn intro(&mut self, intro: &Intro) -> Result<PartsChange, NoMemory>
-        ensures ok { IfOk result (λ change. Does (λ m. with_intro m intro.now) self.old self.new change) }
+        ensures ok { IfOk result
+            (λ change. Does (λ m. with_intro m intro.now) self.old self.new change) }
         ensures valid { IfOk result (λ change. Keeps self.old self.new change) }
         ensures err { OnErr result (self.new ≡ self.old) }
     {
@@ -178,7 +179,8 @@ impl Extensions {
     /// Gives the current extension another reset number, and zero bytes to its header and its
     /// parts unless `preserve` isn't 0. Takes no memory.
     pub fn reset(&mut self, reset_id: u32, preserve: u8) -> PartsChange
-        ensures does { Does (λ m. on_current m (with_reset reset_id preserve m)) self.old self.new result }
+        ensures does { Does
+            (λ m. on_current m (with_reset reset_id preserve m)) self.old self.new result }
         ensures zeroes { Zeroes result }
         ensures valid { Keeps self.old self.new result }
     {
@@ -203,7 +205,8 @@ impl Extensions {
     /// Writes each part that fits into the header of the current extension. Takes no memory, and
     /// changes no row.
     pub fn header(&mut self, parts: &List<Part>)
-        ensures does { Does (λ m. on_current m (with_header_parts parts.now m)) self.old self.new Same }
+        ensures does { Does
+            (λ m. on_current m (with_header_parts parts.now m)) self.old self.new Same }
         ensures valid { Keeps self.old self.new Same }
     {
         let Some(current) = self.current else {
@@ -216,7 +219,9 @@ impl Extensions {
 
 // Whether the extension has the sizes of an introduction, or larger ones.
 fn has_sizes(known: &Extension, intro: &Intro) -> bool
-    ensures { result ≡ (nat_le intro.now.hdr_size (length known.now.header) && nat_le intro.now.record_size known.now.record_size) }
+    ensures { result
+        ≡ (nat_le intro.now.hdr_size
+        (length known.now.header) && nat_le intro.now.record_size known.now.record_size) }
 {
     intro.hdr_size as usize <= known.header.len() && intro.record_size <= known.record_size
 }

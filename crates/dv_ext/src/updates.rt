@@ -76,7 +76,8 @@ impl<'a> RowUpdates<'a> {
     pub fn get(&self, at: usize) -> (u32, &'a [u8])
         requires { at < length self.now.rows }
         ensures uid { result.0 ≡ from_le_bytes w32 (take 4 (slice_index_or self.now.rows at [])) }
-        ensures bytes { result.1.now ≡ take self.now.size (drop 4 (slice_index_or self.now.rows at [])) }
+        ensures bytes { result.1.now
+            ≡ take self.now.size (drop 4 (slice_index_or self.now.rows at [])) }
         ensures size { length result.1.now ≡ self.now.size }
     {
         row_at(self.size, self.bytes, at)

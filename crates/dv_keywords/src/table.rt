@@ -92,7 +92,8 @@ impl Table {
     /// is as before; that is the answer too where it is full. A known name takes no memory.
     pub fn add(&mut self, name: &[u8]) -> Result<u32, NoMemory>
         requires { IsName name.now }
-        ensures ok { IfOk result (λ at. (self.new ≡ with_name name.now self.old) × (place_of self.new name.now ≡ Some at)) }
+        ensures ok { IfOk result (λ at. (self.new ≡ with_name name.now self.old)
+            × (place_of self.new name.now ≡ Some at)) }
         ensures err { OnErr result (self.new ≡ self.old) }
         ensures known { (at : ℕ) → place_of self.old name.now ≡ Some at → result ≡ Ok at }
     {
@@ -135,11 +136,14 @@ impl Table {
         // What is read stands there.
         ensures found { IfOk result (λ x. IsTableAt count x.0 x.1 b.now) }
         // What stands there is read.
-        ensures only { (names : List (List ℕ)) (n : ℕ) → IsTableAt count names n b.now → Answers result (Ok (names, n)) }
+        ensures only { (names : List (List ℕ)) (n : ℕ) → IsTableAt count names n b.now →
+            Answers result (Ok (names, n)) }
         // Bad bytes begin with no table.
-        ensures bad { OnBad result ((names : List (List ℕ)) (n : ℕ) → IsTableAt count names n b.now → ⊥) }
+        ensures bad { OnBad result ((names : List (List ℕ)) (n : ℕ) →
+            IsTableAt count names n b.now → ⊥) }
         // Where none begins them, they are bad.
-        ensures every { ((names : List (List ℕ)) (n : ℕ) → IsTableAt count names n b.now → ⊥) → Answers result (Err end.Bad) }
+        ensures every { ((names : List (List ℕ)) (n : ℕ) → IsTableAt count names n b.now → ⊥) →
+            Answers result (Err end.Bad) }
     {
         let mut names = List::new(alloc);
         let mut at = 0;

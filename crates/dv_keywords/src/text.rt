@@ -32,7 +32,8 @@ fn are_zero(bytes: &[u8]) -> bool
 /// The name whose text begins these bytes.
 pub fn read_name(b: &[u8]) -> Option<&[u8]>
     ensures some { IfSome result (λ name. IsNameAt b.now name.now) }
-    ensures none { IfNone result ((name rest : List ℕ) → IsName name → b.now ≡ keyword_text name ++ rest → ⊥) }
+    ensures none { IfNone result ((name rest : List ℕ) → IsName name →
+        b.now ≡ keyword_text name ++ rest → ⊥) }
 {
     if b.len() < 2 {
         return None;

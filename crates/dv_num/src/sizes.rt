@@ -22,7 +22,8 @@ pub fn size_code(n: u32) -> [u8; 4]
 /// them lacks the bit 0x80: the size isn't written yet.
 pub fn size_value(code: [u8; 4]) -> Option<u32>
     ensures is { result ≡ size_value code }
-    ensures none { IsNone result ↔ ((slice_index code 0 < 128) ⊎ (slice_index code 1 < 128) ⊎ (slice_index code 2 < 128) ⊎ (slice_index code 3 < 128)) }
+    ensures none { IsNone result ↔ ((slice_index code 0 < 128) ⊎ (slice_index code 1 < 128)
+        ⊎ (slice_index code 2 < 128) ⊎ (slice_index code 3 < 128)) }
     ensures back { IfSome result (λ n. (n < 2 ^ 30) × (n % 4 ≡ 0) × (size_code n ≡ code)) }
 {
     let [a, b, c, d] = code;

@@ -1,8 +1,9 @@
 ghost use Rattle.dv_playing.specs.Laws.{PlaysAreSerial, PlaysMayLeave, PlaysStand, PlaysGoOn, RepliesGoOn};
 
 /// What is played of a script is a run by the session rules over the log that the play makes: each
-/// command is refused by its one line, answered by the disk's failure, or told over the entries so far,
-/// with its own group as the last of them. The first line that isn't answered may have left its group.
+/// command is refused by its one line, answered by the disk's failure, or told over the entries so
+/// far, with its own group as the last of them. The first line that isn't answered may have left
+/// its group.
 pub fn plays_are_serial()
     ensures serial { PlaysAreSerial }
     ensures left { PlaysMayLeave }

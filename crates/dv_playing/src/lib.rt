@@ -1,5 +1,5 @@
-//! A script of any number of sessions, played by the session rules over one log, and the law that what
-//! is played is a run by the rules.
+//! A script of any number of sessions, played by the session rules over one log, and the law that
+//! what is played is a run by the rules.
 #![tactic(auto)]
 
 mod laws;

@@ -57,8 +57,11 @@ pub fn flag_number(flags: u8, flag: u8) -> u32
 // The count where these flags take the place of those.
 fn recount(count: u32, flag: u8, old: u8, new: u8) -> u32
     requires has { (if not (nat_eq (bit_and old flag) 0) then 1 else 0) ≤ count }
-    requires fits { count - (if not (nat_eq (bit_and old flag) 0) then 1 else 0) + (if not (nat_eq (bit_and new flag) 0) then 1 else 0) < 2 ^ 32 }
-    ensures { result ≡ count - (if not (nat_eq (bit_and old flag) 0) then 1 else 0) + (if not (nat_eq (bit_and new flag) 0) then 1 else 0) }
+    requires fits { count - (if not (nat_eq (bit_and old flag) 0) then 1 else 0) +
+        (if not (nat_eq (bit_and new flag) 0) then 1 else 0) < 2 ^ 32 }
+    ensures { result
+        ≡ count - (if not (nat_eq (bit_and old flag) 0) then 1 else 0) +
+        (if not (nat_eq (bit_and new flag) 0) then 1 else 0) }
 {
     count - flag_number(old, flag) + flag_number(new, flag)
 }

@@ -49,9 +49,12 @@ fn plan_row(
     others: &mut Vec<Other>,
 ) -> Result<(), NoMemory>
     requires { at < length rows.now }
-    ensures right { (pairs : List Pair) → ((d : Row) → is_in_pairs pairs (get_or rows.now at d).uid ≡ true)
-        → All (IsRight pairs how place rows.now) others.old.items → OnOk result (All (IsRight pairs how place rows.now) others.new.items) }
-    ensures more { (k : ℕ) → IsPlanned how place rows.now others.old.items k → OnOk result (IsPlanned how place rows.now others.new.items k) }
+    ensures right { (pairs : List Pair) →
+        ((d : Row) → is_in_pairs pairs (get_or rows.now at d).uid ≡ true)
+        → All (IsRight pairs how place rows.now) others.old.items →
+        OnOk result (All (IsRight pairs how place rows.now) others.new.items) }
+    ensures more { (k : ℕ) → IsPlanned how place rows.now others.old.items k →
+        OnOk result (IsPlanned how place rows.now others.new.items k) }
     ensures here { OnOk result (IsPlanned how place rows.now others.new.items at) }
 {
     let Some(keywords) = other_keywords(alloc, &rows[at], how, place)? else {
@@ -71,10 +74,15 @@ fn plan_range(
     others: &mut Vec<Other>,
 ) -> Result<(), NoMemory>
     requires { AreRows rows.now }
-    ensures right { (pairs : List Pair) → ((uid : ℕ) → is_in_pair uid pair.now ≡ true → is_in_pairs pairs uid ≡ true)
-        → All (IsRight pairs how place rows.now) others.old.items → OnOk result (All (IsRight pairs how place rows.now) others.new.items) }
-    ensures more { (k : ℕ) → IsPlanned how place rows.now others.old.items k → OnOk result (IsPlanned how place rows.now others.new.items k) }
-    ensures all { OnOk result ((k : ℕ) (d : Row) → k < length rows.now → is_in_pair (get_or rows.now k d).uid pair.now ≡ true → IsPlanned how place rows.now others.new.items k) }
+    ensures right { (pairs : List Pair) →
+        ((uid : ℕ) → is_in_pair uid pair.now ≡ true → is_in_pairs pairs uid ≡ true)
+        → All (IsRight pairs how place rows.now) others.old.items →
+        OnOk result (All (IsRight pairs how place rows.now) others.new.items) }
+    ensures more { (k : ℕ) → IsPlanned how place rows.now others.old.items k →
+        OnOk result (IsPlanned how place rows.now others.new.items k) }
+    ensures all { OnOk result ((k : ℕ) (d : Row) → k < length rows.now →
+        is_in_pair (get_or rows.now k d).uid pair.now ≡ true →
+        IsPlanned how place rows.now others.new.items k) }
 {
     let mut at = place_from(rows, pair.first);
     while at < rows.len() && rows[at].uid <= pair.last {
@@ -111,8 +119,11 @@ fn put(row: &mut Row, keywords: List<u32>, modseq: u64)
 // Puts them into the rows, which then have this modification sequence.
 fn put_others(rows: &mut [Row], others: Vec<Other>, modseq: u64)
     requires { All (λ other. other.at < length rows.old) others.items }
-    ensures { (pairs : List Pair) (how : How) (place : ℕ) → IsPlan pairs how place rows.old others.items
-        → rows.new ≡ map (λ row. restamped modseq row (changed_keywords pairs (keywords_after how place) row)) rows.old }
+    ensures { (pairs : List Pair) (how : How) (place : ℕ) →
+        IsPlan pairs how place rows.old others.items
+        → rows.new
+        ≡ map (λ row. restamped modseq row
+        (changed_keywords pairs (keywords_after how place) row)) rows.old }
 {
     let mut others = others;
     while let Some(other) = others.pop() {
@@ -130,7 +141,9 @@ pub fn change_keywords(
     modseq: u64,
 ) -> Result<(), NoMemory>
     requires { AreRows rows.old.items }
-    ensures ok { OnOk result (rows.new.items ≡ map (λ row. restamped modseq row (changed_keywords pairs.now (keywords_after how place) row)) rows.old.items) }
+    ensures ok { OnOk result (rows.new.items
+        ≡ map (λ row. restamped modseq row
+        (changed_keywords pairs.now (keywords_after how place) row)) rows.old.items) }
     ensures err { OnErr result (rows.new.items ≡ rows.old.items) }
     ensures len { vec_len rows.new ≡ vec_len rows.old }
     ensures capacity { vec_capacity rows.new ≡ vec_capacity rows.old }

@@ -35,7 +35,9 @@ fn with_more(alloc: Global, parts: &List<Bytes>, size: u16) -> Result<List<Bytes
 }
 
 fn plan_more(alloc: Global, rows: &[Row], size: u16) -> Result<Vec<List<Bytes>>, NoMemory>
-    ensures { IfOk result (λ plan. AllZip (λ row parts. parts ≡ row.parts ++ replicate size 0 ∷ []) rows.now plan.items) }
+    ensures { IfOk result
+        (λ plan. AllZip (λ row parts. parts
+        ≡ row.parts ++ replicate size 0 ∷ []) rows.now plan.items) }
 {
     let mut plan = Vec::new(alloc);
     for row in rows {
@@ -46,7 +48,8 @@ fn plan_more(alloc: Global, rows: &[Row], size: u16) -> Result<Vec<List<Bytes>>,
 
 /// Gives each row one part more, of zero bytes. After `NoMemory` they are as before.
 pub fn add_part(alloc: Global, rows: &mut Vec<Row>, size: u16) -> Result<(), NoMemory>
-    ensures ok { OnOk result (rows.new.items ≡ map (with_row_parts (λ parts. parts ++ replicate size 0 ∷ [])) rows.old.items) }
+    ensures ok { OnOk result (rows.new.items
+        ≡ map (with_row_parts (λ parts. parts ++ replicate size 0 ∷ [])) rows.old.items) }
     ensures err { OnErr result (rows.new.items ≡ rows.old.items) }
     ensures len { vec_len rows.new ≡ vec_len rows.old }
     ensures capacity { vec_capacity rows.new ≡ vec_capacity rows.old }
@@ -95,7 +98,9 @@ fn plan_grown(
     place: u32,
     size: u16,
 ) -> Result<Vec<List<Bytes>>, NoMemory>
-    ensures { IfOk result (λ plan. AllZip (λ row parts. parts ≡ with_item place (grown_to size) row.parts) rows.now plan.items) }
+    ensures { IfOk result
+        (λ plan. AllZip (λ row parts. parts
+        ≡ with_item place (grown_to size) row.parts) rows.now plan.items) }
 {
     let mut plan = Vec::new(alloc);
     for row in rows {
@@ -107,7 +112,8 @@ fn plan_grown(
 /// Fills the part at a place of each row up with zero bytes to this size. After `NoMemory` they are
 /// as before.
 pub fn grow_part(alloc: Global, rows: &mut Vec<Row>, place: u32, size: u16) -> Result<(), NoMemory>
-    ensures ok { OnOk result (rows.new.items ≡ map (with_row_parts (with_item place (grown_to size))) rows.old.items) }
+    ensures ok { OnOk result (rows.new.items
+        ≡ map (with_row_parts (with_item place (grown_to size))) rows.old.items) }
     ensures err { OnErr result (rows.new.items ≡ rows.old.items) }
     ensures len { vec_len rows.new ≡ vec_len rows.old }
     ensures capacity { vec_capacity rows.new ≡ vec_capacity rows.old }
@@ -200,8 +206,12 @@ fn write_in(alloc: Global, row: &mut Row, place: u32, bytes: &[u8])
 
 fn set_in(alloc: Global, rows: &mut [Row], uid: u32, place: u32, bytes: &[u8])
     requires rows { AreRows rows.old }
-    requires fits { All (λ row. IfSome (slice_get row.parts place) (λ part. length bytes.now ≤ length part)) rows.old }
-    ensures { rows.new ≡ map (λ row. if nat_eq uid row.uid then with_row_parts (with_item place (written_at_front bytes.now)) row else row) rows.old }
+    requires fits { All
+        (λ row. IfSome (slice_get row.parts place)
+        (λ part. length bytes.now ≤ length part)) rows.old }
+    ensures { rows.new
+        ≡ map (λ row. if nat_eq uid row.uid then with_row_parts
+        (with_item place (written_at_front bytes.now)) row else row) rows.old }
 {
     let Some(at) = place_of(rows, uid) else {
         return;
@@ -212,8 +222,12 @@ fn set_in(alloc: Global, rows: &mut [Row], uid: u32, place: u32, bytes: &[u8])
 /// Writes these bytes over the first ones of the part at a place of the row with this UID.
 pub fn set_part(alloc: Global, rows: &mut Vec<Row>, uid: u32, place: u32, bytes: &[u8])
     requires rows { AreRows rows.old.items }
-    requires fits { All (λ row. IfSome (slice_get row.parts place) (λ part. length bytes.now ≤ length part)) rows.old.items }
-    ensures items { rows.new.items ≡ map (λ row. if nat_eq uid row.uid then with_row_parts (with_item place (written_at_front bytes.now)) row else row) rows.old.items }
+    requires fits { All
+        (λ row. IfSome (slice_get row.parts place)
+        (λ part. length bytes.now ≤ length part)) rows.old.items }
+    ensures items { rows.new.items
+        ≡ map (λ row. if nat_eq uid row.uid then with_row_parts
+        (with_item place (written_at_front bytes.now)) row else row) rows.old.items }
     ensures len { vec_len rows.new ≡ vec_len rows.old }
     ensures capacity { vec_capacity rows.new ≡ vec_capacity rows.old }
 {

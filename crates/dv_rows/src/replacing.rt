@@ -24,7 +24,9 @@ impl Made for List<Bytes> {
 /// Puts what was made for each row into it.
 pub fn put_each<T: Made>(rows: &mut [Row], made: Vec<T>, modseq: u64)
     requires { length rows.old ≡ vec_len made }
-    ensures { (f : Row → Row) → AllZip (λ row new. T.put modseq row new ≡ f row) rows.old made.items → rows.new ≡ map f rows.old }
+    ensures { (f : Row → Row) →
+        AllZip (λ row new. T.put modseq row new ≡ f row) rows.old made.items →
+        rows.new ≡ map f rows.old }
 {
     let mut made = made;
     while let Some(new) = made.pop() {

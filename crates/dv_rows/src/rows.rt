@@ -174,7 +174,10 @@ impl Rows {
     ) -> Result<(), NoMemory>
         requires above { All (λ row. row.uid < uid) self.old.rows }
         requires below { uid < 2 ^ 32 - 1 }
-        ensures ok { OnOk result (self.new.rows ≡ self.old.rows ++ record { uid = uid; flags = flags; keywords = []; parts = parts; modseq = modseq } ∷ []) }
+        ensures ok { OnOk result (self.new.rows
+            ≡ self.old.rows
+            ++ record { uid = uid; flags = flags; keywords = []; parts = parts; modseq = modseq }
+            ∷ []) }
         ensures room { self.old.room ≤ self.new.room + 1 }
         ensures err { OnErr result (self.new ≡ self.old) }
         ensures succeeds { 0 < self.old.room → result ≡ Ok tt }
@@ -195,7 +198,9 @@ impl Rows {
 
     // Removes the rows in the ranges. Only those behind the first that leaves are moved.
     fn remove<R: Range>(&mut self, ranges: &[R])
-        ensures rows { self.new.rows ≡ filter (λ row. not (list_any (has R.lowest R.highest row.uid) ranges.now)) self.old.rows }
+        ensures rows { self.new.rows
+            ≡ filter
+            (λ row. not (list_any (has R.lowest R.highest row.uid) ranges.now)) self.old.rows }
         ensures room { self.new.room ≡ self.old.room }
     {
         let from = first_place(&self.rows, ranges);
@@ -211,7 +216,8 @@ impl Rows {
 
     /// Removes the rows in the ranges (Dovecot's `mail_transaction_expunge`), without memory.
     pub fn expunge(&mut self, pairs: &[Pair])
-        ensures rows { self.new.rows ≡ filter (λ row. not (is_in_pairs pairs.now row.uid)) self.old.rows }
+        ensures rows { self.new.rows
+            ≡ filter (λ row. not (is_in_pairs pairs.now row.uid)) self.old.rows }
         ensures room { self.new.room ≡ self.old.room }
     {
         self.remove(pairs);
@@ -219,7 +225,8 @@ impl Rows {
 
     /// Removes the rows that are named (Dovecot's `mail_transaction_expunge_guid`), without memory.
     pub fn expunge_named(&mut self, rows: &[GuidRow])
-        ensures rows { self.new.rows ≡ filter (λ row. not (is_in_guid_rows rows.now row.uid)) self.old.rows }
+        ensures rows { self.new.rows
+            ≡ filter (λ row. not (is_in_guid_rows rows.now row.uid)) self.old.rows }
         ensures room { self.new.room ≡ self.old.room }
     {
         self.remove(rows);
@@ -228,7 +235,8 @@ impl Rows {
     /// Changes flags (Dovecot's `mail_transaction_flag_update`), without memory. A row whose system
     /// flags are others then has this modification sequence.
     pub fn change_flags(&mut self, changes: &[Change], modseq: u64)
-        ensures rows { self.new.rows ≡ map (λ row. restamped modseq row (fold changed_flags row changes.now)) self.old.rows }
+        ensures rows { self.new.rows
+            ≡ map (λ row. restamped modseq row (fold changed_flags row changes.now)) self.old.rows }
         ensures room { self.new.room ≡ self.old.room }
     {
         walk(
@@ -257,7 +265,9 @@ impl Rows {
         place: u32,
         modseq: u64,
     ) -> Result<(), NoMemory>
-        ensures ok { OnOk result (self.new.rows ≡ map (λ row. restamped modseq row (changed_keywords pairs.now (keywords_after how place) row)) self.old.rows) }
+        ensures ok { OnOk result (self.new.rows
+            ≡ map (λ row. restamped modseq row
+            (changed_keywords pairs.now (keywords_after how place) row)) self.old.rows) }
         ensures room { self.new.room ≡ self.old.room }
         ensures err { OnErr result (self.new ≡ self.old) }
     {
@@ -269,7 +279,9 @@ impl Rows {
     /// `mail_transaction_keyword_reset`), without memory. A row that had some then has this
     /// modification sequence.
     pub fn clear_keywords(&mut self, pairs: &[Pair], modseq: u64)
-        ensures rows { self.new.rows ≡ map (λ row. restamped modseq row (changed_keywords pairs.now (λ places. []) row)) self.old.rows }
+        ensures rows { self.new.rows
+            ≡ map (λ row. restamped modseq row
+            (changed_keywords pairs.now (λ places. []) row)) self.old.rows }
         ensures room { self.new.room ≡ self.old.room }
     {
         let clear = ClearKeywords {
@@ -287,7 +299,8 @@ impl Rows {
 
     /// Gives each row one part more, of so many zero bytes. After `NoMemory` all is as before.
     pub fn add_part(&mut self, size: u16) -> Result<(), NoMemory>
-        ensures ok { OnOk result (self.new.rows ≡ map (with_row_parts (λ parts. parts ++ replicate size 0 ∷ [])) self.old.rows) }
+        ensures ok { OnOk result (self.new.rows
+            ≡ map (with_row_parts (λ parts. parts ++ replicate size 0 ∷ [])) self.old.rows) }
         ensures room { self.new.room ≡ self.old.room }
         ensures err { OnErr result (self.new ≡ self.old) }
     {
@@ -298,7 +311,8 @@ impl Rows {
     /// Fills the part at a place of each row, where it is shorter, up to this size with zero bytes.
     /// After `NoMemory` all is as before.
     pub fn grow_part(&mut self, place: u32, size: u16) -> Result<(), NoMemory>
-        ensures ok { OnOk result (self.new.rows ≡ map (with_row_parts (with_item place (grown_to size))) self.old.rows) }
+        ensures ok { OnOk result (self.new.rows
+            ≡ map (with_row_parts (with_item place (grown_to size))) self.old.rows) }
         ensures room { self.new.room ≡ self.old.room }
         ensures err { OnErr result (self.new ≡ self.old) }
     {
@@ -314,11 +328,15 @@ impl Rows {
         clear_part(self.alloc, &mut self.rows, place);
     }
 
-    /// Writes these bytes over the first ones of the part at a place of the row with this UID, where
-    /// there is such a row, without memory.
+    /// Writes these bytes over the first ones of the part at a place of the row with this UID,
+    /// where there is such a row, without memory.
     pub fn set_part(&mut self, uid: u32, place: u32, bytes: &[u8])
-        requires { All (λ row. IfSome (slice_get row.parts place) (λ part. length bytes.now ≤ length part)) self.old.rows }
-        ensures rows { self.new.rows ≡ map (λ row. if nat_eq uid row.uid then with_row_parts (with_item place (written_at_front bytes.now)) row else row) self.old.rows }
+        requires { All
+            (λ row. IfSome (slice_get row.parts place)
+            (λ part. length bytes.now ≤ length part)) self.old.rows }
+        ensures rows { self.new.rows
+            ≡ map (λ row. if nat_eq uid row.uid then with_row_parts
+            (with_item place (written_at_front bytes.now)) row else row) self.old.rows }
         ensures room { self.new.room ≡ self.old.room }
     {
         set_part(self.alloc, &mut self.rows, uid, place, bytes);

@@ -156,7 +156,8 @@ fn changed_flags_give_the_modification_sequence(rt: HostRuntime) -> Result<(), F
     assert_eq!(rt; seen_as(rt.alloc(), &rows)?.as_slice(), after.as_slice());
     assert!(rt; rows.seen() == 2);
     assert!(rt; rows.deleted() == 1);
-    // What is removed and added counts as removed first; what is undone in one record changes nothing.
+    // What is removed and added counts as removed first; what is undone in one record changes
+    // nothing.
     rows.change_flags(&[change(1, LAST, 0x10, 0xff), change(1, 2, 0x08, 0x10)], 9);
     rows.change_flags(&[change(5, 5, 0x01, 0x00), change(5, 5, 0x00, 0x01)], 10);
     let after = [
@@ -217,7 +218,8 @@ fn keywords_change_in_ranges(rt: HostRuntime) -> Result<(), Fail> {
 
 // Whether the part at a place of each row, where it has one, has so many bytes.
 fn fit(rows: &[Row], place: u32, size: usize) -> bool
-    ensures { IsTrue result → All (λ row. IfSome (slice_get row.parts place) (λ part. size ≤ length part)) rows.now }
+    ensures { IsTrue result →
+        All (λ row. IfSome (slice_get row.parts place) (λ part. size ≤ length part)) rows.now }
 {
     rows.iter().all(|row| match row.parts.as_slice().get(place as usize) {
         Some(part) => size <= part.len(),

@@ -27,7 +27,8 @@ impl<R> Step<R> for Mark {
 pub fn first_place<R: Range>(rows: &[Row], ranges: &[R]) -> usize
     requires { AreRows rows.now }
     ensures inside { result ≤ length rows.now }
-    ensures before { All (λ row. list_any (has R.lowest R.highest row.uid) ranges.now ≡ false) (take result rows.now) }
+    ensures before { All (λ row. list_any (has R.lowest R.highest row.uid) ranges.now
+        ≡ false) (take result rows.now) }
 {
     let mut first = rows.len();
     for range in ranges {
@@ -43,8 +44,10 @@ pub fn first_place<R: Range>(rows: &[Row], ranges: &[R]) -> usize
 pub fn remove_marked(rows: &mut Vec<Row>, notes: &mut Vec<u8>, from: usize)
     requires noted { length notes.old.items ≡ length rows.old.items }
     requires inside { from ≤ length rows.old.items }
-    requires before { All (λ p. p.note ≡ p.row.flags) (take from (noted rows.old.items notes.old.items)) }
-    ensures is { noted rows.new.items notes.new.items ≡ filter (λ p. nat_eq p.note p.row.flags) (noted rows.old.items notes.old.items) }
+    requires before { All (λ p. p.note
+        ≡ p.row.flags) (take from (noted rows.old.items notes.old.items)) }
+    ensures is { noted rows.new.items notes.new.items
+        ≡ filter (λ p. nat_eq p.note p.row.flags) (noted rows.old.items notes.old.items) }
     ensures noted { length notes.new.items ≡ length rows.new.items }
     ensures rows_len { vec_len rows.new ≤ vec_len rows.old }
     ensures rows_capacity { vec_capacity rows.new ≡ vec_capacity rows.old }

@@ -14,7 +14,8 @@ pub trait Step<R> {
 
     /// Does it.
     fn step(&self, range: &R, row: &mut Row, note: &mut u8)
-        ensures { with_note row.new note.new ≡ after self.now range.now (with_note row.old note.old) };
+        ensures { with_note row.new note.new
+            ≡ after self.now range.now (with_note row.old note.old) };
 
     ghost keeps: { (s : Self) (r : R) (p : Noted) → (after s r p).row.uid ≡ p.row.uid };
 }
@@ -32,7 +33,10 @@ fn step_at<R, S: Step<R>>(
     requires noted { length notes.old ≡ length rows.old }
     requires few { length rows.old < 2 ^ 32 }
     requires tally { IsTally counts.old notes.old }
-    ensures is { (d : Noted) → noted rows.new notes.new ≡ set (noted rows.old notes.old) at (S.after step.now range.now (get_or (noted rows.old notes.old) at d)) }
+    ensures is { (d : Noted) →
+        noted rows.new notes.new
+        ≡ set (noted rows.old notes.old) at
+        (S.after step.now range.now (get_or (noted rows.old notes.old) at d)) }
     ensures tally { IsTally counts.new notes.new }
 {
     let mut note = notes[at];
@@ -51,7 +55,9 @@ fn walk_range<R: Range, S: Step<R>>(
     requires rows { AreRows rows.old }
     requires noted { length notes.old ≡ length rows.old }
     requires tally { IsTally counts.old notes.old }
-    ensures is { noted rows.new notes.new ≡ map (λ p. by_range R.lowest R.highest (S.after step.now) p range.now) (noted rows.old notes.old) }
+    ensures is { noted rows.new notes.new
+        ≡ map (λ p. by_range R.lowest R.highest (S.after step.now) p range.now)
+        (noted rows.old notes.old) }
     ensures tally { IsTally counts.new notes.new }
 {
     let last = range.last();
@@ -73,7 +79,9 @@ fn walk_ranges<R: Range, S: Step<R>>(
     requires rows { AreRows rows.old }
     requires noted { length notes.old ≡ length rows.old }
     requires tally { IsTally counts.old notes.old }
-    ensures is { noted rows.new notes.new ≡ map (by_ranges R.lowest R.highest (S.after step.now) ranges.now) (noted rows.old notes.old) }
+    ensures is { noted rows.new notes.new
+        ≡ map (by_ranges R.lowest R.highest (S.after step.now) ranges.now)
+        (noted rows.old notes.old) }
     ensures tally { IsTally counts.new notes.new }
 {
     for range in ranges {
@@ -81,8 +89,8 @@ fn walk_ranges<R: Range, S: Step<R>>(
     }
 }
 
-/// Does it to each row in the ranges, in turn, in whatever order these are: each is found by halves,
-/// and no other row is looked at.
+/// Does it to each row in the ranges, in turn, in whatever order these are: each is found by
+/// halves, and no other row is looked at.
 pub fn walk<R: Range, S: Step<R>>(
     rows: &mut Vec<Row>,
     notes: &mut Vec<u8>,
@@ -93,7 +101,9 @@ pub fn walk<R: Range, S: Step<R>>(
     requires rows { AreRows rows.old.items }
     requires noted { length notes.old.items ≡ length rows.old.items }
     requires tally { IsTally counts.old notes.old.items }
-    ensures is { noted rows.new.items notes.new.items ≡ map (by_ranges R.lowest R.highest (S.after step.now) ranges.now) (noted rows.old.items notes.old.items) }
+    ensures is { noted rows.new.items notes.new.items
+        ≡ map (by_ranges R.lowest R.highest (S.after step.now) ranges.now)
+        (noted rows.old.items notes.old.items) }
     ensures tally { IsTally counts.new notes.new.items }
     ensures noted { length notes.new.items ≡ length rows.new.items }
     ensures rows_len { vec_len rows.new ≡ vec_len rows.old }

@@ -39,15 +39,16 @@ pub fn numbers_never_fall()
     ensures all { RecordsNeverFall }
 {}
 
-/// A UID that was given out must not refer to any other message (RFC 3501, section 2.3.1.1): where it
-/// has no row any more, no record gives it one.
+/// A UID that was given out must not refer to any other message (RFC 3501, section 2.3.1.1): where
+/// it has no row any more, no record gives it one.
 pub fn uids_never_return()
     ensures one { NoneReturns }
     ensures all { NoneReturnsInTurn }
 {}
 
-/// A keyword keeps its place in the table, so a view that was read in an older table is read the same
-/// in a later one, and a mailbox that may follow the view may still follow it behind more records.
+/// A keyword keeps its place in the table, so a view that was read in an older table is read the
+/// same in a later one, and a mailbox that may follow the view may still follow it behind more
+/// records.
 pub fn keywords_stay()
     ensures one { KeywordsStay }
     ensures all { KeywordsStayInTurn }

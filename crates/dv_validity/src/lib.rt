@@ -1,6 +1,6 @@
 //! What records of the log leave of a mailbox, as laws of the definitions: it stays valid, its
-//! numbers never fall, no UID comes back, and keywords keep their places. What a command writes is an
-//! entry, and a sound log goes on by it.
+//! numbers never fall, no UID comes back, and keywords keep their places. What a command writes is
+//! an entry, and a sound log goes on by it.
 #![tactic(auto)]
 
 mod laws;
