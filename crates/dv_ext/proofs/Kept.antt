@@ -19,11 +19,11 @@ use Rattle.dv_model.specs.Mailboxes.{AreExtensions}
 use Rattle.dv_ext.specs.Tables.{Table, IsTable}
 use Rattle.dv_ext.proofs.Items.{with_item_at}
 
-and_left : (a b : Bool) → (a && b) ≡ true → a ≡ true
+pub and_left : (a b : Bool) → (a && b) ≡ true → a ≡ true
 and_left true b e = refl
 and_left false b e = absurd cc
 
-and_right : (a b : Bool) → (a && b) ≡ true → b ≡ true
+pub and_right : (a b : Bool) → (a && b) ≡ true → b ≡ true
 and_right true b e = e
 and_right false b e = absurd cc
 

@@ -12,14 +12,7 @@ use Rattle.dv_ext.specs.Changes.{Does}
 use Rattle.dv_ext.specs.Quiet.{is_quiet, is_quiet_at}
 use Rattle.dv_ext.specs.Tables.{Table, with_table}
 use Rattle.dv_ext.proofs.Doing.{grown_does}
-
-and_first : (a b : Bool) → (a && b) ≡ true → a ≡ true
-and_first true b e = refl
-and_first false b e = absurd cc
-
-and_second : (a b : Bool) → (a && b) ≡ true → b ≡ true
-and_second true b e = e
-and_second false b e = absurd cc
+use Rattle.dv_ext.proofs.Kept.{and_left, and_right}
 
 sizes_by : (a b c : Bool) → a ≡ true → b ≡ true → (not (a && b) || c) ≡ true → c ≡ true
 sizes_by true true c p q e = e
@@ -53,8 +46,8 @@ pub quiet_does : (t : Table) (k : ℕ) (e : Extension) (intro : Intro) → intro
     → Does (λ m. with_intro m intro) t (record { extensions = t.extensions; current = Some (record { extension = k; size = intro.record_size }) }) Same
 quiet_does t k e intro place there same fits quiet m valid =
     let sizes = sizes_by (nat_eq e.reset_id intro.reset_id) (fit (with_item k (grown_extension intro) t.extensions)) (nat_le intro.hdr_size (length e.header) && nat_le intro.record_size e.record_size) same fits (quiet_at t.extensions k e intro place there quiet) in
-    let header = and_first (nat_le intro.hdr_size (length e.header)) (nat_le intro.record_size e.record_size) sizes in
-    let size = and_second (nat_le intro.hdr_size (length e.header)) (nat_le intro.record_size e.record_size) sizes in
+    let header = and_left (nat_le intro.hdr_size (length e.header)) (nat_le intro.record_size e.record_size) sizes in
+    let size = and_right (nat_le intro.hdr_size (length e.header)) (nat_le intro.record_size e.record_size) sizes in
     at_place (with_table t m) k e intro place there
     ∙ grown_does t k e intro false there same fits (sym (no_larger e.record_size intro.record_size size)) m valid
     ∙ ap (λ (es : List Extension). record m { extensions = es; current = Some (record { extension = k; size = intro.record_size }) }) (item_stays (grown_extension intro) t.extensions k e there (same_extension e intro header size))

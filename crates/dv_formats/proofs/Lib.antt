@@ -2,6 +2,7 @@ pub mod Bits
 pub mod Texts
 pub mod Wholes
 pub mod Lines
+pub mod Zips
 pub mod Stops
 pub mod Values
 pub mod Replies

@@ -11,6 +11,7 @@ use Rattle.dv_model.specs.declared.types.Extension.{Extension}
 use Rattle.dv_model.specs.declared.types.Mailbox.{Mailbox}
 use Rattle.dv_model.specs.declared.types.Mark.{Mark}
 use Rattle.dv_model.specs.declared.types.Row.{Row}
+use Rattle.dv_model.proofs.Clients.{rising_tail}
 use Rattle.dv_model.specs.Mailboxes.{IsRowOf, IsValid}
 use Rattle.dv_model.specs.Names.{IsName}
 use Rattle.dv_model.specs.Spelling.{padding}
@@ -192,11 +193,6 @@ pub each_of_all : {X : Type 0} (P Q : X → Type 0) → ((x : X) → P x → Q x
     → AllByRecursion Q xs
 each_of_all P Q weaker [] all = tt
 each_of_all P Q weaker (x ∷ xs) all = (weaker x (All-head P x xs all), each_of_all P Q weaker xs (All-tail P x xs all))
-
-pub rising_tail : (n : ℕ) (ns : List ℕ) → IsStrictlyIncreasing (n ∷ ns) → IsStrictlyIncreasing ns
-rising_tail n ns up k below =
-    let next : suc k + 1 ≡ suc (k + 1) = omega arith in
-    subst (λ j. slice_index ns k < slice_index (n ∷ ns) j) next (up (suc k) (omega (arith, below)))
 
 pub rise_behind : (n : ℕ) (ns : List ℕ) → IsStrictlyIncreasing (n ∷ ns) → Rise (n + 1) ns
 rise_behind n [] up = tt

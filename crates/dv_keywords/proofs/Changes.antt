@@ -9,6 +9,7 @@ use Rattle.dv_model.specs.declared.types.How.{How}
 use Rattle.dv_model.specs.declared.types.How.TheVariants.{Add, Remove, Replace}
 use Rattle.dv_model.specs.Effects.{keywords_after, with_place}
 use Rattle.dv_formats.proofs.Bits.{Rise}
+use Rattle.dv_formats.proofs.Wholes.{rise_of}
 
 before_larger : (k p : ℕ) (ps : List ℕ) → k < p → with_place k (p ∷ ps) ≡ k ∷ p ∷ ps
 before_larger k p ps less = cond-true (ltb k p) (k ∷ p ∷ ps) (cond (eqb k p) (p ∷ ps) (p ∷ with_place k ps)) (lt-ltb k p less)
@@ -52,19 +53,6 @@ goes_last k ps at past end =
     past.1 ∙ ap (λ l. take at ps ++ with_place k l) (drop_all at ps end) ∙ ap (λ l. take at ps ++ k ∷ l) (sym (drop_all at ps end))
 
 -- ---- the order stays
-
-rising_tail : (n : ℕ) (ns : List ℕ) → IsStrictlyIncreasing (n ∷ ns) → IsStrictlyIncreasing ns
-rising_tail n ns up k below =
-    let next : suc k + 1 ≡ suc (k + 1) = omega arith in
-    subst (λ j. get_or ns k 0 < get_or (n ∷ ns) j 0) next (up (suc k) (omega (arith, below)))
-
-rise_behind : (n : ℕ) (ns : List ℕ) → IsStrictlyIncreasing (n ∷ ns) → Rise (n + 1) ns
-rise_behind n [] up = tt
-rise_behind n (m ∷ ns) up = let step = up 0 (omega arith) in (omega (arith, step), rise_behind m ns (rising_tail n (m ∷ ns) up))
-
-rise_of : (ns : List ℕ) → IsStrictlyIncreasing ns → Rise 0 ns
-rise_of [] up = tt
-rise_of (n ∷ ns) up = (omega arith, rise_behind n ns up)
 
 rising_of : (n : ℕ) (ns : List ℕ) → Rise n ns → IsStrictlyIncreasing ns
 rising_of n [] rise k below = absurd (omega (arith, below))

@@ -2,7 +2,6 @@ pub mod Counting
 pub mod FlagChanges
 pub mod OtherPlaces
 pub mod PartChanges
-pub mod Placing
 pub mod PutBack
 pub mod Putting
 pub mod Rising

@@ -5,6 +5,7 @@ use Rattle.std.specs.List.{AllZip}
 use Rattle.std.specs.Prelude.{map}
 use Rattle.std.proofs.lemmas.List.{append-nil, append_assoc, length-map, drop_all, drop_more, get_or-take, get_or_append_left, get_or_push, length-take-le, length_push, set_at, take-take, take_all, take_at, take_more}
 use Rattle.dv_model.specs.declared.types.Row.{Row}
+use Rattle.dv_formats.proofs.Zips.{zip_push}
 
 -- ---- lists in step
 
@@ -13,12 +14,6 @@ zip_at R [] ys i d e zip h = absurd (omega arith)
 zip_at R (x ∷ xs) [] i d e zip h = absurd zip
 zip_at R (x ∷ xs) (y ∷ ys) zero d e zip h = zip.0
 zip_at R (x ∷ xs) (y ∷ ys) (suc i) d e zip h = zip_at R xs ys i d e zip.1 (omega arith)
-
-zip_push : {A B : Type 0} (R : A → B → Type 0) (xs : List A) (ys : List B) (x : A) (y : B) → AllZip R xs ys → R x y → AllZip R (xs ++ x ∷ []) (ys ++ y ∷ [])
-zip_push R [] [] x y zip is = (is, tt)
-zip_push R [] (z ∷ ys) x y zip is = absurd zip
-zip_push R (z ∷ xs) [] x y zip is = absurd zip
-zip_push R (z ∷ xs) (w ∷ ys) x y zip is = (zip.0, zip_push R xs ys x y zip.1 is)
 
 pub zip_more : {A B : Type 0} (R : A → B → Type 0) (xs : List A) (i : ℕ) (x : A) (y : B) (ys made : List B) → i < length xs → AllZip R (take i xs) ys → R (get_or xs i x) y → made ≡ ys ++ y ∷ [] → AllZip R (take (i + 1) xs) made
 zip_more R xs i x y ys made inside zip is pushed =

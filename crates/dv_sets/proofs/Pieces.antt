@@ -87,13 +87,6 @@ only_piece byte text piece e = ap (joined (byte ∷ [])) (sym e) ∙ joined_spli
 
 -- ---- values of pieces
 
-pub zip_push : {A B : Type 0} (R : A → B → Type 0) (xs : List A) (ys : List B) (x : A) (y : B)
-    → AllZip R xs ys → R x y → AllZip R (xs ++ x ∷ []) (ys ++ y ∷ [])
-zip_push R [] [] x y all one = (one, tt)
-zip_push R [] (b ∷ ys) x y all one = absurd all
-zip_push R (a ∷ xs) [] x y all one = absurd all
-zip_push R (a ∷ xs) (b ∷ ys) x y all one = (all.0, zip_push R xs ys x y all.1 one)
-
 -- one among the pieces has a value
 pub zip_middle : {A B : Type 0} (R : A → B → Type 0) (xs : List A) (ys : List B) (y : B)
     (zs : List B)

@@ -8,7 +8,8 @@ use Rattle.dv_model.specs.declared.types.End.{End}
 use Rattle.dv_model.specs.declared.types.Span.{Span}
 use Rattle.dv_formats.specs.Scripts.{IsEnd, IsSpan, IsWide, IsSet, joined}
 use Rattle.dv_sets.proofs.EndTexts.{end_lacks, end_is_one}
-use Rattle.dv_sets.proofs.Pieces.{Lacks, split, one_piece, first_piece, some_piece, joined_split, split_joined, only_piece, zip_push, zip_middle, zip_one, zip_some, zip_all}
+use Rattle.dv_formats.proofs.Zips.{zip_push}
+use Rattle.dv_sets.proofs.Pieces.{Lacks, split, one_piece, first_piece, some_piece, joined_split, split_joined, only_piece, zip_middle, zip_one, zip_some, zip_all}
 
 -- ---- ranges
 
