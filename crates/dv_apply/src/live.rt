@@ -62,6 +62,14 @@ impl Live {
         mailbox(&self.state, alloc)
     }
 
+    /// An equal mailbox, with no spare row. `NoMemory` is the only error.
+    pub fn copy(&self, alloc: Global) -> Result<Live, NoMemory>
+        ensures { IfOk result (λ made. made ≡ record { mailbox = self.now.mailbox; spare = 0 }) }
+    {
+        let mailbox = self.mailbox(alloc)?;
+        Live::of(alloc, mailbox)
+    }
+
     /// Applies a record of the log (Dovecot's `mail-transaction-log.h`). `BadAppend` is the answer
     /// exactly where a row of an append has a UID below the UIDNEXT that the rows before it leave;
     /// it names the first such row. After an error all is as before. An append of at most the spare
@@ -129,7 +137,8 @@ impl Live {
 
     /// The UIDNEXT.
     pub fn next_uid(&self) -> u32
-        ensures { result ≡ self.now.mailbox.next_uid }
+        ensures is { result ≡ self.now.mailbox.next_uid }
+        ensures valid { IsValid self.now.mailbox }
     {
         self.state.next_uid
     }

@@ -213,3 +213,17 @@ fn a_copied_mailbox_is_kept_apart(rt: HostRuntime) -> Result<(), Fail> {
     assert_eq!(rt; counts(&live), (2, 3, 2, 1, 0));
     Ok(())
 }
+
+#[test]
+fn a_copy_changes_by_itself(rt: HostRuntime) -> Result<(), Fail> {
+    let mut live = Live::empty(rt.alloc(), 1000);
+    assert_eq!(rt; apply(rt.alloc(), &mut live, TWO), Ok(()));
+    let mut copy = live.copy(rt.alloc())?;
+    assert_eq!(rt; apply(rt.alloc(), &mut copy, OLD), Ok(()));
+    assert!(rt; has_rows(&copy, &[(1, 0, &[], 2), (2, 8, &[0], 3)]));
+    assert_eq!(rt; copy.names().count(), 1);
+    assert!(rt; has_rows(&live, &[(1, 0, &[], 2), (2, 8, &[], 2)]));
+    assert_eq!(rt; live.names().count(), 0);
+    assert_eq!(rt; copy.uid_validity(), 1000);
+    Ok(())
+}
