@@ -1,0 +1,11 @@
+//! A large script of several sessions from a number, the same each time.
+#![tactic(auto)]
+
+mod commands;
+mod draws;
+mod generator;
+
+pub use generator::script;
+
+#[cfg(test)]
+mod tests;
