@@ -3,7 +3,7 @@ use Rattle.std.proofs.Common.{◌≡◌, ◌≢◌, inl, inr, ⊎_elim, ℕ, ◌
 use Rattle.std.specs.Prelude.{unwrap_or}
 use Rattle.std.proofs.Math.Path.{fun_ext}
 use Rattle.dv_model.specs.declared.types.Entry.{Entry}
-use Rattle.dv_model.proofs.Appends.{validity_record}
+use Rattle.dv_model.specs.Appends.{validity_record}
 use Rattle.dv_shelf.specs.Crashes.{Elapses, Follows, FollowsNone, LeavesOnly, Only}
 use Rattle.dv_shelf.specs.Folders.{Folder, ChangesOnly, IsEither}
 use Rattle.dv_shelf.specs.declared.shelf.Name.{Name}

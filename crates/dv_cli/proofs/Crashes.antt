@@ -8,7 +8,8 @@ use Rattle.dv_model.specs.declared.types.Entry.{Entry}
 use Rattle.dv_model.specs.declared.types.Record.{Record}
 use Rattle.dv_model.specs.Sessions.{end_of_uids}
 use Rattle.dv_model.specs.Spelling.{IsRecord, written}
-use Rattle.dv_model.proofs.Appends.{append_record, append_is_record}
+use Rattle.dv_model.specs.Appends.{append_record}
+use Rattle.dv_model.proofs.Appends.{append_is_record}
 use Rattle.dv_shelf.specs.Crashes.{LeavesOnly}
 use Rattle.dv_shelf.specs.Folders.{Folder, contents}
 use Rattle.dv_shelf.specs.declared.shelf.Name.TheVariants as name

@@ -1,5 +1,5 @@
 -- What the clauses of a run say, by how it ended.
-use Rattle.std.proofs.Common.{◌≡◌, ◌⊎◌, inl, inr, ⊎_elim, ℕ, ◌≤◌, List, [], length, refl, sym, ap, ◌∙◌, subst, arith, Ok, Err}
+use Rattle.std.proofs.Common.{◌≡◌, ◌⊎◌, inl, inr, ⊎_elim, ℕ, ◌^◌, ◌<◌, ◌≤◌, List, [], length, refl, sym, ap, ◌∙◌, subst, arith, Ok, Err}
 use Rattle.std.specs.Prelude.{Result}
 use Rattle.std.proofs.lemmas.List.{append-nil}
 use Rattle.dv_model.specs.declared.types.Entry.{Entry}
@@ -17,6 +17,7 @@ use Rattle.dv_cli.specs.Lines.{Serves}
 use Rattle.dv_cli.specs.Running.{stamp, guid_by, log_of, new_standing, memory_text, script_text, source_text}
 use Rattle.dv_cli.specs.Runs.{Counts, Cause, EndCause, EndsFolder, FolderRun, IsScriptEnd, IsSerialRun, LastLine, RefusedLine, Refuses, Served, Unmade, end_of}
 use Rattle.dv_cli.specs.Standings.{Standing, AreServed, replies_of}
+use Rattle.dv_cli.proofs.Serials.{serial_at}
 use Rattle.dv_cli.proofs.Runs.{writes, finished, no_memory_left, disk_failed, output_failed}
 
 -- ---- a refused script
@@ -48,7 +49,7 @@ refuses e status text fault before now old new is ends done = by done
 
 -- ---- a good script
 
-module _ (clock : ℕ → ℕ) (base : ℕ) (counts : Counts) (has_mailbox : Type 0) (lines : List Line) (served : AreServed lines) (status : ℕ) (journal : List Entry) (old new : List ℕ) where
+module _ (clock : ℕ → ℕ) (base : ℕ) (counts : Counts) (has_mailbox : Type 0) (lines : List Line) (served : AreServed lines) (small : stamp (clock 0) < 2 ^ 32) (later : base ≤ counts.shelf_now) (status : ℕ) (journal : List Entry) (old new : List ℕ) where
   abbrev SerialRun : Type 0
   SerialRun = IsSerialRun status base counts has_mailbox clock lines journal old new
 
@@ -57,7 +58,7 @@ module _ (clock : ℕ → ℕ) (base : ℕ) (counts : Counts) (has_mailbox : Typ
   none_answered e differs none last done =
       subst (λ (es : List Entry). IsSerialRun status base counts has_mailbox clock lines es old new) (sym none) (record {
         replies = [];
-        serial = inl (refl, refl);
+        serial = serial_at clock base counts.shelf_now [] lines served small later;
         unanswered = replies_of (guid_by clock) (new_standing clock) lines;
         by_rules = refl;
         whole = λ zero. absurd (not_zero done zero);
@@ -95,7 +96,7 @@ module _ (clock : ℕ → ℕ) (base : ℕ) (counts : Counts) (has_mailbox : Typ
 
 -- ---- a run over a folder
 
-module _ (clock : ℕ → ℕ) (base : ℕ) (counts : Counts) (has_mailbox : Type 0) (lines : List Line) (served : AreServed lines) (later : base ≤ counts.shelf_now) (status : ℕ) (journal : List Entry) (told holds new_there : Type 0) (out_before out_now : ℕ) (old mid new : List ℕ) (before now : Folder) where
+module _ (clock : ℕ → ℕ) (base : ℕ) (counts : Counts) (has_mailbox : Type 0) (lines : List Line) (served : AreServed lines) (small : stamp (clock 0) < 2 ^ 32) (later : base ≤ counts.shelf_now) (status : ℕ) (journal : List Entry) (told holds new_there : Type 0) (out_before out_now : ℕ) (old mid new : List ℕ) (before now : Folder) where
   abbrev FolderSerial : Type 0
   FolderSerial = IsSerialRun status base counts has_mailbox clock lines journal old new
 
@@ -109,14 +110,14 @@ module _ (clock : ℕ → ℕ) (base : ℕ) (counts : Counts) (has_mailbox : Typ
       concludes = subst (λ (l : List ℕ). Concludes e status l new) (unmade.output tells) done
 
       by : (e ≡ how.NoMemory) ⊎ ((n : ℕ) × (e ≡ how.Disk n)) ⊎ (e ≡ how.Later) → FolderSerial
-      by (inl is) = none_answered clock base counts has_mailbox lines served status journal old new how.NoMemory (λ four. absurd (omega arith)) unmade.entries (inr (inr (inr (inl (refl, refl)))))
+      by (inl is) = none_answered clock base counts has_mailbox lines served small later status journal old new how.NoMemory (λ four. absurd (omega arith)) unmade.entries (inr (inr (inr (inl (refl, refl)))))
           (subst (λ (f : End). Concludes f status old new) is concludes)
       by (inr (inl (n, is))) =
           let cause = subst Caused is caused in
-          none_answered clock base counts has_mailbox lines served status journal old new (how.Disk n) (λ two. absurd (omega arith)) unmade.entries
+          none_answered clock base counts has_mailbox lines served small later status journal old new (how.Disk n) (λ two. absurd (omega arith)) unmade.entries
           (inr (inl (refl, cause.0, ap Rattle.dv_cli.specs.Running.disk_text cause.1))) (subst (λ (f : End). Concludes f status old new) is concludes)
       by (inr (inr is)) =
-          none_answered clock base counts has_mailbox lines served status journal old new how.Later (λ three. absurd (omega arith)) unmade.entries
+          none_answered clock base counts has_mailbox lines served small later status journal old new how.Later (λ three. absurd (omega arith)) unmade.entries
           (inr (inr (inl (refl, subst Caused is caused, refl)))) (subst (λ (f : End). Concludes f status old new) is concludes)
 
   served_serial : (e : End) → Served clock lines e journal told holds old mid before now → told → Caused e → Concludes e status mid new → FolderSerial

@@ -10,7 +10,8 @@ use Rattle.dv_model.specs.Effects.{applied}
 use Rattle.dv_model.specs.Journals.{at, mark_of, mark_behind}
 use Rattle.dv_model.specs.Mailboxes.{empty_mailbox}
 use Rattle.dv_model.specs.Spelling.{IsRecord, written}
-use Rattle.dv_model.proofs.Appends.{validity_record, validity_is_record, created_is}
+use Rattle.dv_model.specs.Appends.{validity_record}
+use Rattle.dv_model.proofs.Appends.{validity_is_record, created_is}
 use Rattle.dv_model.proofs.Transcripts.{at_all, mark_all, applied_one}
 use Rattle.dv_shelf.specs.Folders.{Folder, contents}
 use Rattle.dv_shelf.specs.declared.shelf.Name.TheVariants as name

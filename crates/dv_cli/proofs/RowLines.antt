@@ -8,7 +8,8 @@ use Rattle.dv_model.specs.declared.types.Row.{Row}
 use Rattle.dv_model.specs.declared.types.Shown.{Shown}
 use Rattle.dv_model.specs.declared.types.Value.TheVariants as value
 use Rattle.dv_model.specs.Views.{shown, names_of}
-use Rattle.dv_model.proofs.Appends.{all_fetches, all_fetches_push, fetch_of}
+use Rattle.dv_model.specs.Appends.{all_fetches, fetch_of}
+use Rattle.dv_model.proofs.Appends.{all_fetches_push}
 
 -- the line that shows a row without keywords
 abbrev pub plain_line : ℕ → Row → Reply

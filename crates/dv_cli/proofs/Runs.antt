@@ -155,7 +155,7 @@ module _ (clock : ℕ → ℕ) (base : ℕ) where
         let last : LastLine 0 counts (log_of clock s.entries) has_mailbox (end_text s.mark (length s.entries)) = inl (refl, ap (λ (mark : Mark). end_text mark (length s.entries)) (sym stands.mark)) in
         subst (λ (es : List Entry). IsSerialRun status base counts has_mailbox clock lines es old new) (sym entries) (record {
           replies = replies_of G S0 lines;
-          serial = inr (all_lines counts.shelf_now lines served small later);
+          serial = all_lines counts.shelf_now lines served small later;
           unanswered = [];
           by_rules = sym (append-nil (replies_of G S0 lines));
           whole = λ zero. refl;
@@ -175,7 +175,7 @@ module _ (clock : ℕ → ℕ) (base : ℕ) where
       ended e differs entries serial is mid-is last done =
           subst (λ (es : List Entry). IsSerialRun status base counts has_mailbox clock lines es old new) (sym is) (record {
             replies = replies_of G S0 front;
-            serial = inr serial;
+            serial = serial;
             unanswered = replies_of G s (line ∷ behind);
             by_rules = first_replies;
             whole = λ zero. absurd (not_zero e mid differs done zero);
@@ -199,7 +199,7 @@ module _ (clock : ℕ → ℕ) (base : ℕ) where
           (subst (λ (l : List ℕ). AppendsFront (old ++ l) mid text) (sym (text-is counts.shelf_now lines served small later front line behind split)) took) done in
           subst (λ (es : List Entry). IsSerialRun status base counts has_mailbox clock lines es old new) (sym entries) (record {
             replies = replies_of G S0 front;
-            serial = inr (with_group counts.shelf_now lines served small later front line behind split);
+            serial = with_group counts.shelf_now lines served small later front line behind split;
             unanswered = replies_of G s (line ∷ behind);
             by_rules = first_replies;
             whole = λ zero. absurd (omega (arith, at.0));

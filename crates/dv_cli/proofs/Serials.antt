@@ -18,7 +18,8 @@ use Rattle.dv_model.specs.Mailboxes.{IsValid}
 use Rattle.dv_model.specs.Sessions.{State, answer, refusal_of, group_of, end_of_uids}
 use Rattle.dv_model.specs.Transcripts as transcripts
 use Rattle.dv_model.specs.Transcripts.{Answered, IsTold, IsRefused, HasLeft, HasWritten, Wrote, Runs, Serial, EndsAt, unavailable_count, with_state}
-use Rattle.dv_model.proofs.Appends.{append_record, appended, append_group_is}
+use Rattle.dv_model.specs.Appends.{append_record, appended}
+use Rattle.dv_model.proofs.Appends.{append_group_is}
 use Rattle.dv_model.proofs.Transcripts.{at_grown, mark_grown, at_end, mark_end}
 use Rattle.dv_validity.proofs.Entries.{group_is_entry}
 use Rattle.dv_validity.proofs.Logs.{resets_at, valid_at}
@@ -35,6 +36,14 @@ pub record Stands (clock : ℕ → ℕ) (s : Standing) : Type 0 where
   pub seen : s.state.told ≤ length s.entries
   pub validity : s.mailbox.uid_validity ≡ stamp (clock 0)
   pub sound : stamp (clock 0) < 2 ^ 32 → IsSound (log_of clock s.entries)
+
+-- a reading of 32 bits gives a number of 32 bits
+pub stamp_small : (k : ℕ) → k < 2 ^ 32 → stamp k < 2 ^ 32
+stamp_small k small = by (nat_eq k 0)
+  where
+    by : (b : Bool) → cond b 1 k < 2 ^ 32
+    by true = lit< tt
+    by false = small
 
 -- a new mailbox is valid
 new_is_valid : (n : ℕ) → IsValid (new_mailbox n)

@@ -17,7 +17,8 @@ use Rattle.dv_model.specs.declared.types.Word.TheVariants as word
 use Rattle.dv_model.specs.Mailboxes.{last_modseq}
 use Rattle.dv_model.specs.Sessions.{State, new_session, end_of_uids, log_limit}
 use Rattle.dv_model.specs.Spelling.{IsRecord, written}
-use Rattle.dv_model.proofs.Appends.{full_view, validity_record, append_record, append_is_record, appended, appended_row, appended_below}
+use Rattle.dv_model.specs.Appends.{full_view, validity_record, append_record, appended, appended_row}
+use Rattle.dv_model.proofs.Appends.{append_is_record, appended_below}
 use Rattle.dv_logfile.specs.declared.commit.Debt.TheVariants as debt
 use Rattle.dv_logfile.specs.Gates.{IsBeforeOrAfter}
 use Rattle.dv_logfile.specs.Layout.{Begins, IsGroupText, IsLog, Spelled, closing, header_text, longest_log, new_header, log_text, log_end}

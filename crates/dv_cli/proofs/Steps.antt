@@ -14,7 +14,8 @@ use Rattle.dv_model.specs.declared.types.Value.TheVariants as value
 use Rattle.dv_model.specs.declared.types.Word.TheVariants as word
 use Rattle.dv_model.specs.Sessions.{State, Answer, answer, refusal_of, end_of_uids, log_limit}
 use Rattle.dv_model.specs.Views.{shown}
-use Rattle.dv_model.proofs.Appends.{AreBelow, append_record, appended, append_group_is, full_view, all_fetches, select_answer, noop_answer, append_answer}
+use Rattle.dv_model.specs.Appends.{append_record, appended, full_view, all_fetches}
+use Rattle.dv_model.proofs.Appends.{AreBelow, append_group_is, select_answer, noop_answer, append_answer}
 use Rattle.dv_cli.specs.Standings.{Standing, Stepped, first_session, no_bytes, step, stepped_by, told, with_records}
 
 -- the state of a session that was shown the whole mailbox

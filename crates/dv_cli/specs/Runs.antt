@@ -167,11 +167,11 @@ Writes status counts log has_mailbox base lines replies old new =
     ((last : List ℕ) × LastLine status counts log has_mailbox last × Appends old new (replies_text lines replies ++ last))
     ⊎ ((status ≡ 7) × (text : List ℕ) × Tried counts log has_mailbox base lines replies text × AppendsFront (old ++ replies_text lines replies) new text)
 
--- A run over a script of these lines: nothing was answered or written, or its replies are a serial run over the log that
--- its journal is. They are the first ones of those that the rules give, and all of them where the status is 0.
+-- A run over a script of these lines: its replies are a serial run over the log that its journal is. They are the first ones
+-- of those that the rules give, and all of them where the status is 0.
 pub record IsSerialRun (status base : ℕ) (counts : Counts) (has_mailbox : Type 0) (clock : ℕ → ℕ) (lines : List Line) (journal : List Entry) (old new : List ℕ) : Type 0 where
   pub replies : List (List Reply)
-  pub serial : ((journal ≡ []) × (replies ≡ [])) ⊎ Serial (log_of clock journal) base counts.shelf_now (numbered lines) replies
+  pub serial : Serial (log_of clock journal) base counts.shelf_now (numbered lines) replies
   pub unanswered : List (List Reply)
   pub by_rules : replies_of (guid_by clock) (new_standing clock) lines ≡ replies ++ unanswered
   pub whole : status ≡ 0 → replies ≡ replies_of (guid_by clock) (new_standing clock) lines

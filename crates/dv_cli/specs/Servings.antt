@@ -17,7 +17,7 @@ use Rattle.dv_cli.specs.declared.serving.Serving.{Serving}
 use Rattle.dv_cli.specs.declared.serving.StepEnd.{StepEnd}
 use Rattle.dv_cli.specs.declared.serving.StepEnd.TheVariants as how
 use Rattle.dv_model.specs.Counts.{Rose}
-use Rattle.dv_model.proofs.Appends.{validity_record, full_view}
+use Rattle.dv_model.specs.Appends.{validity_record, full_view}
 use Rattle.dv_cli.specs.Standings.{Standing, step}
 
 -- ---- the log file

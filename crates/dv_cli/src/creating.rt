@@ -2,7 +2,7 @@ ghost use Rattle.std.specs.Prelude.{◌≡◌, ◌≢◌, ◌^◌, ◌<◌, ◌�
 ghost use Rattle.std.specs.List.{list_all};
 ghost use Rattle.dv_shelf.specs.Crashes.{FollowsNone, LeavesOnly, Only};
 ghost use Rattle.dv_logfile.specs.Layout.{new_header, log_text};
-ghost use Rattle.dv_model.proofs.Appends.{validity_record};
+ghost use Rattle.dv_model.specs.Appends.{validity_record};
 ghost use Rattle.dv_cli.specs.Crashing.{RestsAt, LeavesMade};
 ghost use Rattle.dv_cli.specs.Creating.{is_mailbox_file, IsCreateFault, LeavesNew};
 ghost use Rattle.dv_cli.specs.Found.{IsNew};

@@ -5,7 +5,7 @@ ghost use Rattle.dv_model.specs.declared.types.Command.{Command};
 ghost use Rattle.dv_model.specs.declared.types.Command.TheVariants as command;
 ghost use Rattle.dv_model.specs.declared.types.Word.TheVariants as word;
 ghost use Rattle.dv_model.specs.declared.types.Mailbox.{Mailbox};
-ghost use Rattle.dv_model.proofs.Appends.{all_fetches, appended, appended_row, full_view};
+ghost use Rattle.dv_model.specs.Appends.{all_fetches, appended, appended_row, full_view};
 ghost use Rattle.dv_model.specs.declared.types.Reply.TheVariants as reply;
 ghost use Rattle.dv_model.specs.declared.types.Value.TheVariants as value;
 ghost use Rattle.dv_model.specs.Views.{shown};

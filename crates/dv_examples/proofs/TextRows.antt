@@ -4,7 +4,8 @@ use Rattle.std.specs.Prelude.{All, codes}
 use Rattle.std.specs.Fmt.{digits}
 use Rattle.dv_model.specs.declared.types.Command.TheVariants as command
 use Rattle.dv_model.specs.Mailboxes.{empty_mailbox}
-use Rattle.dv_model.proofs.Appends.{validity_record, validity_is_record}
+use Rattle.dv_model.specs.Appends.{validity_record}
+use Rattle.dv_model.proofs.Appends.{validity_is_record}
 use Rattle.dv_shelf.specs.declared.shelf.Name.TheVariants as name
 use Rattle.dv_shelf.specs.Folders.{Folder, no_files, with_file}
 use Rattle.dv_logfile.specs.Layout.{IsHeader, closing, log_text, new_header}

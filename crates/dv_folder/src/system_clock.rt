@@ -18,6 +18,8 @@ impl Clock for SystemClock {
 
     ghost upcoming = { λ _ _. 0 };
 
+    ghost readings_small = { λ _ _ never. absurd never };
+
     /// 0 where the system can't say, and 4294967295 from the year 2106 on.
     fn now(&mut self) -> u32 {
         let Ok(now) = SystemTime::now(&self.rt) else {

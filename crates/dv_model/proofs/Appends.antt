@@ -22,6 +22,7 @@ use Rattle.dv_model.specs.declared.types.Shown.{Shown}
 use Rattle.dv_model.specs.declared.types.Value.TheVariants as value
 use Rattle.dv_model.specs.declared.types.Word.TheVariants as word
 use Rattle.dv_model.specs.Effects.{applied, after_record, with_row, with_higher, stamped, stamped_row, is_as_before}
+use Rattle.dv_model.specs.Appends.{append_record, appended_row, appended, validity_record, full_view, fetch_of, all_fetches}
 use Rattle.dv_model.specs.Journals.{Mail}
 use Rattle.dv_model.specs.Mailboxes.{IsValid, IsRowOf, last_modseq, empty_mailbox}
 use Rattle.dv_model.specs.Sessions.{State, answer, external, group_of}
@@ -33,19 +34,6 @@ use Rattle.dv_model.specs.Views.{View, empty_view, shown, same_row, names_of, nu
 -- each message's UID was given out
 abbrev pub AreBelow : Mailbox → Type 0
 AreBelow m = All (λ row. row.uid < m.next_uid) m.rows
-
--- the record that an append writes
-abbrev pub append_record : Mailbox → ℕ → Record
-append_record m flags = record { top = external; body = Append (record { uid = m.next_uid; flags = flags } ∷ []) }
-
--- the new message: the next UID, these flags, no keywords, zero bytes for each extension, and the record's modification sequence
-abbrev pub appended_row : Mailbox → ℕ → Row
-appended_row m flags =
-    record { uid = m.next_uid; flags = flags; keywords = []; parts = map (λ e. replicate e.record_size 0) m.extensions; modseq = min (m.highest + 1) last_modseq }
-
--- the mailbox with one message more, that has these flags and no keywords
-abbrev pub appended : Mailbox → ℕ → Mailbox
-appended m flags = record m { highest = min (m.highest + 1) last_modseq; rows = m.rows ++ appended_row m flags ∷ []; next_uid = m.next_uid + 1 }
 
 bytes_eq_self : (xs : List ℕ) → bytes_eq xs xs ≡ true
 bytes_eq_self xs = (bytes_eq-Decides xs xs).1 refl
@@ -94,18 +82,10 @@ below_of_valid m valid = All-weaker (IsRowOf m) (λ (row : Row). row.uid < m.nex
 
 -- ---- a new mailbox
 
--- the header update that gives a mailbox its UIDVALIDITY
-abbrev pub validity_record : ℕ → Record
-validity_record n = record { top = 0; body = HeaderUpdate (record { offset = 24; bytes = to_le_bytes w32 n } ∷ []) }
-
 pub created_is : (n : ℕ) → n < 2 ^ 32 → applied (empty_mailbox n) (validity_record n ∷ []) ≡ Some (record (empty_mailbox n) { highest = 2 })
 created_is n h = ap (λ (k : ℕ). Some (record (empty_mailbox k) { highest = 2 })) (from_le_bytes-to_le_bytes_4 n h)
 
 -- ---- what a session is told
-
--- the view that shows the whole mailbox
-abbrev pub full_view : Mailbox → View
-full_view m = record { rows = map shown m.rows; next_uid = m.next_uid }
 
 same_row_self : (s : Shown) → same_row s s ≡ true
 same_row_self s =
@@ -216,14 +196,6 @@ module _ (m : Mailbox) (flags : ℕ) (below : AreBelow m) where
       (rw (no_removals (map shown m.rows) (shown (appended_row m flags) ∷ []) m.next_uid (m.next_uid + 1), growth_append, changes_append))
 
 -- ---- the whole mailbox, row by row
-
-abbrev pub fetch_of : Mailbox → ℕ → Shown → Reply
-fetch_of m k s = reply.Fetch k s.uid (value.Flags s.flags (names_of m s.keywords) ∷ [])
-
--- each row, numbered from k
-abbrev pub all_fetches : Mailbox → ℕ → List Shown → List Reply
-all_fetches m k [] = []
-all_fetches m k (s ∷ rows) = fetch_of m k s ∷ all_fetches m (k + 1) rows
 
 pub all_fetches_push : (m : Mailbox) (k : ℕ) (rows : List Shown) (s : Shown) → all_fetches m k (rows ++ s ∷ []) ≡ all_fetches m k rows ++ fetch_of m (k + length rows) s ∷ []
 all_fetches_push m k [] s = ap (λ (n : ℕ). fetch_of m n s ∷ []) (omega arith)

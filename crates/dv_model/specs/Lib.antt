@@ -10,6 +10,7 @@ pub mod Fresh
 pub mod Sets
 pub mod Searches
 pub mod Sessions
+pub mod Appends
 pub mod Transcripts
 pub mod Texts
 pub mod Laws

@@ -1,4 +1,4 @@
-ghost use Rattle.std.specs.Prelude.{◌≡◌, ◌<◌, ◌↔◌, [], ◌∷◌, ◌++◌, length, slice_get, option_to_list, IfOk, IsTrue, OnOk, OnErr, Some};
+ghost use Rattle.std.specs.Prelude.{◌≡◌, ◌<◌, ◌↔◌, [], ◌∷◌, ◌++◌, length, slice_get, IfOk, IsTrue, OnOk, OnErr, Some};
 
 use std::alloc::{AllocError, Global};
 use std::marker::Model;
@@ -68,13 +68,6 @@ impl<T: Drop> List<T> {
     {
         self.items.push(item)?;
         Ok(())
-    }
-
-    /// Takes the last item away.
-    pub fn pop(&mut self) -> Option<T>
-        ensures { self.old ≡ self.new ++ option_to_list result }
-    {
-        self.items.pop()
     }
 
     /// The item at a place, counted from 0.

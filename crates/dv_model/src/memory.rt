@@ -19,8 +19,8 @@ impl<T: Drop> From<AllocFailed<T>> for NoMemory {
     }
 }
 
-/// An error that says that memory ran out. Each error with a variant for it is made from all of them
-/// by one `From`.
+/// An error that says that memory ran out. Each error with a variant for it is made from all of
+/// them by one `From`.
 pub trait OutOfMemory: Drop {}
 
 impl OutOfMemory for NoMemory {}

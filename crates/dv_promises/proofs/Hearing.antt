@@ -20,7 +20,8 @@ use Rattle.dv_model.specs.Laws.{IsReadIn}
 use Rattle.dv_model.specs.Sessions.{data_of, damaged_uid, ending_of, fetch_lines, gone_uid, message_in, reads_message, value_of}
 use Rattle.dv_model.specs.Sets.{is_in_set, largest_uid, named, numbered}
 use Rattle.dv_model.specs.Views.{Known, View, all_heard, changes, empty_view, heard, known_of, known_row, names_of, unknown, with_number, with_values}
-use Rattle.dv_model.proofs.Appends.{all_fetches, changes_anew}
+use Rattle.dv_model.specs.Appends.{all_fetches}
+use Rattle.dv_model.proofs.Appends.{changes_anew}
 use Rattle.dv_model.proofs.Clients.{each_of_all, names_same}
 use Rattle.dv_model.proofs.Speaking.{one_of}
 

@@ -1,4 +1,4 @@
-ghost use Rattle.std.specs.Prelude.{◌≡◌, ℕ};
+ghost use Rattle.std.specs.Prelude.{◌≡◌, ◌^◌, ◌<◌, ℕ};
 ghost use Rattle.dv_shelf.specs.Clocks.{behind};
 
 /// A clock, by its readings to come.
@@ -13,6 +13,9 @@ pub trait Clock {
     fn now(&mut self) -> u32
         ensures reading { tells → result ≡ upcoming self.old 0 }
         ensures later { tells → upcoming self.new ≡ behind (upcoming self.old) 1 };
+
+    /// Each reading is a number of 32 bits.
+    ghost readings_small: { (c : Self) (k : ℕ) → tells → upcoming c k < 2 ^ 32 };
 }
 
 /// What is called before each command of a session.

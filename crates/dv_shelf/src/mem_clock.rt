@@ -1,4 +1,4 @@
-ghost use Rattle.std.specs.Prelude.{◌≡◌, ◌<◌, ℕ, length};
+ghost use Rattle.std.specs.Prelude.{◌≡◌, ◌^◌, ◌<◌, ℕ, All, length};
 ghost use Rattle.dv_shelf.specs.Clocks.{reading, behind};
 
 use crate::{Clock, Gate};
@@ -8,9 +8,10 @@ use std::alloc::Global;
 /// A clock that gives the readings of a list in turn, and then the last one again and again.
 #[derive(Drop)]
 pub struct MemClock {
-    readings: List<u32>,
+    readings: Vec<u32>,
     at: usize,
-    ghost some: { at < length readings },
+    ghost some: { at < length readings.items },
+    ghost small: { All (λ n. n < 2 ^ 32) readings.items },
 }
 
 impl MemClock {
@@ -21,21 +22,25 @@ impl MemClock {
         requires { 0 < length readings }
         ensures { readings_to_come result ≡ reading readings }
     {
+        let readings = readings.into_vec();
+        // As a slice they are known to be numbers of 32 bits.
+        let _numbers = readings.as_slice();
         MemClock { readings, at: 0 }
     }
 }
 
 impl Clock for MemClock {
-    ghost use Rattle.dv_shelf.specs.MemClocks.{readings_to_come};
+    ghost use Rattle.dv_shelf.specs.MemClocks.{readings_small, readings_to_come};
 
     ghost tells = { Unit {0} };
 
     ghost upcoming = { readings_to_come };
 
+    ghost readings_small = { λ c k told. readings_small c k };
+
     fn now(&mut self) -> u32 {
-        let readings = self.readings.as_slice();
-        let now = readings[self.at];
-        if self.at + 1 < readings.len() {
+        let now = self.readings[self.at];
+        if self.at + 1 < self.readings.len() {
             self.at += 1;
         }
         now

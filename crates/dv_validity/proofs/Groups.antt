@@ -24,7 +24,8 @@ use Rattle.dv_model.specs.Names.{IsName}
 use Rattle.dv_model.specs.Sessions.{State, IsCommand, group_of, refusal_of, is_append, is_log_full, end_of_uids, message_limit, group_limit, external, external_record, internal_record, keyword_adds, keyword_updates, keyword_resets, flag_updates, store_records, expunges, check_records, pieces, ranges_of, stored_uids, deleted_uids, removed_uids, offset_row, cache_number, next_number}
 use Rattle.dv_model.specs.Spelling.{group_text}
 use Rattle.dv_model.specs.Views.{View}
-use Rattle.dv_model.proofs.Appends.{append_is, append_record, appended}
+use Rattle.dv_model.specs.Appends.{append_record, appended}
+use Rattle.dv_model.proofs.Appends.{append_is}
 use Rattle.dv_validity.proofs.Numbers.{records_keep}
 use Rattle.dv_validity.specs.Laws.{IsInRange}
 use Rattle.dv_validity.specs.Entries.{AreInRange, HasUidLeft}

@@ -1,5 +1,5 @@
 use Rattle.std.proofs.Common.{◌≡◌, ◌∷◌, [], ℕ, ap, sym, ◌∙◌, subst, rules}
-use Rattle.dv_model.proofs.Appends.{validity_record}
+use Rattle.dv_model.specs.Appends.{validity_record}
 use Rattle.dv_shelf.specs.Crashes.{LeavesOnly}
 use Rattle.dv_logfile.specs.Layout.{new_header, log_text}
 use Rattle.dv_cli.specs.Crashing.{LeavesMade}

@@ -1,6 +1,6 @@
 use Rattle.std.proofs.Common.{◌≡◌, ◌++◌, map, take}
 use Rattle.dv_model.specs.declared.types.Mailbox.{Mailbox}
-use Rattle.dv_model.proofs.Appends.{all_fetches}
+use Rattle.dv_model.specs.Appends.{all_fetches}
 use Rattle.dv_model.specs.Views.{shown}
 use Rattle.dv_cli.proofs.serving.add_row_lines.Given as goal
 

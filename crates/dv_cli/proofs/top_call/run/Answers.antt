@@ -14,6 +14,7 @@ use Rattle.dv_cli.proofs.Ends.{refuses, unread, folder_serial, end_cause, ends_f
 use Rattle.dv_cli.proofs.Left.{folder_found, folder_left}
 use Rattle.dv_cli.proofs.Outputs.{zero_answered, answered_runs, not_answered, output_is, wrote_all, not_failed}
 use Rattle.dv_cli.proofs.Parsed.{parsed_served}
+use Rattle.dv_cli.proofs.Serials.{stamp_small}
 use Rattle.dv_cli.proofs.top_call.run.Goals as goal
 
 pub returns-clause-refused_output : goal.returns-clause-refused_output
@@ -31,6 +32,7 @@ returns-clause-serial g c = λ good tells clock_tells out_tells lines is.
     let has_mailbox : Type 0 = g.S.Shelf.tells → IsNew (g.S.Shelf.files c.args.shelf) → ⊥ in
     let new_there : Type 0 = g.S.Shelf.tells → IsNew (g.S.Shelf.files c.args.shelf) in
     let served = parsed_served (g.I.Source.left c.args.script.now) lines is in
+    let small = stamp_small (clock 0) (g.C.Clock.readings_small c.args.clock 0 clock_tells) in
     let e = c.whole-end.result.end in
     let status = c.conclude-status.result in
     let journal = c.whole-end.result.journal in
@@ -39,9 +41,9 @@ returns-clause-serial g c = λ good tells clock_tells out_tells lines is.
     let new = g.O.Sink.taken c.conclude-status.new.out in
     let done = c.conclude-status.ensures.text out_tells in
     ⊎_elim
-    (λ early. unread clock base counts has_mailbox lines served status journal old new e (g.I.Source.left c.args.script.now) is early.0 early.1.no_entries
+    (λ early. unread clock base counts has_mailbox lines served small c.whole-end.ensures.later.0 status journal old new e (g.I.Source.left c.args.script.now) is early.0 early.1.no_entries
     (subst (λ (l : List ℕ). Concludes e status l new) (ap g.O.Sink.taken early.1.out_stays) done))
-    (λ run. folder_serial clock base counts has_mailbox lines served c.whole-end.ensures.later.0 status journal (g.O.Sink.tells) (g.S.Shelf.tells) new_there
+    (λ run. folder_serial clock base counts has_mailbox lines served small c.whole-end.ensures.later.0 status journal (g.O.Sink.tells) (g.S.Shelf.tells) new_there
     (g.O.Sink.fault_count c.args.out.now) (g.O.Sink.fault_count c.whole-end.new.out) old mid new (g.S.Shelf.files c.args.shelf) (g.S.Shelf.files c.whole-end.new.shelf) e run out_tells
     (end_cause e counts (g.O.Sink.fault_count c.args.out.now) (g.O.Sink.fault_count c.whole-end.new.out) _ _ new_there has_mailbox c.whole-end.ensures.cause
     (ends_folder clock lines e journal _ _ old mid _ _ run)) done)

@@ -5,7 +5,7 @@ use Rattle.dv_model.specs.declared.types.Record.{Record}
 use Rattle.dv_model.specs.declared.types.Reply.{Reply}
 use Rattle.dv_model.specs.declared.types.Row.{Row}
 use Rattle.dv_model.specs.Spelling.{written}
-use Rattle.dv_model.proofs.Appends.{append_record}
+use Rattle.dv_model.specs.Appends.{append_record}
 use Rattle.dv_logfile.specs.declared.commit.LogFile.{LogFile}
 use Rattle.dv_logfile.specs.declared.commit.Debt.{Debt}
 use Rattle.dv_logfile.specs.declared.commit.Debt.TheVariants as debt
