@@ -1,4 +1,4 @@
-ghost use Rattle.std.specs.Prelude.{◌≡◌, ◌≢◌, ◌⊎◌, ◌+◌, ◌≤◌, ◌++◌, [], ℕ, Bool, List, All, length, map, string_bytes, true, false, MatchBool, Ok, Err, IfOk, IfErr};
+ghost use Rattle.std.specs.Prelude.{◌≡◌, ◌≢◌, ◌⊎◌, ◌+◌, ◌^◌, ◌<◌, ◌≤◌, ◌++◌, [], ℕ, Bool, List, All, length, map, string_bytes, true, false, MatchBool, Ok, Err, IfOk, IfErr};
 ghost use Rattle.dv_model.specs.Counts.{Rose};
 ghost use Rattle.dv_shelf.specs.Causes.{Stayed};
 ghost use Rattle.dv_shelf.specs.Crashes.{LeavesOnly, Only};
@@ -11,7 +11,7 @@ ghost use Rattle.dv_script.specs.Scripts.{parsed};
 ghost use Rattle.dv_cli.specs.declared.ending.End.TheVariants as how;
 ghost use Rattle.dv_cli.specs.Found.{IsNew, FindsAt};
 ghost use Rattle.dv_cli.specs.Readings.{read_limit};
-ghost use Rattle.dv_cli.specs.Running.{is_run, log_of, usage_text};
+ghost use Rattle.dv_cli.specs.Running.{is_run, log_of, stamp, usage_text};
 ghost use Rattle.dv_cli.specs.Runs.{IsScriptEnd, IsReadEnd, FolderRun, EndCause, IsAnswered, IsSerialRun, Leaves, MayLeave, MayLeaveAfter, Cause, Refuses, Untouched, counts_of, output_of, end_of, end_unmade};
 ghost use Rattle.dv_cli.specs.Servings.{HasRead, standing_of};
 ghost use Rattle.dv_cli.specs.Standings.{IsServed};
@@ -146,6 +146,7 @@ fn whole<S: Shelf, I: Source, O: Sink, C: Clock, G: Gate>(
     clock: &mut C,
     gate: &G,
 ) -> Outcome
+    ensures reading { C.tells → stamp (C.upcoming clock.old 0) < 2 ^ 32 }
     ensures usage { is_run (map string_bytes words.now) ≡ false → (result.end ≡ how.Usage) × Untouched shelf.old shelf.new out.old out.new clock.old clock.new result.journal }
     ensures refused { is_run (map string_bytes words.now) ≡ true → I.tells → (fault : ScriptEnd) → parsed (I.left script.old) ≡ Err fault →
         IsScriptEnd result.end (I.left script.old) (I.fault_count script.old) (I.fault_count script.new) × Untouched shelf.old shelf.new out.old out.new clock.old clock.new result.journal }

@@ -14,7 +14,6 @@ use Rattle.dv_cli.proofs.Ends.{refuses, unread, folder_serial, end_cause, ends_f
 use Rattle.dv_cli.proofs.Left.{folder_found, folder_left}
 use Rattle.dv_cli.proofs.Outputs.{zero_answered, answered_runs, not_answered, output_is, wrote_all, not_failed}
 use Rattle.dv_cli.proofs.Parsed.{parsed_served}
-use Rattle.dv_cli.proofs.Serials.{stamp_small}
 use Rattle.dv_cli.proofs.top_call.run.Goals as goal
 
 pub returns-clause-refused_output : goal.returns-clause-refused_output
@@ -32,7 +31,7 @@ returns-clause-serial g c = λ good tells clock_tells out_tells lines is.
     let has_mailbox : Type 0 = g.S.Shelf.tells → IsNew (g.S.Shelf.files c.args.shelf) → ⊥ in
     let new_there : Type 0 = g.S.Shelf.tells → IsNew (g.S.Shelf.files c.args.shelf) in
     let served = parsed_served (g.I.Source.left c.args.script.now) lines is in
-    let small = stamp_small (clock 0) (g.met.C.Clock.readings_small c.args.clock 0 clock_tells) in
+    let small = c.whole-end.ensures.reading clock_tells in
     let e = c.whole-end.result.end in
     let status = c.conclude-status.result in
     let journal = c.whole-end.result.journal in

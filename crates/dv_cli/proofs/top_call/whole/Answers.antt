@@ -5,6 +5,7 @@ use Rattle.dv_script.specs.declared.types.Line.{Line}
 use Rattle.dv_cli.specs.Runs.{MayLeave, MayLeaveAfter}
 use Rattle.dv_cli.proofs.CrashRuns.{same_lines, unread_not}
 use Rattle.dv_cli.proofs.Crashes.{stays}
+use Rattle.dv_cli.proofs.Serials.{stamp_small}
 use Rattle.dv_cli.proofs.top_call.whole.Goals as goal
 
 pub returns-in-Ok-clause-crash : goal.returns-in-Ok-clause-crash
@@ -48,3 +49,12 @@ returns-in-Err-clause-after g c = λ good script_tells clock_tells tells only li
 
 pub returns-then-not-is_run_word-clause-after : goal.returns-then-not-is_run_word-clause-after
 returns-then-not-is_run_word-clause-after g c = λ good script_tells clock_tells tells only lines is f left. inl (c.new.ensures, only f left)
+
+pub returns-in-Ok-clause-reading : goal.returns-in-Ok-clause-reading
+returns-in-Ok-clause-reading g c = λ clock_tells. stamp_small (g.C.Clock.upcoming c.args.clock.now 0) (g.met.C.Clock.readings_small c.args.clock.now 0 clock_tells)
+
+pub returns-in-Err-clause-reading : goal.returns-in-Err-clause-reading
+returns-in-Err-clause-reading g c = λ clock_tells. stamp_small (g.C.Clock.upcoming c.args.clock.now 0) (g.met.C.Clock.readings_small c.args.clock.now 0 clock_tells)
+
+pub returns-then-not-is_run_word-clause-reading : goal.returns-then-not-is_run_word-clause-reading
+returns-then-not-is_run_word-clause-reading g c = λ clock_tells. stamp_small (g.C.Clock.upcoming c.args.clock.now 0) (g.met.C.Clock.readings_small c.args.clock.now 0 clock_tells)
