@@ -1,8 +1,13 @@
 -- The table of a mailbox's keyword names, and its text in a snapshot.
-use Rattle.std.specs.Prelude.{◌≡◌, ◌≢◌, ℕ, ◌+◌, ◌^◌, ◌<◌, ◌≤◌, List, length, take, flat_map, All, AllPairs}
+use Rattle.std.specs.Prelude.{◌≡◌, ◌≢◌, ℕ, ◌+◌, ◌^◌, ◌<◌, ◌≤◌, List, ◌++◌, length, take, flat_map, All, AllPairs}
 use Rattle.dv_model.specs.Names.{IsName}
 use Rattle.dv_model.specs.Spelling.{padded}
 use Rattle.dv_formats.specs.Snapshots.{keyword_text}
+
+-- the names of a table, and those that were taken back, whose memory is kept
+pub record Keywords : Type 0 where
+  pub names : List (List ℕ)
+  pub kept : List (List ℕ)
 
 -- distinct names, as many as a number of 32 bits can count
 pub record IsTable (names : List (List ℕ)) : Type 0 where

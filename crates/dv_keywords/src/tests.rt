@@ -60,7 +60,7 @@ fn names_are_added_in_turn(rt: HostRuntime) {
 #[test]
 fn copy_has_the_same_names(rt: HostRuntime) -> Result<(), Fail> {
     let table = table_of(rt.alloc(), &[b"old", b"new"])?;
-    let copy = table.duplicate(rt.alloc())?;
+    let copy = table.copy(rt.alloc())?;
     assert!(rt; has_names(&copy, &[b"old", b"new"]));
     Ok(())
 }
@@ -169,13 +169,3 @@ fn name_of_256_bytes_is_no_name(rt: HostRuntime) -> Result<(), Fail> {
     Ok(())
 }
 
-#[test]
-fn first_names_are_kept(rt: HostRuntime) -> Result<(), Fail> {
-    let mut table = table_of(rt.alloc(), &[b"old", b"new", b"off"])?;
-    table.truncate(2);
-    assert!(rt; has_names(&table, &[b"old", b"new"]));
-    assert_eq!(rt; table.index_of(b"off"), None);
-    table.truncate(5);
-    assert!(rt; has_names(&table, &[b"old", b"new"]));
-    Ok(())
-}
