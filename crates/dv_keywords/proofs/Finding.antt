@@ -1,16 +1,15 @@
 -- A map finds the names of a list that grows and shrinks at its end.
-use Rattle.std.proofs.Common.{◌≡◌, ◌≢◌, inl, inr, ℕ, ◌+◌, ◌<◌, ◌≤◌, Bool, true, false, cond, not, List, [], ◌∷◌, ◌++◌, length, get_or, take, drop, Option, Some, None, AllPairs, refl, subst, sym, ◌∙◌, ap, arith}
+use Rattle.std.proofs.Common.{◌≡◌, ◌≢◌, inl, inr, ℕ, ◌+◌, ◌<◌, ◌≤◌, true, false, cond, not, List, [], ◌∷◌, ◌++◌, length, get_or, take, Option, Some, None, AllPairs, refl, subst, sym, ◌∙◌, ap, arith}
 use Rattle.std.specs.BTreeMap.{BTreeMap, UpdatesBy}
 use Rattle.std.specs.Cmp.Lexicographic.{slice_cmp}
 use Rattle.std.specs.Global.{Vec}
-use Rattle.std.specs.List.{list_any, position, position_or_len}
+use Rattle.std.specs.List.{position_or_len}
 use Rattle.std.specs.Map.{KeepsOthers}
 use Rattle.std.specs.Ordering.{is_eq, nat_cmp}
 use Rattle.std.specs.Str.{bytes_eq}
 use Rattle.std.proofs.lemmas.Bool.{cases_Bool, cases_lt, cond-true, cond-false, false_from_ne_true, lt-ltb, true≢false}
 use Rattle.std.proofs.lemmas.Cmp.{eq_by_cmp_equiv, nat_list_cmp_total}
 use Rattle.std.proofs.lemmas.List.{get_or-take, get_or_append_left, get_or_at, length-take, length_push, take-take, take_at, take_more}
-use Rattle.std.proofs.lemmas.List.Folds.{list_any_at}
 use Rattle.std.proofs.lemmas.List.Quantifiers.{position-Some}
 use Rattle.std.proofs.lemmas.List.Sums.{position_or_len_is}
 use Rattle.std.proofs.lemmas.Map.Text.{is_eq-slice_cmp}
@@ -60,6 +59,7 @@ other_than names last name differs = by_place (place_of names name) refl
           | inl inside ↦ λ e. before inside (sym (get_or_append_left names (last ∷ []) [] k inside) ∙ e)
           | inr past ↦ λ e. apart_from last name differs (sym e ∙ get_or_at names last [] [] k (omega (arith, below, past)))
         ]
+
     by_place : (o : Option ℕ) → place_of names name ≡ o → place_of (names ++ last ∷ []) name ≡ place_of names name
     by_place None e = none_is (names ++ last ∷ []) name (λ k below. at_end k (omega (arith, below, length_push names last)) (λ inside. is_new names name e k [] inside)) ∙ sym e
     by_place (Some i) e =
@@ -139,7 +139,7 @@ pub goes : (names : List (List ℕ)) (last one : List ℕ) (at : ℕ) (old new :
 goes names last one at old new apart distinct also is name =
     is name ∙ elim (cases_Bool (bytes_eq last name)) [
       | inl same ↦ let e : last ≡ name = same_bytes last name same in
-        cond-true _ None _ same ∙ sym (ap (place_of names) (sym e) ∙ last_is_new names last distinct) ∙ sym (cond-false _ (Some at) (place_of names name) (unlike one name (λ f. apart (e ∙ sym f))))
+          cond-true _ None _ same ∙ sym (ap (place_of names) (sym e) ∙ last_is_new names last distinct) ∙ sym (cond-false _ (Some at) (place_of names name) (unlike one name (λ f. apart (e ∙ sym f))))
       | inr other ↦ cond-false _ None _ other ∙ also name ∙ ap (λ o. cond (bytes_eq one name) (Some at) o) (other_than names last name other)
     ]
 

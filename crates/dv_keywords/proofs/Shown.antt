@@ -1,5 +1,5 @@
 -- The first names of a table are shown, and the others kept.
-use Rattle.std.proofs.Common.{◌≡◌, ℕ, ◌+◌, ◌<◌, ◌≤◌, List, [], ◌∷◌, ◌++◌, length, take, drop, Some, None, sym, ◌∙◌, ap, arith}
+use Rattle.std.proofs.Common.{◌≡◌, ℕ, ◌+◌, ◌≤◌, List, [], ◌∷◌, ◌++◌, length, take, drop, Some, None, sym, ◌∙◌, ap, arith}
 use Rattle.std.proofs.Math.Seq.{take-add}
 use Rattle.std.proofs.lemmas.List.{drop-append-le, drop-drop, drop_all, length-take, length_push, take-append-drop, take-take, take_all}
 use Rattle.dv_model.specs.Effects.{place_of, with_name}
@@ -39,8 +39,7 @@ grown names n name old inside is new =
     let front = take n names in
     let size : length front ≡ n = omega (arith, inside, length-take n names) in
     let same : front ≡ old.names = ap (λ (k : Keywords). k.names) is in
-    let all : take (n + 1) (front ++ name ∷ []) ≡ front ++ name ∷ [] = take_all (n + 1) (front ++ name ∷ []) (omega (arith, size, length_push front name)) in
-    (
+    let all : take (n + 1) (front ++ name ∷ []) ≡ front ++ name ∷ [] = take_all (n + 1) (front ++ name ∷ []) (omega (arith, size, length_push front name)) in (
       all ∙ ap (λ ns. ns ++ name ∷ []) same ∙ sym (added old.names name new),
       ap (λ ns. place_of ns name) all ∙ place_of_new front name (ap (λ ns. place_of ns name) same ∙ new) ∙ ap (λ k. Some k) size,
     )

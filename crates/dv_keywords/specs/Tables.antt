@@ -1,5 +1,5 @@
 -- The table of a mailbox's keyword names, and its text in a snapshot.
-use Rattle.std.specs.Prelude.{◌≡◌, ◌≢◌, ℕ, ◌+◌, ◌^◌, ◌<◌, ◌≤◌, List, ◌++◌, length, take, flat_map, All, AllPairs}
+use Rattle.std.specs.Prelude.{◌≡◌, ◌≢◌, ℕ, ◌+◌, ◌^◌, ◌<◌, ◌≤◌, List, length, take, flat_map, All, AllPairs}
 use Rattle.dv_model.specs.Names.{IsName}
 use Rattle.dv_model.specs.Spelling.{padded}
 use Rattle.dv_formats.specs.Snapshots.{keyword_text}

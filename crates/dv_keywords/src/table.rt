@@ -190,8 +190,9 @@ impl Table {
     /// Shows the first names alone, so many, and keeps the others. Takes no memory.
     pub fn hide(&mut self, count: u32)
         ensures { self.new ≡ record {
-            names = take count self.old.names;
-            kept = drop count self.old.names ++ self.old.kept } }
+          names = take count self.old.names;
+          kept = drop count self.old.names ++ self.old.kept;
+        } }
     {
         if count < self.shown {
             self.shown = count;
@@ -202,8 +203,9 @@ impl Table {
     pub fn show(&mut self, count: u32)
         requires { count ≤ length self.old.kept }
         ensures { self.new ≡ record {
-            names = self.old.names ++ take count self.old.kept;
-            kept = drop count self.old.kept } }
+          names = self.old.names ++ take count self.old.kept;
+          kept = drop count self.old.kept;
+        } }
     {
         self.shown += count;
     }

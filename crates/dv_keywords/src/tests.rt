@@ -169,3 +169,50 @@ fn name_of_256_bytes_is_no_name(rt: HostRuntime) -> Result<(), Fail> {
     Ok(())
 }
 
+#[test]
+fn hidden_names_are_shown_again(rt: HostRuntime) -> Result<(), Fail> {
+    let mut table = table_of(rt.alloc(), &[b"old", b"new", b"off"])?;
+    assert_eq!(rt; table.count(), 3);
+    table.hide(1);
+    assert!(rt; has_names(&table, &[b"old"]));
+    assert_eq!(rt; table.index_of(b"new"), None);
+    table.hide(5);
+    assert!(rt; has_names(&table, &[b"old"]));
+    table.show(1);
+    assert!(rt; has_names(&table, &[b"old", b"new"]));
+    table.show(1);
+    assert!(rt; has_names(&table, &[b"old", b"new", b"off"]));
+    Ok(())
+}
+
+#[test]
+fn new_name_takes_the_place_of_hidden_ones(rt: HostRuntime) -> Result<(), Fail> {
+    let mut table = table_of(rt.alloc(), &[b"old", b"new", b"off"])?;
+    assert_eq!(rt; table.count(), 3);
+    table.hide(1);
+    assert!(rt; is_name(b"old"));
+    assert_eq!(rt; table.add(b"old"), Ok(0));
+    table.show(1);
+    assert!(rt; has_names(&table, &[b"old", b"new"]));
+    table.hide(1);
+    assert!(rt; is_name(b"own"));
+    assert_eq!(rt; table.add(b"own"), Ok(1));
+    assert!(rt; has_names(&table, &[b"old", b"own"]));
+    assert_eq!(rt; table.index_of(b"new"), None);
+    assert_eq!(rt; table.index_of(b"off"), None);
+    Ok(())
+}
+
+#[test]
+fn hidden_name_is_added_as_a_new_one(rt: HostRuntime) -> Result<(), Fail> {
+    let mut table = table_of(rt.alloc(), &[b"old", b"new", b"off"])?;
+    table.hide(1);
+    assert!(rt; is_name(b"off"));
+    assert_eq!(rt; table.add(b"off"), Ok(1));
+    assert!(rt; has_names(&table, &[b"old", b"off"]));
+    assert_eq!(rt; table.index_of(b"new"), None);
+    assert!(rt; is_name(b"new"));
+    assert_eq!(rt; table.add(b"new"), Ok(2));
+    assert!(rt; has_names(&table, &[b"old", b"off", b"new"]));
+    Ok(())
+}

@@ -1,7 +1,6 @@
-use Rattle.std.proofs.Common.{◌≡◌, ◌∷◌, ◌++◌, [], ℕ, List, Some, cond, get_or, length, take, arith, ap, rules, subst, sym, ◌∙◌}
-use Rattle.std.specs.Str.{bytes_eq}
+use Rattle.std.proofs.Common.{◌≡◌, ◌∷◌, ◌++◌, [], get_or, length, take, arith, ap, subst, sym, ◌∙◌}
 use Rattle.std.proofs.lemmas.List.{length-take, take_more}
-use Rattle.dv_keywords.specs.Finding.{FindsAll, found}
+use Rattle.dv_keywords.specs.Finding.{FindsAll}
 use Rattle.dv_keywords.proofs.Finding.{finds_more, new_at}
 use Rattle.dv_keywords.proofs.index.Index.of.Goals as goal
 

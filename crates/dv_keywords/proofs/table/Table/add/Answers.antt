@@ -23,8 +23,7 @@ invariant_of-self-2 c =
     let new : place_of front name ≡ None = ap (λ (k : Keywords). place_of k.names name) c.self.view_is ∙ sym c.index_of.ensures ∙ c.in_default.is in
     let left : c.forget.new.names.items ≡ front = search rules in
     let pushed : c.push.new.self.items ≡ front ++ name ∷ [] = search rules in
-    let also : FindsAlso name at c.forget.new.index.map front = subst (FindsAlso name at c.forget.new.index.map) left c.forget.ensures.found in
-    (
+    let also : FindsAlso name at c.forget.new.index.map front = subst (FindsAlso name at c.forget.new.index.map) left c.forget.ensures.found in (
       subst IsTable (sym pushed) (table_push front name (table_front all at c.self.invariant.0) c.requires new (omega (arith, size))),
       omega (arith, size, ap length pushed, length_push front name),
       subst (FindsAll c.forget.new.index.map) (sym pushed) (finds_last front name at c.forget.new.index.map new (sym size) also),

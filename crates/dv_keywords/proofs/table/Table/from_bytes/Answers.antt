@@ -37,8 +37,7 @@ loop-place-preserved c =
     let name = c.in-Some.name.now in
     let found : IsNameAt (drop c.loop-place.at c.args.b.now) name = subst (λ t. IsNameAt t name) c.split_at.ensures.back c.in-Some.ensures.some in
     let new : is_some (place_of names name) ≡ false = ap is_some (sym (c.loop-place.invariant.1 name) ∙ sym c.in_ok-insert.ensures.old) ∙ sym c.is_some.ensures ∙ c.if-is_some.false in
-    let pushed : c.push.new.self.items ≡ names ++ name ∷ [] = search rules in
-    (
+    let pushed : c.push.new.self.items ≡ names ++ name ∷ [] = search rules in (
       rw (pushed, c.size_of.ensures) (one_more c.args.b.now names c.loop-place.at c.loop-place.place c.loop-place.invariant.0 name found new),
       subst (FindsAll c.insert.new.self.map) (sym pushed) (finds_more names name c.loop-place.place c.loop-place.index.map c.insert.new.self.map (none_of (place_of names name) new) (sym c.loop-place.invariant.0.counted) c.loop-place.invariant.1 c.in_ok-insert.ensures.ok),
     )

@@ -1,4 +1,4 @@
-use Rattle.std.proofs.Common.{rules, subst, sym}
+use Rattle.std.proofs.Common.{rules, subst}
 use Rattle.dv_keywords.specs.Tables.{IsTable}
 use Rattle.dv_keywords.proofs.Lookup.{table_front}
 use Rattle.dv_keywords.proofs.table.Table.names.Goals as goal
