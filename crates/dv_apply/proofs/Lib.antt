@@ -3,4 +3,5 @@ mod Changing
 mod Becoming
 mod Extending
 mod Keeping
+mod Naming
 mod Refusing
