@@ -9,5 +9,6 @@ pub mod PutParts
 pub mod Putting
 pub mod Rising
 pub mod TwoParts
+mod Bounds
 pub mod Walked
 pub mod Walking

@@ -1,10 +1,27 @@
 ghost use Rattle.std.specs.Prelude.{◌≡◌, ◌+◌, ◌<◌, ◌≤◌, ◌^◌, [], ◌∷◌, ◌++◌, IfSome, length, nat_eq, position, vec_capacity, vec_len};
 ghost use Rattle.dv_rows.specs.Kept.{AreRows};
 ghost use Rattle.dv_rows.specs.Noted.{IsTally};
-ghost use Rattle.dv_rows.specs.Places.{IsPlace};
+ghost use Rattle.dv_rows.specs.Places.{AreBounds, IsPlace};
 
 use crate::counts::{Counts, DELETED, SEEN, flag_number};
 use dv_model::Row;
+
+// Two places between which that of a UID lies. Since UIDs rise by one or more from row to row,
+// they are near each other where few are missing.
+fn bounds(rows: &[Row], uid: u32) -> (usize, usize)
+    requires { AreRows rows.now }
+    ensures { AreBounds rows.now uid result.0 result.1 }
+{
+    let (Some(first), Some(last)) = (rows.first(), rows.last()) else {
+        return (0, rows.len());
+    };
+    let behind = (last.uid + 1).saturating_sub(uid);
+    let before = uid.saturating_sub(first.uid);
+    (
+        rows.len().saturating_sub(behind as usize),
+        rows.len().min(before as usize),
+    )
+}
 
 /// The place of the first row whose UID isn't below this, found by halves.
 pub fn place_from(rows: &[Row], uid: u32) -> usize
@@ -12,7 +29,10 @@ pub fn place_from(rows: &[Row], uid: u32) -> usize
     ensures is { IsPlace rows.now uid result }
     ensures inside { result ≤ length rows.now }
 {
-    rows.partition_point(|row| row.uid < uid)
+    let (low, high) = bounds(rows, uid);
+    let (front, _) = rows.split_at(high);
+    let (_, between) = front.split_at(low);
+    low + between.partition_point(|row| row.uid < uid)
 }
 
 /// The place of the row with this UID, found by halves.
