@@ -1,4 +1,4 @@
-ghost use Rattle.std.specs.Prelude.{◌≡◌, ◌≢◌, ◌≤◌, ◌<◌, ◌++◌, ℕ, List, [], All, AllPairs, drop, flat_map, if◌then◌else◌, vec_capacity, length, slice_get, take, IfOk, OnErr, OnOk, Ok, Err, None, Some};
+ghost use Rattle.std.specs.Prelude.{◌≡◌, ◌≢◌, ◌≤◌, ◌<◌, ◌++◌, ℕ, List, [], All, AllPairs, drop, flat_map, vec_capacity, length, slice_get, take, IfOk, OnErr, OnOk, Ok, Err, None, Some};
 ghost use Rattle.dv_model.specs.Effects.{place_of, with_name};
 ghost use Rattle.dv_model.specs.Names.{IsName};
 ghost use Rattle.dv_formats.specs.Snapshots.{keyword_text};
@@ -38,11 +38,14 @@ impl Model for Table {
       kept = drop t.shown t.names.items;
     } };
 
-    ghost invariant = { λ t. IsTable t.names.items × (t.shown ≤ length t.names.items)
-        × FindsAll t.index.map t.names.items };
+    ghost invariant = { λ t. record {
+      table : IsTable t.names.items;
+      inside : t.shown ≤ length t.names.items;
+      index : FindsAll t.index.map t.names.items;
+    } };
 }
 
-// Takes all names from a place on away, and leaves this name in the index, which has the place now.
+// Takes away all names from a place on. This name, which the index has at that place, stays there.
 fn forget(names: &mut Vec<Bytes>, index: &mut Index, place: u32, name: &[u8])
     requires distinct { AllPairs (λ a b. a ≢ b) names.old.items }
     requires inside { place ≤ length names.old.items }

@@ -19,18 +19,19 @@ invariant_of-self-2 c =
     let at = c.self.inside.shown in
     let name = c.args.name.now in
     let front = take at all in
-    let size : length front ≡ at = omega (arith, c.self.invariant.1, length-take at all) in
+    let size : length front ≡ at = omega (arith, c.self.invariant.inside, length-take at all) in
     let new : place_of front name ≡ None = ap (λ (k : Keywords). place_of k.names name) c.self.view_is ∙ sym c.index_of.ensures ∙ c.in_default.is in
     let left : c.forget.new.names.items ≡ front = search rules in
     let pushed : c.push.new.self.items ≡ front ++ name ∷ [] = search rules in
-    let also : FindsAlso name at c.forget.new.index.map front = subst (FindsAlso name at c.forget.new.index.map) left c.forget.ensures.found in (
-      subst IsTable (sym pushed) (table_push front name (table_front all at c.self.invariant.0) c.requires new (omega (arith, size))),
-      omega (arith, size, ap length pushed, length_push front name),
-      subst (FindsAll c.forget.new.index.map) (sym pushed) (finds_last front name at c.forget.new.index.map new (sym size) also),
-    )
+    let also : FindsAlso name at c.forget.new.index.map front = subst (FindsAlso name at c.forget.new.index.map) left c.forget.ensures.found in
+    record {
+      table = subst IsTable (sym pushed) (table_push front name (table_front all at c.self.invariant.table) c.requires new (omega (arith, size)));
+      inside = omega (arith, size, ap length pushed, length_push front name);
+      index = subst (FindsAll c.forget.new.index.map) (sym pushed) (finds_last front name at c.forget.new.index.map new (sym size) also);
+    }
 
 pub returns-clause-ok : goal.returns-clause-ok
 returns-clause-ok c =
     let front = take c.self.inside.shown c.self.inside.names.items in
     let pushed : c.push.new.self.items ≡ front ++ c.args.name.now ∷ [] = search rules in
-    rw pushed (grown c.self.inside.names.items c.self.inside.shown c.args.name.now c.args.self.now c.self.invariant.1 c.self.view_is (sym c.index_of.ensures ∙ c.in_default.is))
+    rw pushed (grown c.self.inside.names.items c.self.inside.shown c.args.name.now c.args.self.now c.self.invariant.inside c.self.view_is (sym c.index_of.ensures ∙ c.in_default.is))

@@ -3,4 +3,4 @@ use Rattle.dv_keywords.proofs.Shown.{fewer}
 use Rattle.dv_keywords.proofs.table.Table.hide.Goals as goal
 
 pub returns-then-count-self : goal.returns-then-count-self
-returns-then-count-self c = fewer c.self.inside.names.items c.self.inside.shown c.args.count c.args.self.now (omega arith) c.self.invariant.1 c.self.view_is
+returns-then-count-self c = fewer c.self.inside.names.items c.self.inside.shown c.args.count c.args.self.now (omega arith) c.self.invariant.inside c.self.view_is
