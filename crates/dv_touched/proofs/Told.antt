@@ -8,6 +8,7 @@ use Rattle.std.proofs.lemmas.List.Elements.{Contains-append_left, Contains-get_o
 use Rattle.std.proofs.lemmas.List.Kept.{AllPairs-from_increasing}
 use Rattle.std.proofs.lemmas.List.Quantifiers.{position-Some}
 use Rattle.dv_model.specs.declared.types.Row.{Row}
+use Rattle.dv_rows.proofs.Named.{either}
 use Rattle.dv_rows.proofs.PartChanges.{none_there}
 use Rattle.dv_validity.proofs.Rows.{rising_push}
 
@@ -54,10 +55,6 @@ before_low xs i x up less (k, h, at) =
     let low : get_or xs k x < get_or xs i x = AllPairs-from_increasing xs up k i x before less in
     let there : get_or xs i x ≡ get_or xs i 0 = get_or_default xs i x 0 less in
     omega arith
-
-either : (A B C : Type 0) → A ⊎ B → (A → C) → (B → C) → C
-either A B C (inl a) f g = f a
-either A B C (inr b) f g = g b
 
 more_before : (xs : List ℕ) (i x : ℕ) → i < length xs → Contains (take i xs) x → Contains (take (i + 1) xs) x
 more_before xs i x less there = subst (λ l. Contains l x) (sym (take_more xs i 0 less)) (Contains-append_left (take i xs) (get_or xs i 0 ∷ []) x there)
