@@ -1,12 +1,11 @@
 -- Rows by rising UID: the last has the largest, and a range of UIDs is an interval of places.
-use Rattle.std.proofs.Common.{◌≡◌, ◌⊎◌, inl, inr, ℕ, zero, suc, ◌+◌, ◌-◌, ◌<◌, ◌≤◌, Bool, true, false, List, [], ◌∷◌, length, get_or, map, fold, refl, sym, ◌∙◌, ap, subst, arith, ltb, leb}
-use Rattle.std.specs.Prelude.{max, min, nat_le, nat_lt, ◌&&◌}
+use Rattle.std.proofs.Common.{◌≡◌, ◌⊎◌, inl, inr, ℕ, zero, suc, ◌-◌, ◌<◌, ◌≤◌, Bool, true, false, List, [], ◌∷◌, length, get_or, map, fold, sym, ◌∙◌, ap, subst, arith, ltb, leb}
+use Rattle.std.specs.Prelude.{max, nat_le, nat_lt, ◌&&◌}
 use Rattle.std.specs.List.Sorted.{IsNonDecreasingBy, IsPartitionPoint, IsStrictlyIncreasing}
-use Rattle.std.proofs.lemmas.Bool.{cases_lt, lt-ltb, le-ltb, le-leb, lt-leb, ltb-true, ltb-false, leb-true, leb-false}
+use Rattle.std.proofs.lemmas.Bool.{cases_lt, lt-ltb, le-ltb, le-leb, lt-leb, ltb-true, ltb-false}
 use Rattle.std.proofs.lemmas.List.{get_or-map, get_or_default, length-map}
 use Rattle.std.proofs.lemmas.List.Kept.{AllPairs-from_increasing}
 use Rattle.dv_model.specs.declared.types.Shown.{Shown}
-use Rattle.dv_sets.specs.declared.intervals.Interval.{Interval}
 use Rattle.dv_sets.specs.Intervals.{is_within}
 
 abbrev uid_of : Shown → ℕ

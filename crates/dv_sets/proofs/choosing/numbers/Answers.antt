@@ -1,5 +1,4 @@
-use Rattle.std.proofs.Common.{◌≡◌, ◌∙◌, ◌+◌, ◌<◌, ℕ, List, Ok, sym, ap, subst, take, length, map}
-use Rattle.std.specs.List.{filter, enumerate_from}
+use Rattle.std.proofs.Common.{◌≡◌, ◌∙◌, ◌+◌, ◌<◌, ℕ, List, Ok, sym, ap, subst, take, length}
 use Rattle.std.proofs.lemmas.List.{take_all}
 use Rattle.dv_model.specs.declared.types.Shown.{Shown}
 use Rattle.dv_model.specs.declared.types.Span.{Span}

@@ -1,4 +1,4 @@
-use Rattle.std.proofs.Common.{◌≡◌, ◌+◌, ◌<◌, ℕ, take, length}
+use Rattle.std.proofs.Common.{◌≡◌, ◌+◌, ◌<◌, ℕ, take}
 use Rattle.dv_model.specs.Sets.{is_in_set}
 use Rattle.dv_sets.specs.Intervals.{AreInside, is_covered}
 use Rattle.dv_sets.proofs.choosing.numbers.Given as goal

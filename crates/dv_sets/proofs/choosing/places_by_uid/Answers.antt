@@ -1,11 +1,8 @@
-use Rattle.std.proofs.Common.{◌≡◌, ◌∙◌, sym, ap, subst, ltb, leb, rules, ℕ, get_or}
+use Rattle.std.proofs.Common.{◌≡◌, ◌∙◌, ap, ltb, leb, rules, get_or}
 use Rattle.std.specs.Prelude.{◌&&◌, max, min, nat_le}
-use Rattle.std.specs.List.Sorted.{IsPartitionPoint}
 use Rattle.std.proofs.lemmas.List.Sorted.{IsPartitionPoint-from_clause, IsPartitionedBy-ltb, IsPartitionedBy-leb}
 use Rattle.dv_model.specs.declared.types.Shown.{Shown}
 use Rattle.dv_model.specs.Sets.{end_value}
-use Rattle.dv_sets.specs.declared.intervals.Interval.{Interval}
-use Rattle.dv_sets.specs.Intervals.{is_within}
 use Rattle.dv_sets.proofs.Largest.{no_fall, range_places}
 use Rattle.dv_sets.proofs.choosing.places_by_uid.Goals as goal
 

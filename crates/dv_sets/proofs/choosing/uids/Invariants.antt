@@ -1,4 +1,4 @@
-use Rattle.std.proofs.Common.{◌≡◌, ◌+◌, ◌<◌, ℕ, take, get_or, length}
+use Rattle.std.proofs.Common.{◌≡◌, ◌<◌, ℕ, take, get_or, length}
 use Rattle.dv_model.specs.declared.types.Shown.{Shown}
 use Rattle.dv_model.specs.Sets.{is_in_set}
 use Rattle.dv_sets.specs.Intervals.{AreInside, is_covered}
