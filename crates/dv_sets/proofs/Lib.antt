@@ -1,4 +1,6 @@
 pub mod Chosen
+pub mod Swept
+mod Largest
 pub mod Printed
 pub mod Pieces
 pub mod EndTexts

@@ -1,5 +1,5 @@
 -- A text in pieces, with a byte between two.
-use Rattle.std.proofs.Common.{◌≡◌, ℕ, suc, ◌+◌, ◌<◌, ◌≤◌, Bool, true, false, not, cond, List, [], ◌∷◌, ◌++◌, length, get_or, take, drop, All, Option, Some, None, position, nat_eq, nat_lt, refl, sym, ◌∙◌, ap, subst, arith, append_assoc, drop-cons}
+use Rattle.std.proofs.Common.{◌≡◌, ℕ, suc, ◌<◌, ◌≤◌, Bool, true, false, cond, List, [], ◌∷◌, ◌++◌, length, get_or, take, drop, All, Some, None, position, nat_eq, nat_lt, refl, sym, ◌∙◌, ap, arith, append_assoc, drop-cons}
 use Rattle.std.specs.List.{position_or_len, slice_split, AllZip}
 use Rattle.std.specs.List.{join_with_byte}
 use Rattle.std.proofs.lemmas.Bool.{eqb-true, eq-eqb}

@@ -1,12 +1,12 @@
 -- What is printed of a set is a text of it.
-use Rattle.std.proofs.Common.{◌≡◌, inl, inr, ℕ, Bool, true, false, cond, List, [], ◌∷◌, ◌++◌, map, codes, nat_eq, refl, ap, subst}
+use Rattle.std.proofs.Common.{◌≡◌, inl, inr, ℕ, Bool, true, false, cond, List, [], ◌∷◌, ◌++◌, map, codes, refl, ap, subst}
 use Rattle.std.specs.List.{AllZip}
 use Rattle.std.proofs.lemmas.Bool.{eqb-true}
 use Rattle.dv_model.specs.declared.types.End.{End}
 use Rattle.dv_model.specs.declared.types.End.TheVariants.{Number, Star}
 use Rattle.dv_model.specs.declared.types.Span.{Span}
 use Rattle.dv_formats.specs.Printing.{are_equal, end_text, set_text, span_text}
-use Rattle.dv_formats.specs.Scripts.{IsEnd, IsSet, IsSpan, IsWide}
+use Rattle.dv_formats.specs.Scripts.{IsEnd, IsSet, IsSpan}
 
 printed_end : (end : End) (b : List ℕ) → IsEnd end b → IsEnd end (end_text end)
 printed_end (Number n) b is = (is.0, is.1, refl)

@@ -1,10 +1,14 @@
-ghost use Rattle.std.specs.Prelude.{◌≡◌, ◌^◌, ◌<◌, ◌||◌, ◌∷◌, [], ℕ, IfOk, None, Some, Ok, Err, find, fold, length, map, max, nat_eq, nat_lt};
+ghost use Rattle.std.specs.Prelude.{◌≡◌, ◌+◌, ◌^◌, ◌<◌, ◌≤◌, ◌||◌, ◌∷◌, [], ℕ, IfOk, None, Some, Ok, Err, find, fold, length, map, max, nat_eq, nat_lt, slice_index_or};
+ghost use Rattle.std.specs.List.Sorted.{IsStrictlyIncreasing};
+ghost use Rattle.dv_model.specs.declared.types.Shown.{Shown};
 ghost use Rattle.dv_model.specs.Sets.{end_value, is_in_set, is_in_span, missing_end, named_by_number, named_by_uid};
 ghost use Rattle.dv_model.specs.Views.{View};
 ghost use Rattle.dv_sets.specs.Answers.{Chooses};
+ghost use Rattle.dv_sets.specs.Intervals.{is_within};
 ghost use Rattle.dv_sets.specs.declared.end.SetEnd.TheVariants as set_end;
 
 use crate::end::SetEnd;
+use crate::intervals::{Interval, numbers_of};
 use dv_model::{End, List, NoMemory, Shown, Span};
 use std::alloc::Global;
 
@@ -25,7 +29,9 @@ fn is_in_span(span: Span, star: u32, n: u32) -> bool
     from.min(to) <= n && n <= from.max(to)
 }
 
-fn is_in_set(set: &[Span], star: u32, n: u32) -> bool
+/// Whether a set has the number, where `*` is the largest in use (RFC 3501, section 9,
+/// sequence-set).
+pub fn is_in_set(set: &[Span], star: u32, n: u32) -> bool
     ensures { result ≡ is_in_set star set.now n }
 {
     set.iter().any(|span| is_in_span(*span, star, n))
@@ -60,20 +66,52 @@ fn missing_end(set: &[Span], count: u32) -> Option<u32>
     None
 }
 
+// The places whose message numbers a range has, among so many.
+fn places_by_number(span: Span, count: u32) -> Interval
+    ensures inside { result.to ≤ count }
+    ensures is { (k : ℕ) → k < count →
+        is_within k result ≡ is_in_span count span (k + 1) }
+{
+    let from = end_value(span.from, count);
+    let to = end_value(span.to, count);
+    Interval {
+        from: from.min(to).saturating_sub(1),
+        to: from.max(to).min(count),
+    }
+}
+
+// The places of the rows whose UIDs a range has, found by halves.
+fn places_by_uid(span: Span, star: u32, rows: &[Shown]) -> Interval
+    requires few { length rows.now < 2 ^ 32 }
+    requires rising { IsStrictlyIncreasing (map (λ row. row.uid) rows.now) }
+    ensures inside { result.to ≤ length rows.now }
+    ensures is { (k : ℕ) (d : Shown) → k < length rows.now →
+        is_within k result ≡ is_in_span star span (slice_index_or rows.now k d).uid }
+{
+    let from = end_value(span.from, star);
+    let to = end_value(span.to, star);
+    let (low, high) = (from.min(to), from.max(to));
+    Interval {
+        from: rows.partition_point(|row| row.uid < low) as u32,
+        to: rows.partition_point(|row| row.uid <= high) as u32,
+    }
+}
+
+// The largest UID of rows by rising UID.
 fn largest_uid(rows: &[Shown]) -> u32
+    requires { IsStrictlyIncreasing (map (λ row. row.uid) rows.now) }
     ensures { result ≡ fold (λ n s. max n s.uid) 0 rows.now }
 {
-    let mut largest = 0;
-    for row in rows {
-        largest = largest.max(row.uid);
+    match rows.last() {
+        Some(row) => row.uid,
+        None => 0,
     }
-    largest
 }
 
 /// The message numbers that a set names in a view of these rows, in rising order (RFC 3501,
 /// section 2.3.1.2). `NoMessage` has the first end that is 0 or above the number of rows, where
-/// `*` is that number; it takes no memory to find. The time is in proportion to the rows times the
-/// ranges, of which sets mostly have few.
+/// `*` is that number; it takes no memory to find. The time is that of the ranges, their sorting,
+/// and the numbers.
 pub fn numbers(alloc: Global, set: &List<Span>, rows: &List<Shown>) -> Result<List<u32>, SetEnd>
     requires { length rows.now < 2 ^ 32 }
     ensures missing { (view : View) (n : ℕ) → view.rows ≡ rows.now
@@ -87,33 +125,28 @@ pub fn numbers(alloc: Global, set: &List<Span>, rows: &List<Shown>) -> Result<Li
     if let Some(n) = missing_end(set.as_slice(), count) {
         return Err(SetEnd::NoMessage(n));
     }
-    let mut numbers = List::new(alloc);
-    for before in 0..count {
-        let number = before + 1;
-        if is_in_set(set.as_slice(), count, number) {
-            numbers.push(number)?;
-        }
+    let mut intervals = Vec::new(alloc);
+    for span in set.as_slice() {
+        intervals.push(places_by_number(*span, count))?;
     }
-    Ok(numbers)
+    Ok(numbers_of(alloc, intervals, count)?)
 }
 
 /// The message numbers of the rows whose UIDs are in a set, in rising order; `*` is the largest
 /// UID of the rows, and a UID that no row has is passed over (RFC 3501, section 6.4.8).
-/// `NoMemory` is the only error. The time is in proportion to the rows times the ranges, of which
-/// sets mostly have few.
+/// `NoMemory` is the only error. The time is that of the ranges, each found by halves, their
+/// sorting, and the numbers.
 pub fn uids(alloc: Global, set: &List<Span>, rows: &List<Shown>) -> Result<List<u32>, NoMemory>
-    requires { length rows.now < 2 ^ 32 }
+    requires few { length rows.now < 2 ^ 32 }
+    requires rising { IsStrictlyIncreasing (map (λ row. row.uid) rows.now) }
     ensures { (view : View) → view.rows ≡ rows.now
         → IfOk result (λ numbers. numbers ≡ map (λ row. row.0) (named_by_uid set.now view)) }
 {
-    let star = largest_uid(rows.as_slice());
-    let mut numbers = List::new(alloc);
-    let mut number = 0;
-    for row in rows.as_slice() {
-        number += 1;
-        if is_in_set(set.as_slice(), star, row.uid) {
-            numbers.push(number)?;
-        }
+    let rows = rows.as_slice();
+    let star = largest_uid(rows);
+    let mut intervals = Vec::new(alloc);
+    for span in set.as_slice() {
+        intervals.push(places_by_uid(*span, star, rows))?;
     }
-    Ok(numbers)
+    numbers_of(alloc, intervals, rows.len() as u32)
 }

@@ -6,11 +6,12 @@ mod choosing;
 mod cutting;
 mod end;
 mod flags;
+mod intervals;
 mod law;
 mod printing;
 mod sets;
 
-pub use choosing::{numbers, uids};
+pub use choosing::{is_in_set, numbers, uids};
 pub use end::{ParseEnd, SetEnd};
 pub use flags::parse_flags;
 pub use law::{one_flags, one_set, written_set_is_read};

@@ -1,4 +1,5 @@
-ghost use Rattle.std.specs.Prelude.{◌<◌, ◌^◌, IfOk, length};
+ghost use Rattle.std.specs.Prelude.{◌<◌, ◌^◌, IfOk, length, map};
+ghost use Rattle.std.specs.List.Sorted.{IsStrictlyIncreasing};
 
 use super::*;
 use dv_model::{Bytes, End, List, NoMemory, Shown, Span};
@@ -24,32 +25,36 @@ const STAR: Span = Span {
     to: End::Star,
 };
 
-// A view's rows with these UIDs.
-fn rows_of(alloc: Global, uids: &[u32]) -> Result<List<Shown>, NoMemory>
-    ensures { IfOk result (λ rows. length rows < 2 ^ 32) }
+// Rows of a view with these UIDs, which rise.
+fn rows_of(alloc: Global, uids: &[u32]) -> Result<List<Shown>, Fail>
+    ensures few { IfOk result (λ rows. length rows < 2 ^ 32) }
+    ensures rising { IfOk result (λ rows. IsStrictlyIncreasing (map (λ row. row.uid) rows)) }
 {
     let mut rows = List::new(alloc);
+    let mut last = 0;
     for uid in uids {
+        if *uid <= last || rows.len() > 100 {
+            return Err("few rising UIDs")?;
+        }
         rows.push(Shown {
             uid: *uid,
             flags: 0,
             keywords: List::new(alloc),
             modseq: 1,
         })?;
-    }
-    if rows.len() > 4294967295 {
-        return Err(NoMemory);
+        last = *uid;
     }
     Ok(rows)
 }
 
 #[test]
 fn sets_name_rows_by_their_numbers(rt: HostRuntime) -> Result<(), Fail> {
-    let sets: [(&[u8], &[u32]); 5] = [
+    let sets: [(&[u8], &[u32]); 6] = [
         (b"2", &[2]),
         (b"3:2", &[2, 3]),
         (b"1,3:2,*", &[1, 2, 3, 4]),
         (b"*:3,4,1", &[1, 3, 4]),
+        (b"4:3,1:3,2:4,2", &[1, 2, 3, 4]),
         (b"1:*", &[1, 2, 3, 4]),
     ];
     for (text, wanted) in sets {

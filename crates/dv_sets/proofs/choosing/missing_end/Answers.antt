@@ -1,4 +1,4 @@
-use Rattle.std.proofs.Common.{◌≡◌, ◌∙◌, sym}
+use Rattle.std.proofs.Common.{◌∙◌, sym}
 use Rattle.dv_sets.proofs.Chosen.{missing_here, missing_none}
 use Rattle.dv_sets.proofs.choosing.missing_end.Goals as goal
 

@@ -1,18 +1,27 @@
-use Rattle.std.proofs.Common.{◌≡◌, ◌<◌, ◌+◌, ◌++◌, ◌∷◌, [], ◌∙◌, ℕ, length, ap, sym, arith}
+use Rattle.std.proofs.Common.{◌≡◌, ◌∙◌, ◌+◌, ◌<◌, ℕ, List, Ok, sym, ap, subst, take, length}
+use Rattle.std.proofs.lemmas.List.{take_all}
+use Rattle.dv_model.specs.declared.types.Shown.{Shown}
+use Rattle.dv_model.specs.declared.types.Span.{Span}
 use Rattle.dv_model.specs.Sets.{is_in_set}
-use Rattle.dv_sets.proofs.Chosen.{numbered_in, numbered_out}
+use Rattle.dv_sets.specs.Intervals.{is_covered, numbers_where}
+use Rattle.dv_sets.proofs.Chosen.{chosen}
+use Rattle.dv_sets.proofs.Swept.{chosen_where}
 use Rattle.dv_sets.proofs.choosing.numbers.Goals as goal
-use Rattle.dv_sets.proofs.choosing.numbers.Goals.{then-is_in_set+in_ok-push, else-is_in_set}
 
-pub loop-before-preserved : goal.loop-before-preserved
-loop-before-preserved c =
-    let set = c.args.set.now in
+pub returns-clause-named : goal.returns-clause-named
+returns-clause-named c = λ view same none.
     let rows = c.args.rows.now in
-    let i = c.loop-before.before in
-    let less : i < length rows = omega (arith, c.len-count.ensures) in
-    let test : is_in_set (length rows) set (i + 1) ≡ c.is_in_set.result =
-    ap (λ n. is_in_set n set (i + 1)) (sym c.len-count.ensures) ∙ ap (λ s. is_in_set c.len-count.result s (i + 1)) (sym c.as_slice-in-loop-before.ensures) ∙ sym c.is_in_set.ensures in
-    elim c.if-is_in_set.branch [
-      | then-is_in_set+in_ok-push w ↦ w.numbers-is ∙ w.in_ok-push.ensures.ok ∙ ap (λ t. t ++ (i + 1) ∷ []) c.loop-before.invariant ∙ sym (numbered_in (is_in_set (length rows) set) rows i less (test ∙ w.if-is_in_set.true))
-      | else-is_in_set w ↦ w.numbers-is ∙ c.loop-before.invariant ∙ sym (numbered_out (is_in_set (length rows) set) rows i less (test ∙ w.if-is_in_set.false))
-    ]
+    let set = c.args.set.now in
+    let xs = c.loop-span.intervals.items in
+    let count : c.len-count.result ≡ length rows = c.len-count.ensures in
+    let all : take c.loop-span.span-index c.as_slice-span-items.result.now ≡ set =
+    take_all c.loop-span.span-index c.as_slice-span-items.result.now c.loop-span-test.false ∙ c.as_slice-span-items.ensures in
+    let covered : (k : ℕ) → k < length rows → is_covered xs k ≡ is_in_set (length rows) set (k + 1) =
+    λ k less. c.loop-span.invariant.covered k (subst (λ n. k < n) (sym count) less) ∙ ap (λ (s : List Span). is_in_set c.len-count.result s (k + 1)) all ∙ ap (λ n. is_in_set n set (k + 1)) count in
+    let is : chosen (λ row. is_in_set (length rows) set row.0) rows ≡ numbers_where (is_covered xs) (length rows) =
+    chosen_where (λ row. is_in_set (length rows) set row.0) (is_covered xs) rows (λ k d less. sym (covered k less)) in
+    ap (λ (ns : List ℕ). Ok ns)
+    (c.in_ok-numbers_of.ensures
+    ∙ ap (numbers_where (is_covered xs)) count
+    ∙ sym is
+    ∙ ap (λ (rs : List Shown). chosen (λ row. is_in_set (length rs) set row.0) rs) (sym same))

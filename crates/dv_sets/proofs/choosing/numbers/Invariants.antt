@@ -1,7 +1,10 @@
-use Rattle.std.proofs.Common.{◌≡◌, length, take}
+use Rattle.std.proofs.Common.{◌≡◌, ◌+◌, ◌<◌, ℕ, take}
 use Rattle.dv_model.specs.Sets.{is_in_set}
-use Rattle.dv_sets.proofs.Chosen.{chosen}
+use Rattle.dv_sets.specs.Intervals.{AreInside, is_covered}
 use Rattle.dv_sets.proofs.choosing.numbers.Given as goal
 
-abbrev pub invariant-loop-before : goal.invariant-loop-before
-invariant-loop-before l = l.numbers ≡ chosen (λ row. is_in_set (length l.rows) l.set row.0) (take l.before l.rows)
+abbrev pub invariant-loop-span : goal.invariant-loop-span
+invariant-loop-span l = record {
+  inside : AreInside l.count l.intervals.items;
+  covered : (k : ℕ) → k < l.count → is_covered l.intervals.items k ≡ is_in_set l.count (take l.span-index l.span-items) (k + 1);
+}

@@ -1,29 +1,29 @@
-use Rattle.std.proofs.Common.{◌≡◌, ◌<◌, ◌+◌, ◌++◌, ◌∷◌, [], ◌∙◌, ℕ, Bool, length, get_or, take, ap, sym, refl, arith}
+use Rattle.std.proofs.Common.{◌≡◌, ◌∙◌, ℕ, List, sym, ap, take, length, get_or}
+use Rattle.std.specs.Prelude.{fold, max}
+use Rattle.std.proofs.lemmas.List.{take_all}
+use Rattle.std.proofs.lemmas.Result.{IfOk-weaker}
 use Rattle.dv_model.specs.declared.types.Shown.{Shown}
+use Rattle.dv_model.specs.declared.types.Span.{Span}
 use Rattle.dv_model.specs.Sets.{is_in_set}
-use Rattle.dv_sets.proofs.Chosen.{chosen, chosen_in, chosen_out}
+use Rattle.dv_sets.specs.Intervals.{is_covered, numbers_where}
+use Rattle.dv_sets.proofs.Chosen.{chosen}
+use Rattle.dv_sets.proofs.Swept.{chosen_where}
 use Rattle.dv_sets.proofs.choosing.uids.Goals as goal
-use Rattle.dv_sets.proofs.choosing.uids.Goals.{then-is_in_set+in_ok-push, else-is_in_set}
 
-pub loop-row-preserved : goal.loop-row-preserved
-loop-row-preserved c =
+pub returns : goal.returns
+returns c = λ view same.
+    let rows = c.as_slice-rows.result.now in
     let set = c.args.set.now in
     let star = c.largest_uid-star.result in
-    let rows = c.as_slice-row-items.result.now in
-    let i = c.loop-row.row-index in
-    let row = c.row-item.result in
-    let less = c.loop-row-test.true in
-    let number : c.loop-row.number + 1 ≡ i + 1 = ap (λ n. n + 1) c.loop-row.invariant.counted in
-    let p : ℕ × Shown → Bool = λ r. is_in_set star set r.1.uid in
-    let test : p (i + 1, get_or rows i row) ≡ c.is_in_set.result =
-    ap (λ (r : Shown). is_in_set star set r.uid) (sym c.row-item.is) ∙ ap (λ s. is_in_set star s row.uid) (sym c.as_slice-in-loop-row.ensures) ∙ sym c.is_in_set.ensures in
-    elim c.if-is_in_set.branch [
-      | then-is_in_set+in_ok-push w ↦ record {
-        counted = number;
-        chosen = w.numbers-is ∙ w.in_ok-push.ensures.ok ∙ ap (λ t. t ++ (c.loop-row.number + 1) ∷ []) c.loop-row.invariant.chosen ∙ ap (λ n. chosen p (take i rows) ++ n ∷ []) number ∙ sym (chosen_in p rows i row less (test ∙ w.if-is_in_set.true));
-      }
-      | else-is_in_set w ↦ record {
-        counted = number;
-        chosen = w.numbers-is ∙ c.loop-row.invariant.chosen ∙ sym (chosen_out p rows i row less (test ∙ w.if-is_in_set.false));
-      }
-    ]
+    let xs = c.loop-span.intervals.items in
+    let all : take c.loop-span.span-index c.as_slice-span-items.result.now ≡ set =
+    take_all c.loop-span.span-index c.as_slice-span-items.result.now c.loop-span-test.false ∙ c.as_slice-span-items.ensures in
+    let is : chosen (λ row. is_in_set star set row.1.uid) rows ≡ numbers_where (is_covered xs) (length rows) =
+    chosen_where (λ row. is_in_set star set row.1.uid) (is_covered xs) rows
+    (λ k d less. sym (c.loop-span.invariant.covered k d less ∙ ap (λ (s : List Span). is_in_set star s (get_or rows k d).uid) all)) in
+    let star-is : chosen (λ row. is_in_set star set row.1.uid) rows ≡ chosen (λ row. is_in_set (fold (λ n s. max n s.uid) 0 rows) set row.1.uid) rows =
+    ap (λ (n : ℕ). chosen (λ row. is_in_set n set row.1.uid) rows) c.largest_uid-star.ensures in
+    let there : rows ≡ view.rows = c.as_slice-rows.ensures ∙ sym same in
+    IfOk-weaker c.numbers_of.result _ _
+    (λ numbers made. made ∙ sym is ∙ star-is ∙ ap (λ (rs : List Shown). chosen (λ row. is_in_set (fold (λ n s. max n s.uid) 0 rs) set row.1.uid) rs) there)
+    c.numbers_of.ensures

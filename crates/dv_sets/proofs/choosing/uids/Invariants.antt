@@ -1,10 +1,11 @@
-use Rattle.std.proofs.Common.{◌≡◌, take}
+use Rattle.std.proofs.Common.{◌≡◌, ◌<◌, ℕ, take, get_or, length}
+use Rattle.dv_model.specs.declared.types.Shown.{Shown}
 use Rattle.dv_model.specs.Sets.{is_in_set}
-use Rattle.dv_sets.proofs.Chosen.{chosen}
+use Rattle.dv_sets.specs.Intervals.{AreInside, is_covered}
 use Rattle.dv_sets.proofs.choosing.uids.Given as goal
 
-abbrev pub invariant-loop-row : goal.invariant-loop-row
-invariant-loop-row l = record {
-  counted : l.number ≡ l.row-index;
-  chosen : l.numbers ≡ chosen (λ row. is_in_set l.star l.set row.1.uid) (take l.row-index l.row-items);
+abbrev pub invariant-loop-span : goal.invariant-loop-span
+invariant-loop-span l = record {
+  inside : AreInside (length l.rows) l.intervals.items;
+  covered : (k : ℕ) (d : Shown) → k < length l.rows → is_covered l.intervals.items k ≡ is_in_set l.star (take l.span-index l.span-items) (get_or l.rows k d).uid;
 }

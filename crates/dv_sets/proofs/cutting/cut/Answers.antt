@@ -1,4 +1,4 @@
-use Rattle.std.proofs.Common.{◌≡◌, ◌∙◌, ◌∷◌, ◌++◌, ℕ, false, take, drop, ap, sym, nat_eq}
+use Rattle.std.proofs.Common.{◌≡◌, ◌∙◌, ◌∷◌, ◌++◌, false, take, drop, ap, sym, nat_eq}
 use Rattle.std.proofs.lemmas.List.Elements.{All-same}
 use Rattle.dv_sets.proofs.Pieces.{none_before, front_lacks, parts_at}
 use Rattle.dv_sets.proofs.cutting.cut.Goals as goal

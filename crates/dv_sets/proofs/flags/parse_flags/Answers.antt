@@ -1,4 +1,4 @@
-use Rattle.std.proofs.Common.{◌≡◌, ◌<◌, ◌∙◌, ◌∷◌, ◌++◌, [], List, ℕ, Ok, length, rules, ap, sym, subst}
+use Rattle.std.proofs.Common.{◌≡◌, ◌<◌, [], List, ℕ, Ok, length, rules, ap, sym, subst}
 use Rattle.dv_formats.specs.Scripts.{AreFlags, IsFlag}
 use Rattle.dv_sets.proofs.Words.{IsReadTo, bad_word, empty_flags, end_bad, end_every, end_only, flags_are_one, last_one, one_more, starts}
 use Rattle.dv_sets.proofs.flags.parse_flags.Goals as goal

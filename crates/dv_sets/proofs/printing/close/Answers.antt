@@ -1,5 +1,4 @@
-use Rattle.std.proofs.Common.{◌≡◌, ◌+◌, ◌-◌, ◌<◌, ◌≤◌, ◌∙◌, ◌∷◌, ◌++◌, List, ℕ, [], length, take, ap, sym, subst, arith}
-use Rattle.dv_model.specs.Texts.{spaced}
+use Rattle.std.proofs.Common.{◌≡◌, ◌-◌, ◌<◌, ◌≤◌, ◌∙◌, ◌∷◌, ◌++◌, [], length, take, ap, arith}
 use Rattle.dv_sets.proofs.Printed.{closed, closed_empty}
 use Rattle.dv_sets.proofs.printing.close.Goals as goal
 use Rattle.dv_sets.proofs.printing.close.Goals.{then-len-gt1, else-len-gt1}

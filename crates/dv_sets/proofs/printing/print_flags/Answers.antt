@@ -1,5 +1,4 @@
 use Rattle.std.proofs.Common.{◌∙◌, ◌++◌, ◌∷◌, [], ap}
-use Rattle.std.specs.List.{flat_map}
 use Rattle.dv_model.specs.Texts.{flag_words}
 use Rattle.dv_sets.proofs.Printed.{two_lists}
 use Rattle.dv_sets.proofs.printing.print_flags.Goals as goal

@@ -1,5 +1,4 @@
-use Rattle.std.proofs.Common.{◌≡◌, ◌++◌, ◌∷◌, [], List, ℕ, Ok, ap, sym, subst}
-use Rattle.dv_model.specs.declared.types.Span.{Span}
+use Rattle.std.proofs.Common.{Ok, ap, sym, subst}
 use Rattle.dv_formats.specs.Scripts.{IsSet}
 use Rattle.dv_sets.proofs.Reading.{IsReadTo, bad_cut, last_one, one_more, set_is_one}
 use Rattle.dv_sets.proofs.sets.parse_set.Goals as goal

@@ -1,5 +1,4 @@
-use Rattle.std.proofs.Common.{◌∙◌, sym, subst, get_or}
-use Rattle.std.specs.Str.Parse.{ParsesUnsigned}
+use Rattle.std.proofs.Common.{◌∙◌, sym, get_or}
 use Rattle.dv_sets.proofs.EndTexts.{number_starts, number_utf8, number_read, number_parses, starts_yes, starts_no}
 use Rattle.dv_sets.proofs.sets.read_number.Goals as goal
 

@@ -1,4 +1,3 @@
-use Rattle.std.proofs.Common.{◌≡◌, List, ℕ}
 use Rattle.dv_model.specs.declared.types.Span.{Span}
 use Rattle.dv_formats.specs.Scripts.{IsSpan}
 use Rattle.dv_sets.proofs.Reading.{none_from, none_to, if_none}
