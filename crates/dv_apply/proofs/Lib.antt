@@ -2,5 +2,5 @@ mod Appending
 mod Changing
 mod Becoming
 mod Extending
-mod Keeping
-mod Refusing
+pub mod Keeping
+pub mod Refusing

@@ -1,0 +1,91 @@
+-- What opening answers, and what it leaves of the folder.
+use Rattle.std.specs.Prelude.{◌≡◌, ◌≢◌, ℕ, ◌≤◌, List, [], length, Option, Some, None, Result, Ok, Err, IfSome, ⊤}
+use Rattle.dv_model.specs.declared.types.Mailbox.{Mailbox}
+use Rattle.dv_model.specs.declared.types.Mark.{Mark}
+use Rattle.dv_model.specs.declared.types.OpenFault.{OpenFault}
+use Rattle.dv_model.specs.declared.types.OpenFault.TheVariants as fault
+use Rattle.dv_model.specs.Counts.{Rose}
+use Rattle.dv_model.specs.Mailboxes.{IsValid}
+use Rattle.dv_shelf.specs.declared.shelf.Name.{Name}
+use Rattle.dv_shelf.specs.declared.shelf.Name.TheVariants as name
+use Rattle.dv_shelf.specs.Folders.{Folder, with_file, contents}
+use Rattle.dv_shelf.specs.Crashes.{FollowsNone, LeavesOnly}
+use Rattle.dv_logfile.specs.declared.commit.Debt.TheVariants as debt
+use Rattle.dv_logfile.specs.Scans.{Spot, GoodLog, Scanned, Good, IsGood, IsScanned}
+use Rattle.dv_openings.specs.Openings as found
+use Rattle.dv_openings.specs.Openings.{Found, Finds, IsFound, IsIndex, Snapshot, mended, joining, counted}
+use Rattle.dv_chain.specs.declared.chain.Chain.{Chain}
+use Rattle.dv_chain.specs.declared.file.File.{File}
+use Rattle.dv_chain.specs.declared.opening.Files.{Files}
+use Rattle.dv_chain.specs.Files.{HasSpots, IsFileOf, good_file, snapshot_in}
+
+-- what is answered is found; where memory ran out or the disk failed nothing is said
+abbrev pub Answers : {A : Type 0} → (A → Found) → Result A OpenFault → (Found → Type 0) → Type 0
+Answers of (Ok x) P = P (of x)
+Answers of (Err fault.NoLog) P = P found.NoLog
+Answers of (Err fault.BadLogHeader) P = P found.BadLogHeader
+Answers of (Err (fault.BadRecord offset)) P = P (found.BadRecord offset)
+Answers of (Err fault.BadIndex) P = P found.BadIndex
+Answers of (Err (fault.Gap index log)) P = P (found.Gap index log)
+Answers of (Err fault.NoMemory) P = ⊤
+Answers of (Err (fault.Disk faults)) P = ⊤
+
+-- the mailbox of a chain, and its place
+abbrev pub found_of : Chain → Found
+found_of chain =
+    Finds chain.live.mailbox (record { file_seq = chain.log.file_seq; offset = chain.log.end })
+
+-- the chain stands on the folder's log, behind its last record, and owes nothing
+pub record IsChainOf (folder : Folder) (chain : Chain) : Type 0 where
+  pub file : GoodLog
+  pub scanned : IsScanned (folder name.Log) (Good file)
+  pub seq : chain.log.file_seq ≡ file.header.file_seq
+  pub end : chain.log.end ≡ file.end
+  pub count : chain.log.count ≡ length file.spots
+  pub debt : chain.log.debt ≡ debt.None
+  pub indexid : chain.indexid ≡ file.header.indexid
+  pub records : chain.records ≡ file.header.initial_modseq
+
+-- the other folder opens to the same, and the files but the log are as they were
+pub record IsQuiet (old new : Folder) : Type 0 where
+  pub opens : (f : Found) → IsFound old f → IsFound new f
+  pub others : (n : Name) → n ≢ name.Log → new n ≡ old n
+
+-- Behind Ok the log's end is mended, and nothing else is changed. A fault of the disk leaves a
+-- folder that opens to the same, and any other the folder as it was.
+abbrev pub LeavesFolder : Folder → Folder → Result Chain OpenFault → Type 0
+LeavesFolder old new (Ok chain) =
+    new ≡ with_file old name.Log (Some (mended (contents old name.Log) chain.log.end))
+LeavesFolder old new (Err (fault.Disk faults)) = IsQuiet old new
+LeavesFolder old new (Err other) = new ≡ old
+
+-- the disk failed only with this
+abbrev pub OnDisk : {A : Type 0} → Result A OpenFault → (ℕ → Type 0) → Type 0
+OnDisk (Err (fault.Disk faults)) P = P faults
+OnDisk r P = ⊤
+
+-- a fault of the disk comes only where a count rose, and tells the count; the count never falls
+pub record HasCause {A : Type 0} (before now : ℕ) (result : Result A OpenFault) : Type 0 where
+  pub later : before ≤ now
+  pub rose : OnDisk result (λ faults. (faults ≡ now) × Rose before now)
+
+-- Nothing was changed: the files are as they were, and a crash leaves and left nothing more. It
+-- takes the members of a shelf's type.
+pub record OnlyLooks {S : Type 0} (files : S → Folder) (may_leave : S → Folder → Type 0)
+    (moment : S → ℕ) (left_since : S → ℕ → Folder → Type 0) (old new : S) : Type 0 where
+  pub same : files new ≡ files old
+  pub crash : FollowsNone (may_leave old) (may_leave new)
+  pub since : LeavesOnly moment left_since old new (may_leave old)
+
+-- what was read of the folder's files
+pub record AreFilesOf (folder : Folder) (files : Files) : Type 0 where
+  pub spots : List Spot
+  pub log : HasSpots spots files.log
+  pub log_file : folder name.Log ≡ Some files.log.bytes
+  pub rotated_scan : Scanned
+  pub rotated_file : IsScanned (folder name.Log2) rotated_scan
+  pub rotated : IsFileOf files.rotated (joining (good_file files.log spots) rotated_scan)
+  pub snapshot : Option Snapshot
+  pub index_file : IsIndex (folder name.Index) snapshot
+  pub index : snapshot_in files.index ≡ counted (good_file files.log spots) snapshot
+  pub valid : IfSome files.index (λ index. IsValid index.mailbox)
