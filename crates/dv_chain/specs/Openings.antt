@@ -13,7 +13,8 @@ use Rattle.dv_shelf.specs.Crashes.{FollowsNone, LeavesOnly}
 use Rattle.dv_logfile.specs.declared.commit.Debt.TheVariants as debt
 use Rattle.dv_logfile.specs.Scans.{Spot, GoodLog, Scanned, Good, IsGood, IsScanned}
 use Rattle.dv_openings.specs.Openings as found
-use Rattle.dv_openings.specs.Openings.{Found, Finds, IsFound, IsIndex, Snapshot, mended, joining, counted}
+use Rattle.dv_openings.specs.Openings.{Found, Finds, IsFound, end_mark, IsIndex, Snapshot, mended, joining, counted}
+use Rattle.dv_apply.specs.States.{Kept}
 use Rattle.dv_chain.specs.declared.chain.Chain.{Chain}
 use Rattle.dv_chain.specs.declared.file.File.{File}
 use Rattle.dv_chain.specs.declared.opening.Files.{Files}
@@ -29,6 +30,10 @@ Answers of (Err fault.BadIndex) P = P found.BadIndex
 Answers of (Err (fault.Gap index log)) P = P (found.Gap index log)
 Answers of (Err fault.NoMemory) P = ⊤
 Answers of (Err (fault.Disk faults)) P = ⊤
+
+-- so is the mailbox at the log's end
+abbrev pub Joins : GoodLog → Result Kept OpenFault → Found → Type 0
+Joins log result found = Answers (λ live. Finds live.mailbox (end_mark log)) result (λ f. f ≡ found)
 
 -- the mailbox of a chain, and its place
 abbrev pub found_of : Chain → Found

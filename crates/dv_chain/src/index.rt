@@ -60,6 +60,21 @@ fn numbered(m: Mailbox, n: u64) -> Mailbox
 }
 
 impl Index {
+    /// Its mailbox. A snapshot of version 1 has no modification sequences: each is this number.
+    fn numbered(self, n: u64) -> Mailbox
+        requires valid { IsValid self.mailbox }
+        requires some { 1 ≤ n }
+        requires small { n ≤ last_modseq }
+        ensures is { result ≡ with_numbers (snapshot_of self) n }
+        ensures valid { IsValid result }
+    {
+        if self.version == 1 {
+            numbered(self.mailbox, n)
+        } else {
+            self.mailbox
+        }
+    }
+
     /// The mailbox as a live one. A snapshot of version 1 has no modification sequences of its own:
     /// each is this number.
     pub fn start(self, alloc: Global, n: u64) -> Result<Live, OpenFault>
@@ -69,11 +84,6 @@ impl Index {
         ensures ok { IfOk result (λ live. live.mailbox ≡ with_numbers (snapshot_of self) n) }
         ensures err { IfErr result (λ e. e ≡ fault.NoMemory) }
     {
-        let mailbox = if self.version == 1 {
-            numbered(self.mailbox, n)
-        } else {
-            self.mailbox
-        };
-        Ok(Live::of(alloc, mailbox)?)
+        Ok(Live::of(alloc, self.numbered(n))?)
     }
 }

@@ -3,10 +3,10 @@
 ghost use Rattle.std.specs.Prelude.{◌≡◌, ℕ, ◌+◌, ◌&&◌, List, Option, Some, length, nat_eq, IfOk, IfSome};
 ghost use Rattle.dv_model.specs.Mailboxes.{IsValid};
 ghost use Rattle.dv_logfile.specs.Scans.{GoodLog, Spot};
-ghost use Rattle.dv_openings.specs.Openings.{Finds, applied_from, end_mark, from_either, from_index, from_nothing, joins, number_before, records_from, with_numbers};
+ghost use Rattle.dv_openings.specs.Openings.{applied_from, from_either, from_index, from_nothing, in_log, joins, number_before, records_from, with_numbers};
 ghost use Rattle.dv_chain.specs.Files.{HasHeader, HasSpots, IsFileOf, IsInside, good_file, snapshot_in, snapshot_of};
-ghost use Rattle.dv_chain.specs.Openings.{Answers};
-ghost use Rattle.dv_chain.specs.Walks.{Applies, Counts};
+ghost use Rattle.dv_chain.specs.Openings.{Joins};
+ghost use Rattle.dv_chain.specs.Walks.{Applies};
 
 use crate::file::File;
 use crate::index::Index;

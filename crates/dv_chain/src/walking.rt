@@ -5,9 +5,9 @@ ghost use Rattle.dv_model.specs.Effects.{after_record};
 ghost use Rattle.dv_model.specs.Spelling.{IsRecord, is_closed};
 ghost use Rattle.dv_records.specs.Faults.{IsRecordAt};
 ghost use Rattle.dv_logfile.specs.Layout.{last_end};
-ghost use Rattle.dv_logfile.specs.Scans.{AreSpots, IsFaulty, Spot};
+ghost use Rattle.dv_logfile.specs.Scans.{IsFaulty, Spot};
 ghost use Rattle.dv_openings.specs.Openings.{spots_applied, spots_from};
-ghost use Rattle.dv_chain.specs.Walks.{Applies, Counts, Measures, OnBadRecord};
+ghost use Rattle.dv_chain.specs.Walks.{Applies, Counts, IsLeft, Measures, OnBadRecord, Skips};
 
 use dv_apply::{ApplyFault, Live};
 use dv_logfile::{ScanEnd, next_record};
@@ -32,6 +32,23 @@ fn record_at(alloc: Global, b: &[u8], at: usize) -> Result<Option<(Record, usize
     }
 }
 
+/// The place behind the record that begins at a place; None where the place is closed.
+fn skip(alloc: Global, b: &[u8], at: usize) -> Result<Option<usize>, OpenFault>
+    requires inside { at ≤ length b.now }
+    requires fits { at ≤ last_end }
+    ensures skipped { IfOk result (λ next. IfSome next (λ behind. Skips b.now at behind)) }
+    ensures closed { IfOk result (λ next. IsNone next → is_closed (drop at b.now) ≡ true) }
+    ensures fault { OnBadRecord result (λ offset. (offset ≡ at) × IsFaulty at (drop at b.now)) }
+{
+    match record_at(alloc, b, at)? {
+        Some((record, behind)) => {
+            drop(record);
+            Ok(Some(behind))
+        }
+        None => Ok(None),
+    }
+}
+
 /// Where the records from a place on end, and how many they are.
 pub fn measure(alloc: Global, b: &[u8], from: usize) -> Result<(u32, u32), OpenFault>
     requires inside { from ≤ length b.now }
@@ -40,7 +57,7 @@ pub fn measure(alloc: Global, b: &[u8], from: usize) -> Result<(u32, u32), OpenF
 {
     let mut at = from;
     let mut count = 0;
-    while let Some((_, behind)) = record_at(alloc, b, at)? {
+    while let Some(behind) = skip(alloc, b, at)? {
         at = behind;
         count += 1;
     }
@@ -67,14 +84,15 @@ fn apply_one(live: &mut Live, r: &Record, at: u32) -> Result<(), OpenFault>
 pub fn apply_from(alloc: Global, b: &[u8], from: usize, live: Live) -> Result<Live, OpenFault>
     requires inside { from ≤ length b.now }
     requires fits { from ≤ last_end }
-    ensures { (spots : List Spot) (end : ℕ) (rest : List ℕ) →
-        AreSpots from spots (drop from b.now) end rest → is_closed rest ≡ true →
+    ensures { (spots : List Spot) (end : ℕ) → IsLeft b.now from spots end →
         Applies result (spots_applied live.mailbox spots) }
 {
     let mut live = live;
     let mut at = from;
     while let Some((record, behind)) = record_at(alloc, b, at)? {
-        apply_one(&mut live, &record, at as u32)?;
+        let applied = apply_one(&mut live, &record, at as u32);
+        drop(record);
+        applied?;
         at = behind;
     }
     Ok(live)
@@ -91,15 +109,14 @@ pub fn count_between(
     requires fits { from ≤ last_end }
     ensures inside { IfOk result (λ n. IfSome n (λ _.
         (place ≤ length b.now) × (place ≤ last_end))) }
-    ensures counted { (spots : List Spot) (end : ℕ) (rest : List ℕ) →
-        AreSpots from spots (drop from b.now) end rest → is_closed rest ≡ true →
+    ensures counted { (spots : List Spot) (end : ℕ) → IsLeft b.now from spots end →
         Counts result spots (spots_from end place spots) }
 {
     let mut at = from;
     let mut count = 0;
     while at < place {
-        match record_at(alloc, b, at)? {
-            Some((_, behind)) => {
+        match skip(alloc, b, at)? {
+            Some(behind) => {
                 at = behind;
                 count += 1;
             }

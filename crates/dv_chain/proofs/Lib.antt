@@ -1,0 +1,4 @@
+pub mod Walks
+pub mod Numbered
+pub mod Files
+pub mod Joins
