@@ -107,3 +107,57 @@ pub resumed : (log : GoodLog) (place n : ℕ) (left : List Spot) (s : Snapshot) 
     → Applies result (applied_from log place left m) → Applies result (applied_from log place left (with_numbers s (number_before log left)))
 resumed log place n left s m result is number applied =
     subst (λ (x : Mailbox). Applies result (applied_from log place left x)) (is ∙ ap (with_numbers s) number) applied
+
+-- ---- the answers of each way
+
+-- from the first log alone
+pub first_alone : (log : GoodLog) (before : Option GoodLog) (m : Mailbox) (result : Result Kept OpenFault) → log.header.file_seq ≡ 1 → m ≡ empty_mailbox log.header.indexid → Applies result (file_applied log m) → Joins log result (from_nothing log before)
+first_alone log before m result one empty applied =
+    subst (Joins log result) (sym (nothing_first log before one))
+    (ended log result (file_applied log (empty_mailbox log.header.indexid)) (subst (λ (x : Mailbox). Applies result (file_applied log x)) empty applied))
+
+module _ (log first : GoodLog) (before : Option GoodLog) (is : before ≡ Some first) (other : log.header.file_seq ≡ 1 → ⊥) where
+  -- from the second behind the first
+  pub both_applied : (m next : Mailbox) (result : Result Kept OpenFault) → log.header.file_seq ≡ 2 → m ≡ empty_mailbox log.header.indexid → file_applied first m ≡ Gives next → Applies result (file_applied log next) → Joins log result (from_nothing log before)
+  both_applied m next result two empty gives applied =
+      subst (λ (x : Option GoodLog). Joins log result (from_nothing log x)) (sym is)
+      (subst (Joins log result) (sym (nothing_second log first other two))
+      (ended log result _ (then_applied log next result _ (ap (file_applied first) (sym empty) ∙ gives) applied)))
+
+  pub first_fails : (m : Mailbox) (e : OpenFault) → log.header.file_seq ≡ 2 → m ≡ empty_mailbox log.header.indexid → Applies (Err e) (file_applied first m) → Joins log (Err e) (from_nothing log before)
+  first_fails m e two empty applied =
+      subst (λ (x : Option GoodLog). Joins log (Err e) (from_nothing log x)) (sym is)
+      (subst (Joins log (Err e)) (sym (nothing_second log first other two))
+      (ended log (Err e) _ (not_then log e _ (subst (λ (x : Mailbox). Applies (Err e) (file_applied first x)) empty applied))))
+
+  pub too_late : (log.header.file_seq ≡ 2 → ⊥) → Joins log (Err fault.BadIndex) (from_nothing log before)
+  too_late third = subst (λ (x : Option GoodLog). Joins log (Err fault.BadIndex) (from_nothing log x)) (sym is) (sym (nothing_third log first other third))
+
+pub no_first : (log : GoodLog) (before : Option GoodLog) → before ≡ None → (log.header.file_seq ≡ 1 → ⊥) → Joins log (Err fault.BadIndex) (from_nothing log before)
+no_first log before is other = subst (λ (x : Option GoodLog). Joins log (Err fault.BadIndex) (from_nothing log x)) (sym is) (sym (nothing_alone log other))
+
+-- from a snapshot
+module _ (log : GoodLog) (before : Option GoodLog) (s : Snapshot) where
+  pub from_log : (left : List Spot) (result : Result Kept OpenFault) → s.mark.file_seq ≡ log.header.file_seq → records_from log s.mark.offset ≡ Some left
+      → Applies result (applied_from log s.mark.offset left (with_numbers s (number_before log left))) → Joins log result (from_index log before s)
+  from_log left result seq there applied =
+      subst (Joins log result) (sym (index_in_log log before s _ (there_in_log log before s left seq there))) (ended log result _ applied)
+
+  pub from_first_file : (first : GoodLog) (left : List Spot) (result : Result Kept OpenFault) → before ≡ Some first → in_log log s ≡ None → nat_eq (s.mark.file_seq + 1) log.header.file_seq ≡ true → records_from first s.mark.offset ≡ Some left
+      → Applies result (then_file log (applied_from first s.mark.offset left (with_numbers s (number_before first left)))) → Joins log result (from_index log before s)
+  from_first_file first left result is none seq there applied =
+      subst (Joins log result)
+      (sym (index_in_rotated log before s _ none (ap (λ (x : Option GoodLog). in_rotated log x s) is ∙ there_in_rotated log first s left seq there)))
+      (ended log result _ applied)
+
+  pub from_named_end : (m : Mailbox) (n : ℕ) (result : Result Kept OpenFault) → in_log log s ≡ None → in_rotated log before s ≡ None
+      → (nat_eq (s.mark.file_seq + 1) log.header.file_seq && nat_eq s.mark.offset log.header.prev_file_offset && nat_eq s.mark.file_seq log.header.prev_file_seq) ≡ true
+      → m ≡ with_numbers s n → n ≡ file_number log.header → Applies result (file_applied log m) → Joins log result (from_index log before s)
+  from_named_end m n result none nowhere is start number applied =
+      subst (Joins log result) (sym (index_before log before s _ none nowhere (there_before log before s is)))
+      (ended log result _ (subst (λ (x : Mailbox). Applies result (file_applied log x)) (start ∙ ap (with_numbers s) number) applied))
+
+  pub gap_joins : in_log log s ≡ None → in_rotated log before s ≡ None
+      → (nat_eq (s.mark.file_seq + 1) log.header.file_seq && nat_eq s.mark.offset log.header.prev_file_offset && nat_eq s.mark.file_seq log.header.prev_file_seq) ≡ false
+      → Joins log (Err (fault.Gap s.mark (first_mark log))) (from_index log before s)
+  gap_joins none nowhere other = sym (index_gap log before s none nowhere (not_before log before s other))

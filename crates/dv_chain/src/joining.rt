@@ -1,9 +1,9 @@
 //! Which records of which files stand behind a snapshot, or behind nothing.
 
-ghost use Rattle.std.specs.Prelude.{◌≡◌, ℕ, ◌+◌, ◌&&◌, List, Option, Some, length, nat_eq, IfOk, IfSome};
+ghost use Rattle.std.specs.Prelude.{◌≡◌, ℕ, ◌+◌, ◌&&◌, List, Option, None, Some, length, nat_eq, IfOk, IfSome};
 ghost use Rattle.dv_model.specs.Mailboxes.{IsValid};
 ghost use Rattle.dv_logfile.specs.Scans.{GoodLog, Spot};
-ghost use Rattle.dv_openings.specs.Openings.{applied_from, from_either, from_index, from_nothing, in_log, joins, number_before, records_from, with_numbers};
+ghost use Rattle.dv_openings.specs.Openings.{applied_from, from_either, from_index, from_nothing, in_log, in_rotated, joins, number_before, records_from, then_file, with_numbers};
 ghost use Rattle.dv_chain.specs.Files.{HasHeader, HasSpots, IsFileOf, IsInside, good_file, snapshot_in, snapshot_of};
 ghost use Rattle.dv_chain.specs.Openings.{Joins};
 ghost use Rattle.dv_chain.specs.Walks.{Applies};
@@ -71,31 +71,80 @@ fn resume(alloc: Global, file: &File, index: Index, before: u32) -> Result<Live,
     file.apply_from(alloc, place, live)
 }
 
-/// From a snapshot whose mark isn't in the log: it is in the rotated log, or at the end that the
-/// log's header names.
+/// From a snapshot behind whose mark in the rotated log the log goes on.
+fn from_rotated(
+    alloc: Global,
+    log: &File,
+    first: &File,
+    index: Index,
+    before: u32,
+) -> Result<Live, OpenFault>
+    requires log { HasHeader log.now }
+    requires header { HasHeader first.now }
+    requires inside { IsInside first.now index.mark.offset }
+    requires valid { IsValid index.mailbox }
+    ensures { (spots others left : List Spot) → HasSpots spots log.now →
+        HasSpots others first.now →
+        records_from (good_file first.now others) index.mark.offset ≡ Some left →
+        before + length left ≡ length others →
+        Applies result (then_file (good_file log.now spots)
+        (applied_from (good_file first.now others) index.mark.offset left
+        (with_numbers (snapshot_of index) (number_before (good_file first.now others) left)))) }
+{
+    let live = resume(alloc, first, index, before)?;
+    log.apply_all(alloc, live)
+}
+
+/// From a snapshot whose mark is in neither file: it is at the end that the log's header names.
+fn from_end(alloc: Global, log: &File, index: Index) -> Result<Live, OpenFault>
+    requires log { HasHeader log.now }
+    requires valid { IsValid index.mailbox }
+    ensures { (spots : List Spot) (before : Option GoodLog) → HasSpots spots log.now →
+        in_log (good_file log.now spots) (snapshot_of index) ≡ None →
+        in_rotated (good_file log.now spots) before (snapshot_of index) ≡ None →
+        Joins (good_file log.now spots) result
+        (from_index (good_file log.now spots) before (snapshot_of index)) }
+{
+    let mark = index.mark;
+    if !is_before(log, mark) {
+        return Err(OpenFault::Gap {
+            index: mark,
+            log: first_mark(log),
+        });
+    }
+    let live = index.start(alloc, log.number())?;
+    log.apply_all(alloc, live)
+}
+
+/// From a snapshot whose mark isn't in the log.
 fn from_earlier(
     alloc: Global,
     log: &File,
     rotated: &Option<File>,
     index: Index,
-) -> Result<Live, OpenFault> {
+) -> Result<Live, OpenFault>
+    requires log { HasHeader log.now }
+    requires rotated { IfSome rotated.now HasHeader }
+    requires valid { IsValid index.mailbox }
+    ensures { (spots : List Spot) (before : Option GoodLog) → HasSpots spots log.now →
+        IsFileOf rotated.now before →
+        in_log (good_file log.now spots) (snapshot_of index) ≡ None →
+        Joins (good_file log.now spots) result
+        (from_index (good_file log.now spots) before (snapshot_of index)) }
+{
     let mark = index.mark;
-    if is_next(mark.file_seq, log.header.file_seq) {
-        if let Some(first) = rotated {
-            if let Some(before) = first.records_before(alloc, mark.offset)? {
-                let live = resume(alloc, first, index, before)?;
-                return log.apply_all(alloc, live);
+    match rotated {
+        Some(first) => {
+            if !is_next(mark.file_seq, log.header.file_seq) {
+                return from_end(alloc, log, index);
+            }
+            match first.records_before(alloc, mark.offset)? {
+                Some(before) => from_rotated(alloc, log, first, index, before),
+                None => from_end(alloc, log, index),
             }
         }
+        None => from_end(alloc, log, index),
     }
-    if is_before(log, mark) {
-        let live = index.start(alloc, log.number())?;
-        return log.apply_all(alloc, live);
-    }
-    Err(OpenFault::Gap {
-        index: mark,
-        log: first_mark(log),
-    })
 }
 
 /// From a snapshot.
@@ -104,18 +153,32 @@ fn from_index(
     log: &File,
     rotated: &Option<File>,
     index: Index,
-) -> Result<Live, OpenFault> {
+) -> Result<Live, OpenFault>
+    requires log { HasHeader log.now }
+    requires rotated { IfSome rotated.now HasHeader }
+    requires valid { IsValid index.mailbox }
+    ensures { (spots : List Spot) (before : Option GoodLog) → HasSpots spots log.now →
+        IsFileOf rotated.now before → Joins (good_file log.now spots) result
+        (from_index (good_file log.now spots) before (snapshot_of index)) }
+{
     let mark = index.mark;
-    if mark.file_seq == log.header.file_seq {
-        if let Some(before) = log.records_before(alloc, mark.offset)? {
-            return resume(alloc, log, index, before);
-        }
+    if mark.file_seq != log.header.file_seq {
+        return from_earlier(alloc, log, rotated, index);
     }
-    from_earlier(alloc, log, rotated, index)
+    match log.records_before(alloc, mark.offset)? {
+        Some(before) => resume(alloc, log, index, before),
+        None => from_earlier(alloc, log, rotated, index),
+    }
 }
 
 /// From nothing: the first log of all, or the second behind the first.
-fn from_nothing(alloc: Global, log: &File, rotated: &Option<File>) -> Result<Live, OpenFault> {
+fn from_nothing(alloc: Global, log: &File, rotated: &Option<File>) -> Result<Live, OpenFault>
+    requires log { HasHeader log.now }
+    requires rotated { IfSome rotated.now HasHeader }
+    ensures { (spots : List Spot) (before : Option GoodLog) → HasSpots spots log.now →
+        IsFileOf rotated.now before → Joins (good_file log.now spots) result
+        (from_nothing (good_file log.now spots) before) }
+{
     let live = Live::empty(alloc, log.header.indexid);
     if log.header.file_seq == 1 {
         return log.apply_all(alloc, live);
@@ -132,13 +195,21 @@ fn from_nothing(alloc: Global, log: &File, rotated: &Option<File>) -> Result<Liv
     }
 }
 
-/// The mailbox that the files give at the log's end.
+/// The mailbox that the files give at the log's end: from the snapshot, where there is one, and
+/// else from nothing.
 pub fn join(
     alloc: Global,
     log: &File,
     rotated: &Option<File>,
     index: Option<Index>,
-) -> Result<Live, OpenFault> {
+) -> Result<Live, OpenFault>
+    requires log { HasHeader log.now }
+    requires rotated { IfSome rotated.now HasHeader }
+    requires valid { IfSome index (λ i. IsValid i.mailbox) }
+    ensures { (spots : List Spot) (before : Option GoodLog) → HasSpots spots log.now →
+        IsFileOf rotated.now before → Joins (good_file log.now spots) result
+        (from_either (good_file log.now spots) before (snapshot_in index)) }
+{
     match index {
         Some(index) => from_index(alloc, log, rotated, index),
         None => from_nothing(alloc, log, rotated),
