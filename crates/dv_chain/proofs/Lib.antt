@@ -2,3 +2,5 @@ pub mod Walks
 pub mod Numbered
 pub mod Files
 pub mod Joins
+pub mod Shelves
+pub mod Mended

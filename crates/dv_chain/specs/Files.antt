@@ -23,6 +23,11 @@ pub record HasSpots (spots : List Spot) (file : File) : Type 0 where
 abbrev pub HasHeader : File → Type 0
 HasHeader file = file.header.hdr_size ≤ length file.bytes
 
+-- and so do its records
+pub record IsWhole (file : File) : Type 0 where
+  pub header : HasHeader file
+  pub end : file.end ≤ length file.bytes
+
 -- a record may begin or end at this place
 abbrev pub IsInside : File → ℕ → Type 0
 IsInside file place = (place ≤ length file.bytes) × (place ≤ last_end)

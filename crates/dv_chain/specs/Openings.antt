@@ -1,5 +1,5 @@
 -- What opening answers, and what it leaves of the folder.
-use Rattle.std.specs.Prelude.{◌≡◌, ◌≢◌, ℕ, ◌≤◌, List, [], length, Option, Some, None, Result, Ok, Err, IfSome, ⊤}
+use Rattle.std.specs.Prelude.{◌≡◌, ◌≢◌, ◌⊎◌, ℕ, ◌≤◌, List, [], length, Option, Some, None, Result, Ok, Err, IfSome, ⊤}
 use Rattle.dv_model.specs.declared.types.Mailbox.{Mailbox}
 use Rattle.dv_model.specs.declared.types.Mark.{Mark}
 use Rattle.dv_model.specs.declared.types.OpenFault.{OpenFault}
@@ -17,19 +17,24 @@ use Rattle.dv_openings.specs.Openings.{Found, Finds, IsFound, end_mark, IsIndex,
 use Rattle.dv_apply.specs.States.{Kept}
 use Rattle.dv_chain.specs.declared.chain.Chain.{Chain}
 use Rattle.dv_chain.specs.declared.file.File.{File}
+use Rattle.dv_chain.specs.declared.index.Index.{Index}
 use Rattle.dv_chain.specs.declared.opening.Files.{Files}
-use Rattle.dv_chain.specs.Files.{HasSpots, IsFileOf, good_file, snapshot_in}
+use Rattle.dv_chain.specs.Files.{HasHeader, HasSpots, IsFileOf, IsWhole, good_file, snapshot_in}
 
--- what is answered is found; where memory ran out or the disk failed nothing is said
+-- what a fault says is found; where memory ran out or the disk failed nothing is said
+abbrev pub FaultFound : OpenFault → (Found → Type 0) → Type 0
+FaultFound fault.NoLog P = P found.NoLog
+FaultFound fault.BadLogHeader P = P found.BadLogHeader
+FaultFound (fault.BadRecord offset) P = P (found.BadRecord offset)
+FaultFound fault.BadIndex P = P found.BadIndex
+FaultFound (fault.Gap index log) P = P (found.Gap index log)
+FaultFound fault.NoMemory P = ⊤
+FaultFound (fault.Disk faults) P = ⊤
+
+-- what is answered is found
 abbrev pub Answers : {A : Type 0} → (A → Found) → Result A OpenFault → (Found → Type 0) → Type 0
 Answers of (Ok x) P = P (of x)
-Answers of (Err fault.NoLog) P = P found.NoLog
-Answers of (Err fault.BadLogHeader) P = P found.BadLogHeader
-Answers of (Err (fault.BadRecord offset)) P = P (found.BadRecord offset)
-Answers of (Err fault.BadIndex) P = P found.BadIndex
-Answers of (Err (fault.Gap index log)) P = P (found.Gap index log)
-Answers of (Err fault.NoMemory) P = ⊤
-Answers of (Err (fault.Disk faults)) P = ⊤
+Answers of (Err e) P = FaultFound e P
 
 -- so is the mailbox at the log's end
 abbrev pub Joins : GoodLog → Result Kept OpenFault → Found → Type 0
@@ -82,15 +87,58 @@ pub record OnlyLooks {S : Type 0} (files : S → Folder) (may_leave : S → Fold
   pub crash : FollowsNone (may_leave old) (may_leave new)
   pub since : LeavesOnly moment left_since old new (may_leave old)
 
--- what was read of the folder's files
-pub record AreFilesOf (folder : Folder) (files : Files) : Type 0 where
+-- memory ran out, or the disk failed
+abbrev pub IsOutside : OpenFault → Type 0
+IsOutside fault.NoMemory = ⊤
+IsOutside (fault.Disk faults) = ⊤
+IsOutside other = ⊥
+
+-- ---- what is read
+
+-- the folder's log, a good one
+pub record IsLogOf (folder : Folder) (log : File) : Type 0 where
   pub spots : List Spot
-  pub log : HasSpots spots files.log
-  pub log_file : folder name.Log ≡ Some files.log.bytes
-  pub rotated_scan : Scanned
-  pub rotated_file : IsScanned (folder name.Log2) rotated_scan
-  pub rotated : IsFileOf files.rotated (joining (good_file files.log spots) rotated_scan)
+  pub has : HasSpots spots log
+  pub file : folder name.Log ≡ Some log.bytes
+
+-- the rotated log in a file, where it goes before the log
+pub record IsRotatedOf (file : Option (List ℕ)) (log : File) (rotated : Option File) : Type 0 where
+  pub scan : Scanned
+  pub scanned : IsScanned file scan
+  pub is : (spots : List Spot) → IsFileOf rotated (joining (good_file log spots) scan)
+
+-- the snapshot in a file, where it is of the log's mailbox
+pub record IsIndexOf (file : Option (List ℕ)) (log : File) (index : Option Index) : Type 0 where
   pub snapshot : Option Snapshot
-  pub index_file : IsIndex (folder name.Index) snapshot
-  pub index : snapshot_in files.index ≡ counted (good_file files.log spots) snapshot
-  pub valid : IfSome files.index (λ index. IsValid index.mailbox)
+  pub there : IsIndex file snapshot
+  pub is : (spots : List Spot) → snapshot_in index ≡ counted (good_file log spots) snapshot
+
+-- all three
+pub record AreFilesOf (folder : Folder) (files : Files) : Type 0 where
+  pub log : IsLogOf folder files.log
+  pub rotated : IsRotatedOf (folder name.Log2) files.log files.rotated
+  pub index : IsIndexOf (folder name.Index) files.log files.index
+
+-- what is read is whole, whatever the folder holds
+pub record AreWhole (files : Files) : Type 0 where
+  pub log : IsWhole files.log
+  pub rotated : IfSome files.rotated HasHeader
+  pub index : IfSome files.index (λ index. IsValid index.mailbox)
+
+-- the log with the mailbox that is found at its end
+pub record IsEndOf (folder : Folder) (log : File) (m : Mailbox) : Type 0 where
+  pub is : IsLogOf folder log
+  pub found : IsFound folder (Finds m (end_mark (good_file log is.spots)))
+
+-- ---- what is written
+
+-- the folder as it was, or with the log's end mended
+abbrev pub IsMended : Folder → File → Folder → Type 0
+IsMended old log new = (new ≡ old) ⊎ (new ≡ with_file old name.Log (Some (mended log.bytes log.end)))
+
+-- behind Ok the log's end is mended
+abbrev pub LeavesMended : Folder → File → Folder → Result (Unit {0}) OpenFault → Type 0
+LeavesMended old log new (Ok x) = new ≡ with_file old name.Log (Some (mended log.bytes log.end))
+LeavesMended old log new (Err fault.NoMemory) = new ≡ old
+LeavesMended old log new (Err (fault.Disk faults)) = IsMended old log new
+LeavesMended old log new (Err other) = ⊥
