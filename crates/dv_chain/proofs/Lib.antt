@@ -4,3 +4,4 @@ pub mod Files
 pub mod Joins
 pub mod Shelves
 pub mod Mended
+pub mod Found

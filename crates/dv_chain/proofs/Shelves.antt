@@ -11,7 +11,8 @@ use Rattle.dv_shelf.specs.Crashes.{Elapses, Follows, FollowsNone, LeavesOnly, On
 use Rattle.dv_shelf.specs.Folders.{ChangesOnly, Folder, IsEither, counted, with_file}
 use Rattle.dv_shelf.proofs.FolderLemmas.{with_else}
 use Rattle.dv_shelf.proofs.Moments.{goes_on, joined, started, weaker}
-use Rattle.dv_chain.specs.Openings.{HasCause, OnDisk, OnlyLooks}
+use Rattle.dv_chain.specs.Openings.{HasCause, OnlyLooks}
+use Rattle.dv_chain.specs.Walks.{NoDisk, OnDisk}
 
 -- folders with the same files
 pub same_folders : (c old : Folder) → c name.Log ≡ old name.Log → ((n : Name) → n ≢ name.Log → c n ≡ old n) → c ≡ old
@@ -55,6 +56,20 @@ cause_then {A = A} before mid now first result one two = record { later = omega 
     by_result (Err fault.BadIndex) rose = tt
     by_result (Err (fault.Gap index log)) rose = tt
     by_result (Ok x) rose = tt
+
+-- behind calls of the disk comes what calls none
+pub cause_still : {A B : Type 0} (before now : ℕ) (first : Result B OpenFault) (result : Result A OpenFault) → HasCause before now first → NoDisk result → HasCause before now result
+cause_still {A = A} before now first result cause none = record { later = cause.later; rose = by_result result none }
+  where
+    by_result : (r : Result A OpenFault) → NoDisk r → OnDisk r (λ faults. (faults ≡ now) × Rose before now)
+    by_result (Err (fault.Disk faults)) none = absurd none
+    by_result (Err fault.NoMemory) none = tt
+    by_result (Err fault.NoLog) none = tt
+    by_result (Err fault.BadLogHeader) none = tt
+    by_result (Err (fault.BadRecord offset)) none = tt
+    by_result (Err fault.BadIndex) none = tt
+    by_result (Err (fault.Gap index log)) none = tt
+    by_result (Ok x) none = tt
 
 module _ {S : Type 0} (files : S → Folder) (may_leave : S → Folder → Type 0) (moment : S → ℕ) (left_since : S → ℕ → Folder → Type 0) where
   abbrev Looks : S → S → Type 0

@@ -19,6 +19,7 @@ use Rattle.dv_chain.specs.declared.chain.Chain.{Chain}
 use Rattle.dv_chain.specs.declared.file.File.{File}
 use Rattle.dv_chain.specs.declared.index.Index.{Index}
 use Rattle.dv_chain.specs.declared.opening.Files.{Files}
+use Rattle.dv_chain.specs.Walks.{OnDisk}
 use Rattle.dv_chain.specs.Files.{HasHeader, HasSpots, IsFileOf, IsWhole, good_file, snapshot_in}
 
 -- what a fault says is found; where memory ran out or the disk failed nothing is said
@@ -68,11 +69,6 @@ LeavesFolder old new (Ok chain) =
     new ≡ with_file old name.Log (Some (mended (contents old name.Log) chain.log.end))
 LeavesFolder old new (Err (fault.Disk faults)) = IsQuiet old new
 LeavesFolder old new (Err other) = new ≡ old
-
--- the disk failed only with this
-abbrev pub OnDisk : {A : Type 0} → Result A OpenFault → (ℕ → Type 0) → Type 0
-OnDisk (Err (fault.Disk faults)) P = P faults
-OnDisk r P = ⊤
 
 -- a fault of the disk comes only where a count rose, and tells the count; the count never falls
 pub record HasCause {A : Type 0} (before now : ℕ) (result : Result A OpenFault) : Type 0 where

@@ -12,6 +12,15 @@ use Rattle.dv_logfile.specs.Scans.{Spot, AreSpots, IsFaulty}
 use Rattle.dv_openings.specs.Openings.{Applied, Gives, Refused}
 use Rattle.dv_apply.specs.States.{Kept}
 
+-- the disk failed only with this
+abbrev pub OnDisk : {A : Type 0} → Result A OpenFault → (ℕ → Type 0) → Type 0
+OnDisk (Err (fault.Disk faults)) P = P faults
+OnDisk r P = ⊤
+
+-- no disk fails where none is called
+abbrev pub NoDisk : {A : Type 0} → Result A OpenFault → Type 0
+NoDisk result = OnDisk result (λ faults. ⊥)
+
 -- for want of memory, or at a place of which this holds
 abbrev pub EndsAt : OpenFault → (ℕ → Type 0) → Type 0
 EndsAt fault.NoMemory P = ⊤

@@ -5,7 +5,7 @@ ghost use Rattle.dv_model.specs.Mailboxes.{last_modseq};
 ghost use Rattle.dv_logfile.specs.Scans.{Spot};
 ghost use Rattle.dv_openings.specs.Openings.{applied_from, file_applied, file_number, records_from};
 ghost use Rattle.dv_chain.specs.Files.{HasHeader, HasSpots, IsInside, ReadsFile, good_file};
-ghost use Rattle.dv_chain.specs.Walks.{Applies, Counts};
+ghost use Rattle.dv_chain.specs.Walks.{Applies, Counts, NoDisk};
 
 use crate::walking::{apply_from, count_between, measure};
 use dv_apply::Live;
@@ -28,7 +28,8 @@ pub struct File {
 impl File {
     /// The file of these bytes. `BadLogHeader` and `BadRecord` say what is wrong with it.
     pub fn read(alloc: Global, bytes: Bytes) -> Result<File, OpenFault>
-        ensures { ReadsFile bytes result }
+        ensures read { ReadsFile bytes result }
+        ensures disk { NoDisk result }
     {
         let header = match read_header(bytes.as_slice()) {
             Some(header) => header,
@@ -67,6 +68,7 @@ impl File {
         ensures inside { IfOk result (λ n. IfSome n (λ _. IsInside self.now place)) }
         ensures counted { (spots : List Spot) → HasSpots spots self.now →
             Counts result spots (records_from (good_file self.now spots) place) }
+        ensures disk { NoDisk result }
     {
         let from = usize::from(self.header.hdr_size);
         count_between(alloc, self.bytes.as_slice(), from, place as usize)
@@ -75,8 +77,9 @@ impl File {
     /// The mailbox with all of its records.
     pub fn apply_all(&self, alloc: Global, live: Live) -> Result<Live, OpenFault>
         requires { HasHeader self.now }
-        ensures { (spots : List Spot) → HasSpots spots self.now →
+        ensures applied { (spots : List Spot) → HasSpots spots self.now →
             Applies result (file_applied (good_file self.now spots) live.mailbox) }
+        ensures disk { NoDisk result }
     {
         let mut live = live;
         live.raise(self.number());
@@ -88,9 +91,10 @@ impl File {
     pub fn apply_from(&self, alloc: Global, place: u32, live: Live) -> Result<Live, OpenFault>
         requires header { HasHeader self.now }
         requires inside { IsInside self.now place }
-        ensures { (spots left : List Spot) → HasSpots spots self.now →
+        ensures applied { (spots left : List Spot) → HasSpots spots self.now →
             records_from (good_file self.now spots) place ≡ Some left →
             Applies result (applied_from (good_file self.now spots) place left live.mailbox) }
+        ensures disk { NoDisk result }
     {
         if place == u32::from(self.header.hdr_size) {
             return self.apply_all(alloc, live);

@@ -6,7 +6,7 @@ ghost use Rattle.dv_logfile.specs.Scans.{GoodLog, Spot};
 ghost use Rattle.dv_openings.specs.Openings.{applied_from, from_either, from_index, from_nothing, in_log, in_rotated, joins, number_before, records_from, then_file, with_numbers};
 ghost use Rattle.dv_chain.specs.Files.{HasHeader, HasSpots, IsFileOf, IsInside, good_file, snapshot_in, snapshot_of};
 ghost use Rattle.dv_chain.specs.Openings.{Joins};
-ghost use Rattle.dv_chain.specs.Walks.{Applies};
+ghost use Rattle.dv_chain.specs.Walks.{Applies, NoDisk};
 
 use crate::file::File;
 use crate::index::Index;
@@ -60,11 +60,12 @@ fn resume(alloc: Global, file: &File, index: Index, before: u32) -> Result<Live,
     requires header { HasHeader file.now }
     requires inside { IsInside file.now index.mark.offset }
     requires valid { IsValid index.mailbox }
-    ensures { (spots left : List Spot) → HasSpots spots file.now →
+    ensures given { (spots left : List Spot) → HasSpots spots file.now →
         records_from (good_file file.now spots) index.mark.offset ≡ Some left →
         before + length left ≡ length spots →
         Applies result (applied_from (good_file file.now spots) index.mark.offset left
         (with_numbers (snapshot_of index) (number_before (good_file file.now spots) left))) }
+    ensures disk { NoDisk result }
 {
     let place = index.mark.offset;
     let live = index.start(alloc, file.number_behind(before))?;
@@ -83,13 +84,14 @@ fn from_rotated(
     requires header { HasHeader first.now }
     requires inside { IsInside first.now index.mark.offset }
     requires valid { IsValid index.mailbox }
-    ensures { (spots others left : List Spot) → HasSpots spots log.now →
+    ensures given { (spots others left : List Spot) → HasSpots spots log.now →
         HasSpots others first.now →
         records_from (good_file first.now others) index.mark.offset ≡ Some left →
         before + length left ≡ length others →
         Applies result (then_file (good_file log.now spots)
         (applied_from (good_file first.now others) index.mark.offset left
         (with_numbers (snapshot_of index) (number_before (good_file first.now others) left)))) }
+    ensures disk { NoDisk result }
 {
     let live = resume(alloc, first, index, before)?;
     log.apply_all(alloc, live)
@@ -99,11 +101,12 @@ fn from_rotated(
 fn from_end(alloc: Global, log: &File, index: Index) -> Result<Live, OpenFault>
     requires log { HasHeader log.now }
     requires valid { IsValid index.mailbox }
-    ensures { (spots : List Spot) (before : Option GoodLog) → HasSpots spots log.now →
+    ensures given { (spots : List Spot) (before : Option GoodLog) → HasSpots spots log.now →
         in_log (good_file log.now spots) (snapshot_of index) ≡ None →
         in_rotated (good_file log.now spots) before (snapshot_of index) ≡ None →
         Joins (good_file log.now spots) result
         (from_index (good_file log.now spots) before (snapshot_of index)) }
+    ensures disk { NoDisk result }
 {
     let mark = index.mark;
     if !is_before(log, mark) {
@@ -126,11 +129,12 @@ fn from_earlier(
     requires log { HasHeader log.now }
     requires rotated { IfSome rotated.now HasHeader }
     requires valid { IsValid index.mailbox }
-    ensures { (spots : List Spot) (before : Option GoodLog) → HasSpots spots log.now →
+    ensures given { (spots : List Spot) (before : Option GoodLog) → HasSpots spots log.now →
         IsFileOf rotated.now before →
         in_log (good_file log.now spots) (snapshot_of index) ≡ None →
         Joins (good_file log.now spots) result
         (from_index (good_file log.now spots) before (snapshot_of index)) }
+    ensures disk { NoDisk result }
 {
     let mark = index.mark;
     match rotated {
@@ -157,9 +161,10 @@ fn from_index(
     requires log { HasHeader log.now }
     requires rotated { IfSome rotated.now HasHeader }
     requires valid { IsValid index.mailbox }
-    ensures { (spots : List Spot) (before : Option GoodLog) → HasSpots spots log.now →
+    ensures given { (spots : List Spot) (before : Option GoodLog) → HasSpots spots log.now →
         IsFileOf rotated.now before → Joins (good_file log.now spots) result
         (from_index (good_file log.now spots) before (snapshot_of index)) }
+    ensures disk { NoDisk result }
 {
     let mark = index.mark;
     if mark.file_seq != log.header.file_seq {
@@ -175,9 +180,10 @@ fn from_index(
 fn from_nothing(alloc: Global, log: &File, rotated: &Option<File>) -> Result<Live, OpenFault>
     requires log { HasHeader log.now }
     requires rotated { IfSome rotated.now HasHeader }
-    ensures { (spots : List Spot) (before : Option GoodLog) → HasSpots spots log.now →
+    ensures given { (spots : List Spot) (before : Option GoodLog) → HasSpots spots log.now →
         IsFileOf rotated.now before → Joins (good_file log.now spots) result
         (from_nothing (good_file log.now spots) before) }
+    ensures disk { NoDisk result }
 {
     let live = Live::empty(alloc, log.header.indexid);
     if log.header.file_seq == 1 {
@@ -206,9 +212,10 @@ pub fn join(
     requires log { HasHeader log.now }
     requires rotated { IfSome rotated.now HasHeader }
     requires valid { IfSome index (λ i. IsValid i.mailbox) }
-    ensures { (spots : List Spot) (before : Option GoodLog) → HasSpots spots log.now →
+    ensures given { (spots : List Spot) (before : Option GoodLog) → HasSpots spots log.now →
         IsFileOf rotated.now before → Joins (good_file log.now spots) result
         (from_either (good_file log.now spots) before (snapshot_in index)) }
+    ensures disk { NoDisk result }
 {
     match index {
         Some(index) => from_index(alloc, log, rotated, index),

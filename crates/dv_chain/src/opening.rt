@@ -48,16 +48,20 @@ fn read_log<S: Shelf>(alloc: Global, shelf: &mut S) -> Result<File, OpenFault>
 fn rotated_of(alloc: Global, bytes: Bytes, log: &File) -> Result<Option<File>, OpenFault>
     ensures ok { IfOk result (IsRotatedOf (Some bytes) log.now) }
     ensures whole { IfOk result (λ rotated. IfSome rotated HasHeader) }
-    ensures err { IfErr result IsOutside }
+    ensures err { IfErr result (λ e. e ≡ fault.NoMemory) }
 {
     match File::read(alloc, bytes) {
-        Ok(file) => if joins(log, &file) {
-            Ok(Some(file))
-        } else {
-            Ok(None)
+        Ok(file) => {
+            if joins(log, &file) {
+                Ok(Some(file))
+            } else {
+                Ok(None)
+            }
+        }
+        Err(e) => match e {
+            OpenFault::NoMemory => Err(e),
+            _ => Ok(None),
         },
-        Err(OpenFault::NoMemory) => Err(OpenFault::NoMemory),
-        Err(_) => Ok(None),
     }
 }
 
@@ -85,7 +89,7 @@ fn read_rotated<S: Shelf>(
 fn counted_of(alloc: Global, bytes: &[u8], log: &File) -> Result<Option<Index>, OpenFault>
     ensures ok { IfOk result (IsIndexOf (Some bytes.now) log.now) }
     ensures valid { IfOk result (λ index. IfSome index (λ i. IsValid i.mailbox)) }
-    ensures err { IfErr result IsOutside }
+    ensures err { IfErr result (λ e. e ≡ fault.NoMemory) }
 {
     match read_index(alloc, bytes)? {
         Some(index) => {

@@ -7,7 +7,7 @@ ghost use Rattle.dv_records.specs.Faults.{IsRecordAt};
 ghost use Rattle.dv_logfile.specs.Layout.{last_end};
 ghost use Rattle.dv_logfile.specs.Scans.{IsFaulty, Spot};
 ghost use Rattle.dv_openings.specs.Openings.{spots_applied, spots_from};
-ghost use Rattle.dv_chain.specs.Walks.{Applies, Counts, IsLeft, Measures, OnBadRecord, Skips};
+ghost use Rattle.dv_chain.specs.Walks.{Applies, Counts, IsLeft, Measures, NoDisk, OnBadRecord, Skips};
 
 use dv_apply::{ApplyFault, Live};
 use dv_logfile::{ScanEnd, next_record};
@@ -23,6 +23,7 @@ fn record_at(alloc: Global, b: &[u8], at: usize) -> Result<Option<(Record, usize
     ensures valid { IfOk result (λ next. IfSome next (λ x. IsRecord x.0)) }
     ensures closed { IfOk result (λ next. IsNone next → is_closed (drop at b.now) ≡ true) }
     ensures fault { OnBadRecord result (λ offset. (offset ≡ at) × IsFaulty at (drop at b.now)) }
+    ensures disk { NoDisk result }
 {
     match next_record(alloc, b, at) {
         Ok(next) => Ok(next),
@@ -39,6 +40,7 @@ fn skip(alloc: Global, b: &[u8], at: usize) -> Result<Option<usize>, OpenFault>
     ensures skipped { IfOk result (λ next. IfSome next (λ behind. Skips b.now at behind)) }
     ensures closed { IfOk result (λ next. IsNone next → is_closed (drop at b.now) ≡ true) }
     ensures fault { OnBadRecord result (λ offset. (offset ≡ at) × IsFaulty at (drop at b.now)) }
+    ensures disk { NoDisk result }
 {
     match record_at(alloc, b, at)? {
         Some((record, behind)) => {
@@ -53,7 +55,8 @@ fn skip(alloc: Global, b: &[u8], at: usize) -> Result<Option<usize>, OpenFault>
 pub fn measure(alloc: Global, b: &[u8], from: usize) -> Result<(u32, u32), OpenFault>
     requires inside { from ≤ length b.now }
     requires fits { from ≤ last_end }
-    ensures { Measures from b.now result }
+    ensures measured { Measures from b.now result }
+    ensures disk { NoDisk result }
 {
     let mut at = from;
     let mut count = 0;
@@ -72,6 +75,7 @@ fn apply_one(live: &mut Live, r: &Record, at: u32) -> Result<(), OpenFault>
         (after_record live.old.mailbox r.now ≡ Some live.new.mailbox) }
     ensures refused { OnBadRecord result
         (λ offset. (offset ≡ at) × (after_record live.old.mailbox r.now ≡ None)) }
+    ensures disk { NoDisk result }
 {
     match live.apply(r) {
         Ok(()) => Ok(()),
@@ -84,8 +88,9 @@ fn apply_one(live: &mut Live, r: &Record, at: u32) -> Result<(), OpenFault>
 pub fn apply_from(alloc: Global, b: &[u8], from: usize, live: Live) -> Result<Live, OpenFault>
     requires inside { from ≤ length b.now }
     requires fits { from ≤ last_end }
-    ensures { (spots : List Spot) (end : ℕ) → IsLeft b.now from spots end →
+    ensures applied { (spots : List Spot) (end : ℕ) → IsLeft b.now from spots end →
         Applies result (spots_applied live.mailbox spots) }
+    ensures disk { NoDisk result }
 {
     let mut live = live;
     let mut at = from;
@@ -111,6 +116,7 @@ pub fn count_between(
         (place ≤ length b.now) × (place ≤ last_end))) }
     ensures counted { (spots : List Spot) (end : ℕ) → IsLeft b.now from spots end →
         Counts result spots (spots_from end place spots) }
+    ensures disk { NoDisk result }
 {
     let mut at = from;
     let mut count = 0;

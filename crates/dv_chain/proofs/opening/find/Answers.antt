@@ -1,0 +1,1 @@
+use Rattle.dv_chain.proofs.opening.find.Goals as goal

@@ -1,0 +1,1 @@
+use Rattle.dv_chain.proofs.opening.open.Goals as goal
