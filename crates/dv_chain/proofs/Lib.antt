@@ -5,3 +5,4 @@ pub mod Joins
 pub mod Shelves
 pub mod Mended
 pub mod Found
+pub mod Opened
