@@ -2,6 +2,6 @@ mod Appending
 mod Changing
 mod Becoming
 mod Extending
-mod Keeping
+pub mod Keeping
 mod Naming
-mod Refusing
+pub mod Refusing

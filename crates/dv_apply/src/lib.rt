@@ -13,6 +13,7 @@ mod keywords;
 mod law;
 mod live;
 mod parts;
+mod raising;
 mod sends;
 mod state;
 

@@ -1,6 +1,6 @@
 ghost use Rattle.std.specs.Prelude.{◌≡◌, ◌<◌, ◌≤◌, Err, IfOk, Ok, OnErr, OnOk, Some, length, max, nat_eq, position, slice_get};
 ghost use Rattle.dv_model.specs.Effects.{after_record};
-ghost use Rattle.dv_model.specs.Mailboxes.{IsValid, empty_mailbox};
+ghost use Rattle.dv_model.specs.Mailboxes.{IsValid, empty_mailbox, last_modseq};
 ghost use Rattle.dv_model.specs.Spelling.{IsRecord};
 ghost use Rattle.dv_rows.specs.Kept.{flag_count};
 ghost use Rattle.dv_apply.specs.Answers.{OnBadAppend};
@@ -10,6 +10,7 @@ ghost use Rattle.dv_apply.specs.declared.fault.ApplyFault.TheVariants as fault;
 use crate::appends;
 use crate::bodies::{apply_body, is_request, pass};
 use crate::fault::ApplyFault;
+use crate::raising::raise;
 use crate::state::{State, empty_state, mailbox, state_of};
 use dv_ext::Extensions;
 use dv_keywords::Table;
@@ -111,6 +112,16 @@ impl Live {
         ensures succeeds { n ≤ self.old.spare → result ≡ Ok tt }
     {
         appends::reserve(&mut self.state, n)
+    }
+
+    /// Raises the highest modification sequence to a number, where it is lower.
+    pub fn raise(&mut self, n: u64)
+        requires { n ≤ last_modseq }
+        ensures mailbox { self.new.mailbox
+            ≡ record self.old.mailbox { highest = max self.old.mailbox.highest n } }
+        ensures spare { self.new.spare ≡ self.old.spare }
+    {
+        raise(&mut self.state, n);
     }
 
     /// The number of rows.

@@ -84,8 +84,8 @@ header_read h rest forty wide =
     (if_true _ h.compat_flags _ 0 (le-leb 33 _ (omega (arith, is))) refl)
 
 -- a header stays where its bytes do
-pub header_kept : (h : LogHeader) (b c : List ℕ) (e : ℕ) → IsHeader h b → h.hdr_size ≤ e → take e c ≡ take e b → length b ≤ length c → length c ≤ longest_log → IsHeader h c
-header_kept h b c e header le same longer fits =
+pub header_front : (h : LogHeader) (b c : List ℕ) (e : ℕ) → IsHeader h b → h.hdr_size ≤ e → take e c ≡ take e b → h.hdr_size ≤ length c → length c ≤ longest_log → IsHeader h c
+header_front h b c e header le same inside fits =
     let at = λ (p n : ℕ) (in' : p + n ≤ e). bytes_less p n e b c in' (sym same) in
     let byte = λ (p : ℕ) (in' : p < e). sym (get_or-take e b p 0 in') ∙ ap (λ (l : List ℕ). slice_index l p) (sym same) ∙ get_or-take e c p 0 in' in
     let long : 24 ≤ e = omega (arith, header.size.0) in
@@ -100,12 +100,15 @@ header_kept h b c e header le same longer fits =
           (λ in'. ap (λ (l : List ℕ). from_le_bytes w64 l) (at 24 8 (omega (arith, leb-true 32 (header_size c) in', size, size-is)))))
           (ap (λ (n : ℕ). if nat_le 33 n then slice_index b 32 else 0) size
           ∙ if_same (nat_le 33 (header_size c)) (slice_index b 32) (slice_index c 32) 0 (λ in'. byte 32 (omega (arith, leb-true 33 (header_size c) in', size, size-is))));
-      size = (header.size.0, omega (arith, header.size.1));
+      size = (header.size.0, inside);
       fits = fits;
       version = header.version;
       numbers = header.numbers;
       little_endian = header.little_endian;
     }
+
+pub header_kept : (h : LogHeader) (b c : List ℕ) (e : ℕ) → IsHeader h b → h.hdr_size ≤ e → take e c ≡ take e b → length b ≤ length c → length c ≤ longest_log → IsHeader h c
+header_kept h b c e header le same longer fits = header_front h b c e header le same (omega (arith, header.size.1)) fits
 
 -- ---- spellings at the front of other bytes
 

@@ -13,23 +13,23 @@ false_is_not_true : {A : Type 0} → false ≡ true → A
 false_is_not_true e = absurd cc
 
 -- no record that ends in time begins these bytes
-abbrev Stops : ℕ → List ℕ → Type 0
+abbrev pub Stops : ℕ → List ℕ → Type 0
 Stops end rest = (r : Record) (text behind : List ℕ) → rest ≡ text ++ behind → Spells r text → last_end < end + length text
 
-closed_stops : (end : ℕ) (rest : List ℕ) → is_closed rest ≡ true → Stops end rest
+pub closed_stops : (end : ℕ) (rest : List ℕ) → is_closed rest ≡ true → Stops end rest
 closed_stops end rest closed r text behind is spells = false_is_not_true (sym (not_closed r text behind spells) ∙ ap is_closed (sym is) ∙ closed)
 
 -- the records of a file, its end and what stands behind are one
-abbrev IsSame : List Spot → ℕ → List ℕ → List Spot → ℕ → List ℕ → Type 0
+abbrev pub IsSame : List Spot → ℕ → List ℕ → List Spot → ℕ → List ℕ → Type 0
 IsSame spots end rest spots' end' rest' = (spots ≡ spots') × (end ≡ end') × (rest ≡ rest')
 
 -- one record begins the bytes, and the rest is one
-readings_one : (r s : Record) (text text' behind behind' b : List ℕ) → Spells r text → Spells s text' → b ≡ text ++ behind → b ≡ text' ++ behind' → ((text ≡ text') × (r ≡ s)) × (behind ≡ behind')
+pub readings_one : (r s : Record) (text text' behind behind' b : List ℕ) → Spells r text → Spells s text' → b ≡ text ++ behind → b ≡ text' ++ behind' → ((text ≡ text') × (r ≡ s)) × (behind ≡ behind')
 readings_one r s text text' behind behind' b p q one other =
     let same = one_reading r s text text' behind behind' p q (sym one ∙ other) in
     (same, append_cancel_left text behind behind' (sym one ∙ other ∙ ap (λ t. t ++ behind') (sym same.0)))
 
-spots_one : (from : ℕ) (spots spots' : List Spot) (b : List ℕ) (end end' : ℕ) (rest rest' : List ℕ)
+pub spots_one : (from : ℕ) (spots spots' : List Spot) (b : List ℕ) (end end' : ℕ) (rest rest' : List ℕ)
     → AreSpots from spots b end rest → AreSpots from spots' b end' rest' → Stops end rest → Stops end' rest' → IsSame spots end rest spots' end' rest'
 spots_one from [] [] b end end' rest rest' one other stops stops' = (refl, one.0 ∙ sym other.0, one.1 ∙ sym other.1)
 spots_one from [] (spot ∷ spots) b end end' rest rest' one other stops stops' =

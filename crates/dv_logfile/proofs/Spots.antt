@@ -42,7 +42,7 @@ too_far at n b r there far = record {
 
 -- ---- one record more
 
-spots_end : (from : ℕ) (spots : List Spot) (b : List ℕ) (at : ℕ) (text behind rest : List ℕ) (r : Record) → AreSpots from spots b at rest → rest ≡ text ++ behind → Spells r text → at + length text ≤ last_end
+pub spots_end : (from : ℕ) (spots : List Spot) (b : List ℕ) (at : ℕ) (text behind rest : List ℕ) (r : Record) → AreSpots from spots b at rest → rest ≡ text ++ behind → Spells r text → at + length text ≤ last_end
     → AreSpots from (spots ++ record { place = at; is = r } ∷ []) b (at + length text) behind
 spots_end from [] b at text behind rest r are is spells fits =
     let place : at ≡ from = are.0 in

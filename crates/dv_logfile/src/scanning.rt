@@ -58,8 +58,11 @@ pub fn scan(alloc: Global, b: &[u8]) -> Result<Scan, ScanEnd>
     })
 }
 
-/// The record that begins at a place, and the place behind it; None where the place is closed.
-fn next_record(alloc: Global, b: &[u8], at: usize) -> Result<Option<(Record, usize)>, ScanEnd>
+/// The record that begins at a place of a log file's bytes, and the place behind it; None where the
+/// place is closed.
+///
+/// `BadRecord` comes exactly where the record there has a fault or ends past 1,073,741,820.
+pub fn next_record(alloc: Global, b: &[u8], at: usize) -> Result<Option<(Record, usize)>, ScanEnd>
     requires inside { at ≤ length b.now }
     requires fits { at ≤ last_end }
     ensures record_at { IfOk result (λ next. IfSome next (λ x.

@@ -1,0 +1,51 @@
+-- What opening leaves.
+use Rattle.std.proofs.Common.{◌≡◌, ◌⊎◌, inl, ℕ, Some, refl, sym, ◌∙◌, ap, subst, Option, List, Result, Ok, Err}
+use Rattle.dv_model.specs.declared.types.Mailbox.{Mailbox}
+use Rattle.dv_model.specs.declared.types.OpenFault.{OpenFault}
+use Rattle.dv_model.specs.declared.types.OpenFault.TheVariants as fault
+use Rattle.dv_shelf.specs.declared.shelf.Name.TheVariants as name
+use Rattle.dv_shelf.specs.Crashes.{LeavesOnly, Only}
+use Rattle.dv_shelf.specs.Folders.{Folder}
+use Rattle.dv_shelf.proofs.Moments.{weaker}
+use Rattle.dv_logfile.specs.declared.commit.Debt.TheVariants as debt
+use Rattle.dv_logfile.specs.Scans.{Good, IsScanned}
+use Rattle.dv_chain.specs.declared.chain.Chain.{Chain}
+use Rattle.dv_chain.specs.declared.file.File.{File}
+use Rattle.dv_chain.specs.Files.{good_file}
+use Rattle.dv_chain.specs.Openings.{IsChainOf, IsLogOf, IsMended, IsQuiet, LeavesFolder, LeavesMended, OnlyLooks}
+use Rattle.dv_chain.proofs.Mended.{quiet}
+use Rattle.dv_chain.proofs.Shelves.{looked_then}
+
+pub chain_of : (folder : Folder) (log : File) (is : IsLogOf folder log) (chain : Chain) → chain.log.file_seq ≡ log.header.file_seq → chain.log.end ≡ log.end → chain.log.count ≡ log.count → chain.log.debt ≡ debt.None
+    → chain.indexid ≡ log.header.indexid → chain.records ≡ log.header.initial_modseq → IsChainOf folder chain
+chain_of folder log is chain seq end count debt indexid records = record {
+  file = good_file log is.spots;
+  scanned = subst (λ (x : Option (List ℕ)). IsScanned x (Good (good_file log is.spots))) (sym is.file) is.has.good;
+  seq = seq;
+  end = end;
+  count = count ∙ is.has.count;
+  debt = debt;
+  indexid = indexid;
+  records = records;
+}
+
+pub fault_leaves : (old new : Folder) (log : File) (is : IsLogOf old log) (e : OpenFault) → LeavesMended old log new (Err e) → LeavesFolder old new (Err e)
+fault_leaves old new log is fault.NoMemory leaves = leaves
+fault_leaves old new log is (fault.Disk n) leaves = quiet old new log is leaves
+fault_leaves old new log is fault.NoLog leaves = absurd leaves
+fault_leaves old new log is fault.BadLogHeader leaves = absurd leaves
+fault_leaves old new log is (fault.BadRecord offset) leaves = absurd leaves
+fault_leaves old new log is fault.BadIndex leaves = absurd leaves
+fault_leaves old new log is (fault.Gap index mark) leaves = absurd leaves
+
+module _ {S : Type 0} (files : S → Folder) (may_leave : S → Folder → Type 0) (moment : S → ℕ) (left_since : S → ℕ → Folder → Type 0) where
+  pub opened_quiet : (old mid new : S) (log : File) (is : IsLogOf (files old) log) → Only (files old) (may_leave old) → OnlyLooks files may_leave moment left_since old mid
+      → LeavesOnly moment left_since mid new (IsMended (files mid) log) → LeavesOnly moment left_since old new (IsQuiet (files old))
+  opened_quiet old mid new log is only looks since =
+      looked_then files may_leave moment left_since old mid new (IsQuiet (files old)) only (quiet (files old) (files old) log is (inl refl)) looks
+      (weaker moment left_since mid new (IsMended (files mid) log) (IsQuiet (files old)) since
+      (λ c mend. quiet (files old) c log is (subst (λ (d : Folder). IsMended d log c) looks.same mend)))
+
+  -- the log is there behind the looks
+  pub still_there : (old mid : S) (log : File) → IsLogOf (files old) log → OnlyLooks files may_leave moment left_since old mid → files mid name.Log ≡ Some log.bytes
+  still_there old mid log is looks = ap (λ (d : Folder). d name.Log) looks.same ∙ is.file

@@ -1,0 +1,1 @@
+use Rattle.dv_chain.proofs.file.File.read.Goals as goal

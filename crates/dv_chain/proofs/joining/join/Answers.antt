@@ -1,0 +1,1 @@
+use Rattle.dv_chain.proofs.joining.join.Goals as goal

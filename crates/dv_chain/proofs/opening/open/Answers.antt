@@ -1,0 +1,42 @@
+use Rattle.std.proofs.Common.{Err, refl, subst}
+use Rattle.std.proofs.lemmas.Result.{err_from_is_err_and}
+use Rattle.dv_shelf.specs.Folders.{Folder}
+use Rattle.dv_chain.specs.Openings.{LeavesMended}
+use Rattle.dv_chain.proofs.Opened.{chain_of, fault_leaves, opened_quiet, still_there}
+use Rattle.dv_chain.proofs.Shelves.{settled_still}
+use Rattle.dv_chain.proofs.opening.open.Goals as goal
+
+pub returns-in_err-mend-clause-files : goal.returns-in_err-mend-clause-files
+returns-in_err-mend-clause-files g c = λ tells.
+    let S = g.S.Shelf in
+    let p = err_from_is_err_and c.from_residual-in_err-mend.result c.from_residual-in_err-mend.ensures.1 in
+    let end = c.in_ok-log.ensures.ok tells in
+    let looks = c.find.ensures.looks tells in
+    let there = still_there S.files S.may_leave S.moment S.left_since c.args.shelf.now c.find.new.shelf c.in_ok-log.log end.is looks in
+    let new = S.files c.mend.new.shelf in
+    rw (p.1, p.2)
+    (fault_leaves (S.files c.args.shelf.now) new c.in_ok-log.log end.is c.in_err-mend.field-0.0
+    (subst (λ (d : Folder). LeavesMended d c.in_ok-log.log new (Err c.in_err-mend.field-0.0)) looks.same (c.in_err-mend.ensures.files tells there)))
+
+pub returns-in_err-mend-clause-quiet : goal.returns-in_err-mend-clause-quiet
+returns-in_err-mend-clause-quiet g c = λ tells settled.
+    let S = g.S.Shelf in
+    let end = c.in_ok-log.ensures.ok tells in
+    let looks = c.find.ensures.looks tells in
+    let there = still_there S.files S.may_leave S.moment S.left_since c.args.shelf.now c.find.new.shelf c.in_ok-log.log end.is looks in
+    let still = settled_still S.files S.may_leave S.moment S.left_since c.args.shelf.now c.find.new.shelf settled looks in
+    opened_quiet S.files S.may_leave S.moment S.left_since c.args.shelf.now c.find.new.shelf c.mend.new.shelf c.in_ok-log.log end.is settled looks (c.mend.ensures.since tells there still)
+
+pub returns-clause-chain : goal.returns-clause-chain
+returns-clause-chain g c = λ tells.
+    let end = c.in_ok-log.ensures.ok tells in
+    chain_of (g.S.Shelf.files c.args.shelf.now) c.in_ok-log.log end.is _ refl refl refl refl refl refl
+
+pub returns-clause-quiet : goal.returns-clause-quiet
+returns-clause-quiet g c = λ tells settled.
+    let S = g.S.Shelf in
+    let end = c.in_ok-log.ensures.ok tells in
+    let looks = c.find.ensures.looks tells in
+    let there = still_there S.files S.may_leave S.moment S.left_since c.args.shelf.now c.find.new.shelf c.in_ok-log.log end.is looks in
+    let still = settled_still S.files S.may_leave S.moment S.left_since c.args.shelf.now c.find.new.shelf settled looks in
+    opened_quiet S.files S.may_leave S.moment S.left_since c.args.shelf.now c.find.new.shelf c.mend.new.shelf c.in_ok-log.log end.is settled looks (c.mend.ensures.since tells there still)

@@ -1,0 +1,1 @@
+use Rattle.dv_chain.proofs.opening.read_snapshot.Goals as goal

@@ -1,0 +1,18 @@
+//! A mailbox folder that is opened: its log, its rotated log and its snapshot together give one
+//! mailbox (Dovecot's `mail-transaction-log.h` and `mail-index.h`).
+#![tactic(auto)]
+
+mod chain;
+mod file;
+mod index;
+mod joining;
+mod looking;
+mod mending;
+mod opening;
+mod walking;
+
+pub use chain::Chain;
+pub use opening::open;
+
+#[cfg(test)]
+mod tests;
