@@ -29,8 +29,12 @@ reads_good b h end count taken measured =
       record {
         good = record { taken = taken; rest = drop end b; records = w.are; closed = measured.1 };
         count = w.count_is;
-        inside = w.inside;
-        fits = w.fits;
+        whole = record {
+          header = taken.size.1;
+          inside = w.inside;
+          fits = w.fits;
+          count = omega (arith, w.bound);
+        };
       },
     ) in
     (refl, has)

@@ -10,7 +10,7 @@ use Rattle.dv_logfile.specs.Scans.{GoodLog, Spot}
 use Rattle.dv_openings.specs.Openings.{Applied, BadIndex, Found, Gap, Gives, Refused, Snapshot, applied_from, at_end, before_log, file_applied, file_number, first_mark, from_index, from_nothing, in_log, in_rotated, number_before, records_from, then_file, with_numbers}
 use Rattle.dv_apply.specs.States.{Kept}
 use Rattle.dv_chain.specs.Openings.{Joins}
-use Rattle.dv_chain.specs.Walks.{Applies}
+use Rattle.dv_chain.specs.Walks.{Applies, Counts}
 
 -- ---- the answers
 
@@ -23,6 +23,16 @@ ended log (Err fault.NoLog) applied is = absurd is
 ended log (Err fault.BadLogHeader) applied is = absurd is
 ended log (Err fault.BadIndex) applied is = absurd is
 ended log (Err (fault.Gap index mark)) applied is = absurd is
+
+-- a place isn't found for want of memory alone
+pub uncounted : (log : GoodLog) (e : OpenFault) (spots : List Spot) (there : Option (List Spot)) (found : Found) → Counts (Err e) spots there → Joins log (Err e) found
+uncounted log fault.NoMemory spots there found counts = tt
+uncounted log (fault.BadRecord offset) spots there found counts = absurd counts
+uncounted log (fault.Disk n) spots there found counts = absurd counts
+uncounted log fault.NoLog spots there found counts = absurd counts
+uncounted log fault.BadLogHeader spots there found counts = absurd counts
+uncounted log fault.BadIndex spots there found counts = absurd counts
+uncounted log (fault.Gap index mark) spots there found counts = absurd counts
 
 -- an error behind which no further file is applied
 pub not_then : (log : GoodLog) (e : OpenFault) (applied : Applied) → Applies (Err e) applied → Applies (Err e) (then_file log applied)

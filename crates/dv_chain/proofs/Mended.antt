@@ -47,7 +47,7 @@ module _ (spots : List Spot) (file : File) (has : HasSpots spots file) where
       let hdr = file.header.hdr_size in
       let cut = take file.end b in
       let records = front hdr spots (drop hdr b) file.end has.good.rest has.good.records in
-      let long : length cut ≡ file.end = omega (arith, length-take file.end b, has.inside) in
+      let long : length cut ≡ file.end = omega (arith, length-take file.end b, has.whole.inside) in
       let all : length (cut ++ closing) ≡ file.end + 4 = omega (arith, length-append cut closing, long) in
       let begun : drop hdr cut ≡ records.text =
       ap (λ (k : ℕ). drop hdr (take k b)) (sym records.long) ∙ drop-take hdr (length records.text) b ∙ ap (λ (l : List ℕ). take (length records.text) l) records.is
@@ -56,7 +56,7 @@ module _ (spots : List Spot) (file : File) (has : HasSpots spots file) where
       drop-append-le hdr cut closing (omega (arith, long, records.long)) ∙ ap (λ (l : List ℕ). l ++ closing) begun in
       record {
         taken = header_front file.header b (cut ++ closing) file.end has.good.taken (omega (arith, records.long)) (take-append-le file.end cut closing (omega (arith, long)) ∙ take_all file.end cut (omega (arith, long)))
-            (omega (arith, all, records.long)) (omega (arith, all, has.fits));
+            (omega (arith, all, records.long)) (omega (arith, all, has.whole.fits));
         rest = closing;
         records = subst (λ (l : List ℕ). AreSpots hdr spots l file.end closing) (sym text) (records.again closing);
         closed = refl;
@@ -109,7 +109,7 @@ quiet old c log is mend = ⊎_elim same put mend
     good = by_gate (nat_le (length log.bytes) log.end || nat_eq (slice_index log.bytes log.end) 0x80) refl
       where
         by_gate : (x : Bool) → (nat_le (length log.bytes) log.end || nat_eq (slice_index log.bytes log.end) 0x80) ≡ x → IsGood (good_file log is.spots) (mended log.bytes log.end)
-        by_gate true open_gate = subst (IsGood (good_file log is.spots)) (sym (open_end log is.has.inside open_gate)) (cut_good is.spots log is.has)
+        by_gate true open_gate = subst (IsGood (good_file log is.spots)) (sym (open_end log is.has.whole.inside open_gate)) (cut_good is.spots log is.has)
         by_gate false shut_gate = subst (IsGood (good_file log is.spots)) (sym (shut_end log shut_gate)) is.has.good
 
     same : c ≡ old → IsQuiet old c

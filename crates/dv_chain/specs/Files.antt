@@ -1,5 +1,5 @@
 -- The files of a mailbox folder as they are kept while it is opened.
-use Rattle.std.specs.Prelude.{◌≡◌, ℕ, ◌≤◌, List, length, Option, Some, None, option_map, Result, Ok, Err, ⊤}
+use Rattle.std.specs.Prelude.{◌≡◌, ℕ, ◌*◌, ◌≤◌, List, length, Option, Some, None, option_map, Result, Ok, Err, ⊤}
 use Rattle.dv_model.specs.declared.types.OpenFault.{OpenFault}
 use Rattle.dv_model.specs.declared.types.OpenFault.TheVariants as fault
 use Rattle.dv_logfile.specs.Layout.{last_end}
@@ -12,21 +12,22 @@ use Rattle.dv_chain.specs.declared.index.Index.{Index}
 abbrev pub good_file : File → List Spot → GoodLog
 good_file file spots = record { header = file.header; spots = spots; end = file.end }
 
--- the file is good and has these records
-pub record HasSpots (spots : List Spot) (file : File) : Type 0 where
-  pub good : IsGood (good_file file spots) file.bytes
-  pub count : file.count ≡ length spots
-  pub inside : file.end ≤ length file.bytes
-  pub fits : file.end ≤ last_end
-
 -- the header stands in the file
 abbrev pub HasHeader : File → Type 0
 HasHeader file = file.header.hdr_size ≤ length file.bytes
 
--- and so do its records
+-- and so do the records, each of eight bytes at least
 pub record IsWhole (file : File) : Type 0 where
   pub header : HasHeader file
-  pub end : file.end ≤ length file.bytes
+  pub inside : file.end ≤ length file.bytes
+  pub fits : file.end ≤ last_end
+  pub count : 8 * file.count ≤ file.end
+
+-- the file is good and has these records
+pub record HasSpots (spots : List Spot) (file : File) : Type 0 where
+  pub good : IsGood (good_file file spots) file.bytes
+  pub count : file.count ≡ length spots
+  pub whole : IsWhole file
 
 -- a record may begin or end at this place
 abbrev pub IsInside : File → ℕ → Type 0

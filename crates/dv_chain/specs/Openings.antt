@@ -1,5 +1,5 @@
 -- What opening answers, and what it leaves of the folder.
-use Rattle.std.specs.Prelude.{◌≡◌, ◌≢◌, ◌⊎◌, ℕ, ◌≤◌, List, [], length, Option, Some, None, Result, Ok, Err, IfSome, ⊤}
+use Rattle.std.specs.Prelude.{◌≡◌, ◌≢◌, ◌⊎◌, ℕ, ◌*◌, ◌≤◌, List, [], length, Option, Some, None, Result, Ok, Err, IfSome, ⊤}
 use Rattle.dv_model.specs.declared.types.Mailbox.{Mailbox}
 use Rattle.dv_model.specs.declared.types.Mark.{Mark}
 use Rattle.dv_model.specs.declared.types.OpenFault.{OpenFault}
@@ -11,6 +11,7 @@ use Rattle.dv_shelf.specs.declared.shelf.Name.TheVariants as name
 use Rattle.dv_shelf.specs.Folders.{Folder, with_file, contents}
 use Rattle.dv_shelf.specs.Crashes.{FollowsNone, LeavesOnly}
 use Rattle.dv_logfile.specs.declared.commit.Debt.TheVariants as debt
+use Rattle.dv_logfile.specs.Layout.{last_end}
 use Rattle.dv_logfile.specs.Scans.{Spot, GoodLog, Scanned, Good, IsGood, IsScanned}
 use Rattle.dv_openings.specs.Openings as found
 use Rattle.dv_openings.specs.Openings.{Found, Finds, IsFound, end_mark, IsIndex, Snapshot, mended, joining, counted}
@@ -56,6 +57,11 @@ pub record IsChainOf (folder : Folder) (chain : Chain) : Type 0 where
   pub debt : chain.log.debt ≡ debt.None
   pub indexid : chain.indexid ≡ file.header.indexid
   pub records : chain.records ≡ file.header.initial_modseq
+
+-- four bytes more fit behind its end, and each record has eight at least
+pub record HasBounds (chain : Chain) : Type 0 where
+  pub end : chain.log.end ≤ last_end
+  pub count : 8 * chain.log.count ≤ chain.log.end
 
 -- the other folder opens to the same, and the files but the log are as they were
 pub record IsQuiet (old new : Folder) : Type 0 where

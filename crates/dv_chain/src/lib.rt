@@ -9,6 +9,7 @@ mod joining;
 mod looking;
 mod mending;
 mod opening;
+mod sends;
 mod walking;
 
 pub use chain::Chain;

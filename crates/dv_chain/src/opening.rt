@@ -6,7 +6,7 @@ ghost use Rattle.dv_shelf.specs.Folders.{counted};
 ghost use Rattle.dv_shelf.specs.declared.shelf.Name.TheVariants as name;
 ghost use Rattle.dv_openings.specs.Openings.{IsFound};
 ghost use Rattle.dv_chain.specs.Files.{HasHeader, IsWhole};
-ghost use Rattle.dv_chain.specs.Openings.{Answers, AreFilesOf, AreWhole, FaultFound, HasCause, IsChainOf, IsEndOf, IsIndexOf, IsLogOf, IsOutside, IsQuiet, IsRotatedOf, LeavesFolder, OnlyLooks, found_of};
+ghost use Rattle.dv_chain.specs.Openings.{Answers, AreFilesOf, AreWhole, FaultFound, HasBounds, HasCause, IsChainOf, IsEndOf, IsIndexOf, IsLogOf, IsOutside, IsQuiet, IsRotatedOf, LeavesFolder, OnlyLooks, found_of};
 
 use crate::Chain;
 use crate::file::File;
@@ -169,6 +169,7 @@ pub fn open<S: Shelf>(alloc: Global, shelf: &mut S) -> Result<Chain, OpenFault>
     // What is answered is found, and the chain stands on the log.
     ensures found { S.tells → Answers found_of result (IsFound (S.files shelf.old)) }
     ensures chain { S.tells → IfOk result (IsChainOf (S.files shelf.old)) }
+    ensures bounds { IfOk result HasBounds }
     // What it leaves of the files, and what a crash leaves, at any moment and behind Ok.
     ensures files { S.tells → LeavesFolder (S.files shelf.old) (S.files shelf.new) result }
     ensures quiet { S.tells → IsSettled S.files S.may_leave shelf.old →

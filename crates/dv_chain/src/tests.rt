@@ -36,8 +36,8 @@ const OLD_INDEX: [u8; 128] = [
     0, 0, 0, 0, 0, 0, 0, 0, 1, 0, 0, 0, 0, 0, 0, 0,
 ];
 
-// The first log, with its records behind the header and these bytes behind them.
-fn log_with(alloc: Global, behind: &[u8]) -> Result<Bytes, Fail> {
+// The first log, with these bytes behind its records.
+fn first_log(alloc: Global, behind: &[u8]) -> Result<Bytes, Fail> {
     let mut log = List::from_slice(alloc, &HEADER)?;
     log.extend(&RECORDS)?;
     log.extend(behind)?;
@@ -47,50 +47,62 @@ fn log_with(alloc: Global, behind: &[u8]) -> Result<Bytes, Fail> {
 // These bytes with one changed.
 fn changed(alloc: Global, bytes: &[u8], place: usize, byte: u8) -> Result<Bytes, Fail> {
     let mut made = List::new(alloc);
-    for at in 0..bytes.len() {
-        made.push(if at == place { byte } else { bytes[at] })?;
+    for old in bytes {
+        made.push(if made.len() == place { byte } else { *old })?;
     }
     Ok(made)
 }
 
-fn shelf_of(alloc: Global, files: List<(Name, Bytes)>, fails: &[u32]) -> Result<MemShelf, Fail> {
-    let fails = List::from_slice(alloc, fails)?;
-    Ok(MemShelf::of(alloc, &files, 2000, fails, None)?)
+// A folder with the log, the rotated log and the snapshot.
+fn folder(alloc: Global, log: &[u8], log2: &[u8], index: &[u8]) -> Result<MemShelf, Fail> {
+    let mut files = List::new(alloc);
+    files.push((Name::Log, List::from_slice(alloc, log)?))?;
+    files.push((Name::Log2, List::from_slice(alloc, log2)?))?;
+    files.push((Name::Index, List::from_slice(alloc, index)?))?;
+    Ok(MemShelf::of(alloc, &files, 2000, List::new(alloc), None)?)
 }
 
-// What a folder of this log alone gives.
-fn opened(alloc: Global, log: Bytes) -> Result<Result<Chain, OpenFault>, Fail> {
-    let mut files = List::new(alloc);
-    files.push((Name::Log, log))?;
-    let mut shelf = shelf_of(alloc, files, &[])?;
+fn answer(
+    alloc: Global,
+    log: &[u8],
+    log2: &[u8],
+    index: &[u8],
+) -> Result<Result<Chain, OpenFault>, Fail> {
+    let mut shelf = folder(alloc, log, log2, index)?;
     Ok(open(alloc, &mut shelf))
 }
 
-fn fault_of(alloc: Global, log: Bytes) -> Result<Option<OpenFault>, Fail> {
-    Ok(opened(alloc, log)?.err())
+// The fault of a folder with this log alone.
+fn fault_of(alloc: Global, log: &[u8]) -> Result<Option<OpenFault>, Fail> {
+    Ok(answer(alloc, log, &[], &[])?.err())
 }
 
-// Whether the mailbox has one row with these flags and this modification sequence, and that highest
-// one.
-fn has_row(chain: &Chain, flags: u8, modseq: u64, highest: u64) -> bool {
-    if chain.live.count() != 1 || chain.live.highest() != highest {
+// Whether the mailbox has one row, UID 1 with these flags and this modification sequence, and the
+// highest one is 4.
+fn has_row(chain: &Chain, flags: u8, modseq: u64) -> bool {
+    if chain.live.count() != 1 || chain.live.highest() != 4 {
         return false;
     }
     let row = chain.live.row(0);
     row.uid == 1 && row.flags == flags && row.modseq == modseq
 }
 
-fn file_of(alloc: Global, shelf: &mut MemShelf, name: Name) -> Result<Bytes, Fail> {
-    let file = shelf.read(alloc, name).ok().ok_or("memory")?;
-    Ok(file.ok_or("absent")?)
+// The log behind an opening of a folder with this log alone.
+fn mended(alloc: Global, log: &[u8]) -> Result<Bytes, Fail> {
+    let mut shelf = folder(alloc, log, &[], &[])?;
+    if open(alloc, &mut shelf).is_err() {
+        return Err(Fail::from("a fault"));
+    }
+    let log = shelf.read(alloc, Name::Log).ok().ok_or("memory")?;
+    Ok(log.ok_or("absent")?)
 }
 
 #[test]
 fn a_folder_without_a_log_costs_one_read(rt: HostRuntime) -> Result<(), Fail> {
     let alloc = rt.alloc();
-    let mut shelf = shelf_of(alloc, List::new(alloc), &[2])?;
+    let fails = List::from_slice(alloc, &[2])?;
+    let mut shelf = MemShelf::of(alloc, &List::new(alloc), 2000, fails, None)?;
     assert!(rt; open(alloc, &mut shelf).err() == Some(OpenFault::NoLog));
-    assert_eq!(rt; shelf.faults(), 0);
     assert!(rt; open(alloc, &mut shelf).err() == Some(OpenFault::Disk(1)));
     Ok(())
 }
@@ -98,104 +110,113 @@ fn a_folder_without_a_log_costs_one_read(rt: HostRuntime) -> Result<(), Fail> {
 #[test]
 fn a_log_alone_gives_its_mailbox(rt: HostRuntime) -> Result<(), Fail> {
     let alloc = rt.alloc();
-    let log = log_with(alloc, &[0; 4])?;
-    let chain = opened(alloc, log)?.ok().ok_or("a fault")?;
-    assert!(rt; has_row(&chain, 8, 4, 4));
+    let log = first_log(alloc, &[0; 4])?;
+    let chain = answer(alloc, log.as_slice(), &[], &[])?.ok().ok_or("a fault")?;
+    assert!(rt; has_row(&chain, 8, 4));
     assert!(rt; chain.log.file_seq == 1 && chain.log.end == 92 && chain.log.count == 3);
     assert!(rt; chain.indexid == 1000 && chain.records == 1);
     Ok(())
 }
 
-// The end is closed where the log was cut at it or stands open, and stays else.
 #[test]
-fn the_end_is_mended_where_it_must_be(rt: HostRuntime) -> Result<(), Fail> {
+fn an_open_end_is_closed(rt: HostRuntime) -> Result<(), Fail> {
     let alloc = rt.alloc();
-    let whole = log_with(alloc, &[0; 4])?;
-    let ends: [&[u8]; 3] = [&[], &[0x80, 0, 0, 0, 7], &[0]];
-    for k in 0..3 {
-        let mut files = List::new(alloc);
-        files.push((Name::Log, log_with(alloc, ends[k])?))?;
-        let mut shelf = shelf_of(alloc, files, &[])?;
-        assert!(rt; open(alloc, &mut shelf).is_ok());
-        let log = file_of(alloc, &mut shelf, Name::Log)?;
-        if k < 2 {
-            assert_eq!(rt; log.as_slice(), whole.as_slice());
-        } else {
-            assert_eq!(rt; log.len(), 93);
-        }
-    }
+    let whole = first_log(alloc, &[0; 4])?;
+    let cut = first_log(alloc, &[])?;
+    assert_eq!(rt; mended(alloc, cut.as_slice())?.as_slice(), whole.as_slice());
+    let gate = first_log(alloc, &[0x80, 0, 0, 0, 7])?;
+    assert_eq!(rt; mended(alloc, gate.as_slice())?.as_slice(), whole.as_slice());
     Ok(())
 }
 
 #[test]
-fn each_fault_of_a_log_is_named(rt: HostRuntime) -> Result<(), Fail> {
+fn a_closed_end_stays(rt: HostRuntime) -> Result<(), Fail> {
     let alloc = rt.alloc();
-    let whole = log_with(alloc, &[0; 4])?;
-    let b = whole.as_slice();
-    let header = Some(OpenFault::BadLogHeader);
-    assert!(rt; fault_of(alloc, List::from_slice(alloc, &b[..23])?)? == header);
-    assert!(rt; fault_of(alloc, changed(alloc, b, 0, 2)?)? == header);
-    assert!(rt; fault_of(alloc, changed(alloc, b, 2, 23)?)? == header);
-    let at = |offset| Some(OpenFault::BadRecord { offset });
-    assert!(rt; fault_of(alloc, changed(alloc, b, 43, 0x81)?)? == at(40));
-    assert!(rt; fault_of(alloc, changed(alloc, b, 60, 1)?)? == at(56));
-    assert!(rt; fault_of(alloc, changed(alloc, b, 64, 0)?)? == at(56));
-    assert!(rt; fault_of(alloc, changed(alloc, b, 8, 2)?)? == Some(OpenFault::BadIndex));
-    Ok(())
-}
-
-// The log, the rotated log and the snapshot.
-fn three(alloc: Global, log: &[u8], log2: &[u8], index: &[u8]) -> Result<MemShelf, Fail> {
-    let mut files = List::new(alloc);
-    files.push((Name::Log, List::from_slice(alloc, log)?))?;
-    files.push((Name::Log2, List::from_slice(alloc, log2)?))?;
-    files.push((Name::Index, List::from_slice(alloc, index)?))?;
-    shelf_of(alloc, files, &[])
-}
-
-// The snapshot has no modification sequences, so its row is numbered as the file is there: 3.
-#[test]
-fn a_snapshot_joins_where_its_mark_is(rt: HostRuntime) -> Result<(), Fail> {
-    let alloc = rt.alloc();
-    let first = log_with(alloc, &[0; 4])?;
-    let b = first.as_slice();
-    let mut shelf = three(alloc, b, &[], &OLD_INDEX)?;
-    let chain = open(alloc, &mut shelf).ok().ok_or("in the log")?;
-    assert!(rt; has_row(&chain, 8, 4, 4) && chain.log.end == 92);
-    let mut shelf = three(alloc, &SECOND, b, &OLD_INDEX)?;
-    let chain = open(alloc, &mut shelf).ok().ok_or("in the rotated log")?;
-    assert!(rt; has_row(&chain, 8, 4, 4) && chain.log.end == 40 && chain.log.file_seq == 2);
-    let at_end = changed(alloc, &OLD_INDEX, 40, 92)?;
-    let mut shelf = three(alloc, &SECOND, &[], at_end.as_slice())?;
-    let chain = open(alloc, &mut shelf).ok().ok_or("at the end")?;
-    assert!(rt; has_row(&chain, 0, 4, 4));
-    let mut shelf = three(alloc, &SECOND, b, &[])?;
-    let chain = open(alloc, &mut shelf).ok().ok_or("from nothing")?;
-    assert!(rt; has_row(&chain, 8, 4, 4));
+    let log = first_log(alloc, &[0, 7])?;
+    assert_eq!(rt; mended(alloc, log.as_slice())?.as_slice(), log.as_slice());
     Ok(())
 }
 
 #[test]
-fn a_snapshot_that_joins_nowhere_is_a_gap(rt: HostRuntime) -> Result<(), Fail> {
+fn a_bad_header_is_named(rt: HostRuntime) -> Result<(), Fail> {
     let alloc = rt.alloc();
-    let first = log_with(alloc, &[0; 4])?;
-    let longer = log_with(alloc, &RECORDS[..0])?;
-    let gap = OpenFault::Gap {
-        index: Mark {
-            file_seq: 1,
-            offset: 72,
-        },
-        log: Mark {
-            file_seq: 2,
-            offset: 40,
-        },
-    };
-    let cut = List::from_slice(alloc, &longer.as_slice()[..72])?;
-    let mut shelf = three(alloc, &SECOND, cut.as_slice(), &OLD_INDEX)?;
-    assert!(rt; open(alloc, &mut shelf).err() == Some(gap));
+    let bad = Some(OpenFault::BadLogHeader);
+    assert!(rt; fault_of(alloc, &HEADER[..23])? == bad);
+    assert!(rt; fault_of(alloc, changed(alloc, &SECOND, 2, 23)?.as_slice())? == bad);
+    assert!(rt; fault_of(alloc, &SECOND)? == Some(OpenFault::BadIndex));
+    Ok(())
+}
+
+// A size below 8, an expunge without its guard, and an append of UID 0.
+#[test]
+fn a_bad_record_is_named(rt: HostRuntime) -> Result<(), Fail> {
+    let alloc = rt.alloc();
+    let log = first_log(alloc, &[0; 4])?;
+    let small = changed(alloc, log.as_slice(), 43, 0x81)?;
+    assert!(rt;
+        fault_of(alloc, small.as_slice())? == Some(OpenFault::BadRecord { offset: 40 })
+    );
+    let unguarded = changed(alloc, log.as_slice(), 60, 1)?;
+    assert!(rt;
+        fault_of(alloc, unguarded.as_slice())? == Some(OpenFault::BadRecord { offset: 56 })
+    );
+    let zero = changed(alloc, log.as_slice(), 64, 0)?;
+    assert!(rt;
+        fault_of(alloc, zero.as_slice())? == Some(OpenFault::BadRecord { offset: 56 })
+    );
+    Ok(())
+}
+
+// The snapshot has no modification sequences, so its row has that of the record before its mark.
+#[test]
+fn a_mark_may_stand_in_the_log(rt: HostRuntime) -> Result<(), Fail> {
+    let alloc = rt.alloc();
+    let log = first_log(alloc, &[0; 4])?;
+    let chain = answer(alloc, log.as_slice(), &[], &OLD_INDEX)?.ok().ok_or("a fault")?;
+    assert!(rt; has_row(&chain, 8, 4) && chain.log.end == 92);
+    Ok(())
+}
+
+#[test]
+fn a_mark_may_stand_in_the_rotated_log(rt: HostRuntime) -> Result<(), Fail> {
+    let alloc = rt.alloc();
+    let log2 = first_log(alloc, &[0; 4])?;
+    let chain = answer(alloc, &SECOND, log2.as_slice(), &OLD_INDEX)?.ok().ok_or("a fault")?;
+    assert!(rt; has_row(&chain, 8, 4) && chain.log.file_seq == 2 && chain.log.end == 40);
+    Ok(())
+}
+
+#[test]
+fn a_mark_may_stand_at_the_named_end(rt: HostRuntime) -> Result<(), Fail> {
+    let alloc = rt.alloc();
+    let index = changed(alloc, &OLD_INDEX, 40, 92)?;
+    let chain = answer(alloc, &SECOND, &[], index.as_slice())?.ok().ok_or("a fault")?;
+    assert!(rt; has_row(&chain, 0, 4) && chain.log.end == 40);
+    Ok(())
+}
+
+#[test]
+fn two_logs_need_no_snapshot(rt: HostRuntime) -> Result<(), Fail> {
+    let alloc = rt.alloc();
+    let log2 = first_log(alloc, &[0; 4])?;
     let other = changed(alloc, &OLD_INDEX, 16, 7)?;
-    let mut shelf = three(alloc, first.as_slice(), &[], other.as_slice())?;
-    let chain = open(alloc, &mut shelf).ok().ok_or("of another mailbox")?;
-    assert!(rt; has_row(&chain, 8, 4, 4));
+    let chain = answer(alloc, &SECOND, log2.as_slice(), other.as_slice())?;
+    assert!(rt; has_row(&chain.ok().ok_or("a fault")?, 8, 4));
+    Ok(())
+}
+
+#[test]
+fn a_mark_elsewhere_is_a_gap(rt: HostRuntime) -> Result<(), Fail> {
+    let alloc = rt.alloc();
+    let index = Mark {
+        file_seq: 1,
+        offset: 72,
+    };
+    let log = Mark {
+        file_seq: 2,
+        offset: 40,
+    };
+    let fault = answer(alloc, &SECOND, &[], &OLD_INDEX)?.err();
+    assert!(rt; fault == Some(OpenFault::Gap { index, log }));
     Ok(())
 }
