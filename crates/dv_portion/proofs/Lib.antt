@@ -1,0 +1,2 @@
+pub mod Portioned
+pub mod Staying
