@@ -5,5 +5,6 @@ pub mod PartChanges
 pub mod PutBack
 pub mod Putting
 pub mod Rising
+pub mod TwoParts
 pub mod Walked
 pub mod Walking

@@ -5,6 +5,8 @@
 mod counts;
 mod flags;
 mod keywords;
+mod naming;
+mod parting;
 mod parts;
 mod places;
 mod ranges;
@@ -13,6 +15,8 @@ mod rows;
 mod uids;
 mod walks;
 
+pub use naming::sort_uids;
+pub use ranges::Range;
 pub use rows::Rows;
 
 #[cfg(test)]

@@ -58,3 +58,17 @@ impl Range for GuidRow {
         self.uid
     }
 }
+
+impl Range for u32 {
+    ghost lowest = { λ uid. uid };
+
+    ghost highest = { λ uid. uid };
+
+    fn first(&self) -> u32 {
+        *self
+    }
+
+    fn last(&self) -> u32 {
+        *self
+    }
+}

@@ -1,14 +1,18 @@
-ghost use Rattle.std.specs.Prelude.{◌≡◌, ◌↔◌, ◌+◌, ◌-◌, ◌^◌, ◌<◌, ◌≤◌, [], ◌∷◌, ◌++◌, All, filter, fold, length, map, not, position, nat_eq, replicate, IfOk, IfSome, IsTrue, OnOk, OnErr, Ok, Some, slice_get, if◌then◌else◌};
+ghost use Rattle.std.specs.Prelude.{◌≡◌, ◌↔◌, ◌⊎◌, ℕ, ◌+◌, ◌-◌, ◌^◌, ◌<◌, ◌≤◌, [], ◌∷◌, ◌++◌, All, filter, fold, length, map, not, position, nat_eq, replicate, IfOk, IfSome, IsTrue, OnOk, OnErr, Ok, Some, slice_get, if◌then◌else◌, true, Contains, count_by, nat_le};
 ghost use Rattle.dv_model.specs.Effects.{grown_to, is_in_pairs, is_in_guid_rows, keywords_after, with_item, with_row_parts, zeroed};
 ghost use Rattle.dv_rows.specs.Changed.{changed_keywords, written_at_front};
 ghost use Rattle.dv_rows.specs.Kept.{AreRows, flag_count};
 ghost use Rattle.dv_rows.specs.Noted.{has};
+ghost use Rattle.dv_rows.specs.Parted.{HasUid, IsNamed, is_among, is_parted};
 ghost use Rattle.std.specs.List.{list_any};
+ghost use Rattle.std.specs.List.Sorted.{IsStrictlyIncreasing};
 ghost use Rattle.dv_validity.specs.Laws.{changed_flags, restamped};
 
 use crate::counts::{Counts, flags_of, tally};
 use crate::flags::{ChangeFlags, StampFlags};
 use crate::keywords::{ClearKeywords, change_keywords};
+use crate::naming::name_ranges;
+use crate::parting::{copies, first_marked, put_rows};
 use crate::parts::{add_part, clear_part, grow_part, set_part};
 use crate::places::{add_note, add_row, place_of};
 use crate::ranges::Range;
@@ -340,5 +344,71 @@ impl Rows {
         ensures room { self.new.room ≡ self.old.room }
     {
         set_part(self.alloc, &mut self.rows, uid, place, bytes);
+    }
+
+    /// Adds the UIDs of the rows in the ranges, which may be in disorder and overlap: each is
+    /// found by halves. After `NoMemory` some of them may be added.
+    pub fn name_uids<R: Range>(&self, ranges: &[R], uids: &mut Vec<u32>) -> Result<(), NoMemory>
+        ensures named { OnOk result ((uid : ℕ) →
+            IsNamed R.lowest R.highest ranges.now self.now.rows uid
+            → Contains uids.new.items uid) }
+        ensures kept { (uid : ℕ) → Contains uids.old.items uid → Contains uids.new.items uid }
+        ensures only { (uid : ℕ) → Contains uids.new.items uid →
+            Contains uids.old.items uid
+            ⊎ IsNamed R.lowest R.highest ranges.now self.now.rows uid }
+    {
+        name_ranges(&self.rows, ranges, uids)
+    }
+
+    /// Copies of the rows with these UIDs, which rise: each is found by halves. `NoMemory` is the
+    /// only error.
+    pub fn part(&self, alloc: Global, uids: &[u32]) -> Result<Rows, NoMemory>
+        requires { IsStrictlyIncreasing uids.now }
+        ensures { IfOk result (λ part. part
+            ≡ record {
+              rows = filter (λ row. is_among uids.now row.uid) self.now.rows;
+              room = 0;
+            }) }
+    {
+        let rows = copies(alloc, &self.rows, uids)?;
+        Rows::of(alloc, List::from_vec(rows))
+    }
+
+    /// Puts a part in the place of the rows with these UIDs, which rise, without memory: rows with
+    /// UIDs from the bound on are added at the end, and rows that the part lacks leave, in one
+    /// move.
+    pub fn put_part(&mut self, uids: &[u32], bound: u32, part: Rows)
+        requires rising { IsStrictlyIncreasing uids.now }
+        requires named { All (HasUid self.old.rows) uids.now }
+        requires below { All (λ row. row.uid < bound) self.old.rows }
+        requires parted { All (λ row. is_parted uids.now bound row.uid ≡ true) part.rows }
+        requires room { count_by (λ row. nat_le bound row.uid) part.rows ≤ self.old.room }
+        ensures part { filter (λ row. is_parted uids.now bound row.uid) self.new.rows
+            ≡ part.rows }
+        ensures others { filter (λ row. not (is_parted uids.now bound row.uid)) self.new.rows
+            ≡ filter (λ row. not (is_parted uids.now bound row.uid)) self.old.rows }
+        ensures rows { AreRows self.new.rows }
+        ensures room { self.old.room
+            ≡ self.new.room + count_by (λ row. nat_le bound row.uid) part.rows }
+    {
+        let count = self.rows.len();
+        walk(
+            &mut self.rows,
+            &mut self.notes,
+            &mut self.counts,
+            uids,
+            &Mark,
+        );
+        let rows = part.into_list().into_vec();
+        put_rows(
+            &mut self.rows,
+            &mut self.notes,
+            &mut self.counts,
+            bound,
+            rows,
+        );
+        self.room -= (self.rows.len() - count) as u32;
+        let from = first_marked(&self.rows, &self.notes, uids);
+        remove_marked(&mut self.rows, &mut self.notes, from);
     }
 }

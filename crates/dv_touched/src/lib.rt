@@ -2,6 +2,7 @@
 #![tactic(auto)]
 
 mod law;
+mod merging;
 mod touched;
 
 pub use law::only_named_are_touched;

@@ -1,6 +1,10 @@
-ghost use Rattle.std.specs.Prelude.{◌≡◌, []};
+ghost use Rattle.std.specs.Prelude.{◌≡◌, ◌↔◌, ◌⊎◌, ℕ, [], Contains, IfOk};
 ghost use Rattle.std.specs.List.Sorted.{IsStrictlyIncreasing};
+ghost use Rattle.dv_touched.specs.Telling.{Differs};
 
+use crate::merging::{differing, merged};
+use dv_model::NoMemory;
+use dv_rows::Rows;
 use std::alloc::Global;
 use std::marker::Model;
 
@@ -29,6 +33,27 @@ impl Touched {
         Touched {
             uids: Vec::new(alloc),
         }
+    }
+
+    /// Those of these UIDs, which rise, whose rows are shown in another way than before, or that
+    /// are now the UIDs of rows or no more: each row is found by halves.
+    pub fn between(alloc: Global, uids: &[u32], old: &Rows, new: &Rows) -> Result<Touched, NoMemory>
+        requires { IsStrictlyIncreasing uids.now }
+        ensures { IfOk result (λ touched. (uid : ℕ) →
+            Contains touched uid
+            ↔ (Contains uids.now uid × Differs old.now.rows new.now.rows uid)) }
+    {
+        let uids = differing(alloc, uids, old, new)?;
+        Ok(Touched { uids })
+    }
+
+    /// The UIDs of both.
+    pub fn with(&self, alloc: Global, more: &Touched) -> Result<Touched, NoMemory>
+        ensures { IfOk result (λ all. (uid : ℕ) →
+            Contains all uid ↔ (Contains self.now uid ⊎ Contains more.now uid)) }
+    {
+        let uids = merged(alloc, &self.uids, &more.uids)?;
+        Ok(Touched { uids })
     }
 
     /// The UIDs as a slice.
