@@ -15,6 +15,7 @@ mod live;
 mod parts;
 mod sends;
 mod state;
+mod survey;
 
 pub use fault::ApplyFault;
 pub use law::refused_by_a_row;
