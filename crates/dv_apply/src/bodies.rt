@@ -42,7 +42,8 @@ fn change(state: &mut State, body: &Body) -> Result<(), NoMemory>
     requires sound { IsSound body.now }
     requires other { IsOther body.now }
     ensures ok { OnOk result (Becomes state.old body.now state.new) }
-    ensures err { OnErr result (state.new ≡ state.old) }
+    ensures err { OnErr result (kept_of state.new ≡ kept_of state.old) }
+    ensures kept { OnErr result (IsKept state.new) }
     ensures memory { TakesNone state.old.extensions.extensions state.old.spare body.now →
         result ≡ Ok tt }
 {

@@ -3,7 +3,7 @@ ghost use Rattle.dv_model.specs.declared.types.Body.TheVariants.{KeywordReset, K
 ghost use Rattle.dv_model.specs.declared.types.How.TheVariants.{Remove};
 ghost use Rattle.dv_model.specs.Effects.{place_of};
 ghost use Rattle.dv_model.specs.Names.{IsName};
-ghost use Rattle.dv_apply.specs.States.{Becomes, IsKept};
+ghost use Rattle.dv_apply.specs.States.{Becomes, IsKept, kept_of};
 
 use crate::changes::higher;
 use crate::state::State;
@@ -19,7 +19,7 @@ fn change_known(
 ) -> Result<(), NoMemory>
     requires kept { IsKept state.old }
     requires name { IsName name.now }
-    requires known { place_of state.old.names name.now ≡ Some place }
+    requires known { place_of state.old.names.names name.now ≡ Some place }
     ensures ok { OnOk result (Becomes state.old (KeywordUpdate how name.now pairs.now) state.new) }
     ensures err { OnErr result (state.new ≡ state.old) }
 {
@@ -35,7 +35,8 @@ fn change_new(state: &mut State, how: How, name: &[u8], pairs: &[Pair]) -> Resul
     requires name { IsName name.now }
     requires added { how ≢ Remove }
     ensures ok { OnOk result (Becomes state.old (KeywordUpdate how name.now pairs.now) state.new) }
-    ensures err { OnErr result (state.new ≡ state.old) }
+    ensures err { OnErr result (kept_of state.new ≡ kept_of state.old) }
+    ensures kept { OnErr result (IsKept state.new) }
 {
     let modseq = higher(state.highest);
     let count = state.names.count();
@@ -43,7 +44,7 @@ fn change_new(state: &mut State, how: How, name: &[u8], pairs: &[Pair]) -> Resul
     match state.rows.change_keywords(pairs, how, place, modseq) {
         Ok(()) => {}
         Err(e) => {
-            state.names.truncate(count);
+            state.names.hide(count);
             return Err(e);
         }
     }
@@ -53,7 +54,7 @@ fn change_new(state: &mut State, how: How, name: &[u8], pairs: &[Pair]) -> Resul
 
 /// Adds a keyword to rows, removes it from them or leaves them it alone (Dovecot's
 /// `mail_transaction_keyword_update`). A name that is removed isn't added to the table. After
-/// `NoMemory` nothing has changed.
+/// `NoMemory` the mailbox and its spare rows are as before.
 pub fn update_keyword(
     state: &mut State,
     how: How,
@@ -63,7 +64,8 @@ pub fn update_keyword(
     requires kept { IsKept state.old }
     requires name { IsName name.now }
     ensures ok { OnOk result (Becomes state.old (KeywordUpdate how name.now pairs.now) state.new) }
-    ensures err { OnErr result (state.new ≡ state.old) }
+    ensures err { OnErr result (kept_of state.new ≡ kept_of state.old) }
+    ensures kept { OnErr result (IsKept state.new) }
 {
     if let Some(place) = state.names.index_of(name) {
         return change_known(state, how, name, pairs, place);

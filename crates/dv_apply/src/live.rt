@@ -173,7 +173,7 @@ impl Live {
 
     /// The keyword names.
     pub fn names(&self) -> &Table
-        ensures { result.now ≡ self.now.mailbox.keywords }
+        ensures { result.now.names ≡ self.now.mailbox.keywords }
     {
         &self.state.names
     }

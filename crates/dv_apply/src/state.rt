@@ -73,7 +73,7 @@ pub fn mailbox(state: &State, alloc: Global) -> Result<Mailbox, NoMemory>
     ensures { IfOk result (λ made. made ≡ mailbox_of state.now) }
 {
     let rows = listed(alloc, &state.rows)?;
-    let keywords = state.names.list().duplicate(alloc)?;
+    let keywords = state.names.list(alloc)?;
     let extensions = state.extensions.list().duplicate(alloc)?;
     Ok(Mailbox {
         uid_validity: state.uid_validity,

@@ -106,7 +106,7 @@ some_of : (o : Option ℕ) → is_some o ≡ true → (k : ℕ) × (o ≡ Some k
 some_of (Some k) e = (k, refl)
 some_of None e = absurd (false≢true e)
 
-none_of : (o : Option ℕ) → is_some o ≡ false → o ≡ None
+pub none_of : (o : Option ℕ) → is_some o ≡ false → o ≡ None
 none_of (Some k) e = absurd (true≢false e)
 none_of None e = refl
 

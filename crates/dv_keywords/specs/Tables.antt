@@ -4,6 +4,11 @@ use Rattle.dv_model.specs.Names.{IsName}
 use Rattle.dv_model.specs.Spelling.{padded}
 use Rattle.dv_formats.specs.Snapshots.{keyword_text}
 
+-- the names of a table, and those that were taken back, whose memory is kept
+pub record Keywords : Type 0 where
+  pub names : List (List ℕ)
+  pub kept : List (List ℕ)
+
 -- distinct names, as many as a number of 32 bits can count
 pub record IsTable (names : List (List ℕ)) : Type 0 where
   pub valid : All IsName names

@@ -3,8 +3,8 @@
 #![tactic(auto)]
 
 mod end;
+mod index;
 mod law;
-mod names;
 mod places;
 mod table;
 mod text;

@@ -60,7 +60,7 @@ fn names_are_added_in_turn(rt: HostRuntime) {
 #[test]
 fn copy_has_the_same_names(rt: HostRuntime) -> Result<(), Fail> {
     let table = table_of(rt.alloc(), &[b"old", b"new"])?;
-    let copy = table.duplicate(rt.alloc())?;
+    let copy = table.copy(rt.alloc())?;
     assert!(rt; has_names(&copy, &[b"old", b"new"]));
     Ok(())
 }
@@ -170,12 +170,49 @@ fn name_of_256_bytes_is_no_name(rt: HostRuntime) -> Result<(), Fail> {
 }
 
 #[test]
-fn first_names_are_kept(rt: HostRuntime) -> Result<(), Fail> {
+fn hidden_names_are_shown_again(rt: HostRuntime) -> Result<(), Fail> {
     let mut table = table_of(rt.alloc(), &[b"old", b"new", b"off"])?;
-    table.truncate(2);
+    assert_eq!(rt; table.count(), 3);
+    table.hide(1);
+    assert!(rt; has_names(&table, &[b"old"]));
+    assert_eq!(rt; table.index_of(b"new"), None);
+    table.hide(5);
+    assert!(rt; has_names(&table, &[b"old"]));
+    table.show(1);
     assert!(rt; has_names(&table, &[b"old", b"new"]));
+    table.show(1);
+    assert!(rt; has_names(&table, &[b"old", b"new", b"off"]));
+    Ok(())
+}
+
+#[test]
+fn new_name_takes_the_place_of_hidden_ones(rt: HostRuntime) -> Result<(), Fail> {
+    let mut table = table_of(rt.alloc(), &[b"old", b"new", b"off"])?;
+    assert_eq!(rt; table.count(), 3);
+    table.hide(1);
+    assert!(rt; is_name(b"old"));
+    assert_eq!(rt; table.add(b"old"), Ok(0));
+    table.show(1);
+    assert!(rt; has_names(&table, &[b"old", b"new"]));
+    table.hide(1);
+    assert!(rt; is_name(b"own"));
+    assert_eq!(rt; table.add(b"own"), Ok(1));
+    assert!(rt; has_names(&table, &[b"old", b"own"]));
+    assert_eq!(rt; table.index_of(b"new"), None);
     assert_eq!(rt; table.index_of(b"off"), None);
-    table.truncate(5);
-    assert!(rt; has_names(&table, &[b"old", b"new"]));
+    Ok(())
+}
+
+#[test]
+fn hidden_name_is_added_as_a_new_one(rt: HostRuntime) -> Result<(), Fail> {
+    let mut table = table_of(rt.alloc(), &[b"old", b"new", b"off"])?;
+    table.hide(1);
+    assert!(rt; is_name(b"off"));
+    assert_eq!(rt; table.add(b"off"), Ok(1));
+    assert!(rt; has_names(&table, &[b"old", b"off"]));
+    assert_eq!(rt; table.index_of(b"new"), None);
+    assert!(rt; is_name(b"new"));
+    assert_eq!(rt; table.add(b"new"), Ok(2));
+    assert!(rt; has_names(&table, &[b"old", b"off", b"new"]));
     Ok(())
 }

@@ -32,7 +32,7 @@ pub fn shown(alloc: Global, row: &Row) -> Result<Shown, NoMemory>
 
 // The name at a place of the table, or no bytes where it has none there.
 fn name_at(alloc: Global, names: &Table, place: u32) -> Result<Bytes, NoMemory>
-    ensures { IfOk result (λ name. name ≡ unwrap_or (slice_get names.now place) []) }
+    ensures { IfOk result (λ name. name ≡ unwrap_or (slice_get names.now.names place) []) }
 {
     if place < names.count() {
         return names.name(place).duplicate(alloc);
@@ -42,7 +42,7 @@ fn name_at(alloc: Global, names: &Table, place: u32) -> Result<Bytes, NoMemory>
 
 /// The names at these places of the table.
 pub fn names_at(alloc: Global, names: &Table, places: &[u32]) -> Result<List<Bytes>, NoMemory>
-    ensures { IfOk result (λ made. made ≡ names_at names.now places.now) }
+    ensures { IfOk result (λ made. made ≡ names_at names.now.names places.now) }
 {
     let mut made = List::new(alloc);
     for place in places {
@@ -53,7 +53,7 @@ pub fn names_at(alloc: Global, names: &Table, places: &[u32]) -> Result<List<Byt
 
 /// The FETCH with UID and flags of a row of this number (RFC 3501, section 7.4.2).
 pub fn fetch_of(alloc: Global, names: &Table, number: u32, s: &Shown) -> Result<Reply, NoMemory>
-    ensures { IfOk result (λ told. told ≡ fetch_of names.now (number, s.now)) }
+    ensures { IfOk result (λ told. told ≡ fetch_of names.now.names (number, s.now)) }
 {
     let keywords = names_at(alloc, names, s.keywords.as_slice())?;
     let mut values = List::new(alloc);

@@ -48,7 +48,7 @@ pub fn add_changes(
 ) -> Result<(), NoMemory>
     requires count { length new.now < 2 ^ 32 }
     requires rising { AreRising old.now }
-    ensures { OnOk result (said.new ≡ said.old ++ changes_of names.now old.now 1 new.now) }
+    ensures { OnOk result (said.new ≡ said.old ++ changes_of names.now.names old.now 1 new.now) }
 {
     let mut number = 0;
     for s in new {
@@ -69,7 +69,7 @@ pub fn said(
 ) -> Result<List<Reply>, NoMemory>
     requires old_rows { AreRising old.now }
     requires new_rows { AreRising new.now }
-    ensures { IfOk result (λ replies. replies ≡ said_of names.now old.now new.now) }
+    ensures { IfOk result (λ replies. replies ≡ said_of names.now.names old.now new.now) }
 {
     let mut replies = List::new(alloc);
     add_removals(old, new, &mut replies)?;

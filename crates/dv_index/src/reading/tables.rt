@@ -7,7 +7,7 @@ use super::extensions::{are_extensions, read_extensions};
 use super::failed;
 use crate::fault::IndexEnd;
 use dv_keywords::{Table, TableEnd};
-use dv_model::{Bytes, Duplicate, Extension, List};
+use dv_model::{Bytes, Extension, List};
 use dv_num::u32_at;
 use std::alloc::Global;
 
@@ -19,9 +19,8 @@ fn read_names(alloc: Global, count: u32, b: &[u8]) -> Result<(List<Bytes>, &[u8]
 {
     match Table::from_bytes(alloc, b, count) {
         Ok((table, size)) => {
-            let names = table.list().duplicate(alloc)?;
             let (_, rest) = b.split_at(size);
-            Ok((names, rest))
+            Ok((table.into_list(), rest))
         }
         Err(TableEnd::Bad) => Err(failed(2)),
         Err(TableEnd::NoMemory) => Err(IndexEnd::NoMemory),

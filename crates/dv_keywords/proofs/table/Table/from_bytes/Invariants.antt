@@ -1,5 +1,6 @@
+use Rattle.dv_keywords.specs.Finding.{FindsAll}
 use Rattle.dv_keywords.proofs.Readings.{IsReadTo}
 use Rattle.dv_keywords.proofs.table.Table.from_bytes.Given as goal
 
-abbrev pub invariant-loop : goal.invariant-loop
-invariant-loop l = IsReadTo l.b l.names l.at l.counter
+abbrev pub invariant-loop-place : goal.invariant-loop-place
+invariant-loop-place l = IsReadTo l.b l.names.items l.at l.place × FindsAll l.index.map l.names.items
