@@ -4,3 +4,4 @@ mod Becoming
 mod Extending
 mod Keeping
 mod Refusing
+mod Surveying

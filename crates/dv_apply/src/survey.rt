@@ -21,6 +21,9 @@ fn name_all(rows: &Rows, uids: &mut Vec<u32>) -> Result<(), NoMemory>
     ensures named { OnOk result ((uid : ℕ) → HasUid rows.now.rows uid → Contains uids.new.items uid) }
     ensures adds { Adds rows.now.rows uids.old.items uids.new.items }
 {
+    if rows.count() == 0 {
+        return Ok(());
+    }
     let all = [Pair {
         first: 0,
         last: u32::MAX,
