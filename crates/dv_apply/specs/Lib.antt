@@ -3,3 +3,4 @@ pub mod Answers
 pub mod Bodies
 pub mod States
 pub mod Surveys
+pub mod Preparing

@@ -6,6 +6,7 @@ mod appends;
 mod blanks;
 mod bodies;
 mod changes;
+mod each;
 mod extensions;
 mod fault;
 mod headers;
