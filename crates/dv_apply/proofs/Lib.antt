@@ -3,5 +3,6 @@ mod Changing
 mod Becoming
 mod Extending
 mod Keeping
+mod Naming
 mod Refusing
 mod Surveying

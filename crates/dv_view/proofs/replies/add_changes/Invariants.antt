@@ -5,5 +5,5 @@ use Rattle.dv_view.proofs.replies.add_changes.Given as goal
 abbrev pub invariant-loop-s : goal.invariant-loop-s
 invariant-loop-s l = record {
   counted : l.number ≡ l.s-index;
-  said : l.said ++ changes_of l.names l.old (l.number + 1) (drop l.s-index l.new) ≡ l.initial.said ++ changes_of l.names l.old 1 l.new;
+  said : l.said ++ changes_of l.names.names l.old (l.number + 1) (drop l.s-index l.new) ≡ l.initial.said ++ changes_of l.names.names l.old 1 l.new;
 }
