@@ -1,5 +1,5 @@
 -- Changes of flags on a row's flags alone, and the modification sequence that they give.
-use Rattle.std.proofs.Common.{◌≡◌, ℕ, Bool, true, false, cond, List, [], ◌∷◌, refl, sym, ◌∙◌, ap}
+use Rattle.std.proofs.Common.{◌≡◌, ℕ, Bool, true, false, cond, List, [], ◌∷◌, refl, ◌∙◌, ap}
 use Rattle.std.specs.Prelude.{fold, ◌&&◌, nat_le}
 use Rattle.dv_model.specs.declared.types.Change.{Change}
 use Rattle.dv_model.specs.declared.types.Row.{Row}

@@ -58,18 +58,30 @@ stays uid change row other = cond-false (eqb uid row.uid) (change row) row (ne_e
 changes : (uid : ℕ) (change : Row → Row) (row : Row) → row.uid ≡ uid → at_uid uid change row ≡ change row
 changes uid change row same = cond-true (eqb uid row.uid) (change row) row (eq-eqb uid row.uid (sym same))
 
+put_by : (row other : Row) (b : Bool) → eqb row.uid other.uid ≡ b → (cond b row other).uid ≡ other.uid
+put_by row other true e = eqb-true row.uid other.uid e
+put_by row other false e = refl
+
+-- a row in the place of the one with its UID
+pub put_uid : (row other : Row) → (at_uid row.uid (λ other. row) other).uid ≡ other.uid
+put_uid row other = put_by row other (eqb row.uid other.uid) refl
+
 none_by : (b : Bool) (n : ℕ) → cond b (Some n) None ≡ None → b ≡ false
 none_by true n e = absurd cc
 none_by false n e = refl
 
+pub none_there : (uid : ℕ) (rows : List Row) → position (λ (row : Row). nat_eq row.uid uid) rows ≡ None → All (λ row. nat_eq row.uid uid ≡ false) rows
+none_there uid rows none =
+    let p : Row → Bool = λ row. eqb row.uid uid in
+    let end : length rows ≤ position_or_len p rows = ltb-false (position_or_len p rows) (length rows) (none_by (ltb (position_or_len p rows) (length rows)) (position_or_len p rows) none) in
+    λ k d h. fails_before_first p rows k d (omega arith)
+
 -- where no row has it, all stay
 pub none_changes : (uid : ℕ) (change : Row → Row) (rows : List Row) → position (λ (row : Row). nat_eq row.uid uid) rows ≡ None → rows ≡ map (at_uid uid change) rows
 none_changes uid change rows none =
-    let p : Row → Bool = λ row. eqb row.uid uid in
-    let end : length rows ≤ position_or_len p rows = ltb-false (position_or_len p rows) (length rows) (none_by (ltb (position_or_len p rows) (length rows)) (position_or_len p rows) none) in
-    sym (map_fixed (at_uid uid change) rows (λ k d h. stays uid change (get_or rows k d) (eqb-false (get_or rows k d).uid uid (fails_before_first p rows k d (omega arith)))))
+    sym (map_fixed (at_uid uid change) rows (λ k d h. stays uid change (get_or rows k d) (eqb-false (get_or rows k d).uid uid (none_there uid rows none k d h))))
 
-found_uid : (uid at : ℕ) (rows : List Row) → position (λ (row : Row). nat_eq row.uid uid) rows ≡ Some at → (d : Row) → (get_or rows at d).uid ≡ uid
+pub found_uid : (uid at : ℕ) (rows : List Row) → position (λ (row : Row). nat_eq row.uid uid) rows ≡ Some at → (d : Row) → (get_or rows at d).uid ≡ uid
 found_uid uid at rows found d = let is = position-Some (λ (row : Row). nat_eq row.uid uid) rows at d found in eqb-true (get_or rows at d).uid uid is.1
 
 before_it : (uid at : ℕ) (change : Row → Row) (rows : List Row) → AreRows rows → at < length rows → ((d : Row) → (get_or rows at d).uid ≡ uid) → All (λ row. at_uid uid change row ≡ row) (take at rows)

@@ -37,6 +37,9 @@ pub written_back : (f : Row → Row) (items slice new : List Row) (len : ℕ) �
 written_back f items slice new len same many is =
     take_at new (drop (length new) items) len (ap length is ∙ length-map slice f ∙ many) ∙ is ∙ ap (map f) same
 
+pub all_back : (items new : List ℕ) (len : ℕ) → length new ≡ len → take len (new ++ drop (length new) items) ≡ new
+all_back items new len many = take_at new (drop (length new) items) len many
+
 -- ---- from the last row to the first
 
 -- the rows behind those that are left are replaced

@@ -1,11 +1,10 @@
 -- The other keywords of some rows are planned, and then put into the rows.
-use Rattle.std.proofs.Common.{◌≡◌, ◌≢◌, ◌⊎◌, inl, inr, ℕ, ◌+◌, ◌<◌, ◌≤◌, Bool, true, false, List, [], ◌∷◌, ◌++◌, length, get_or, refl, sym, ◌∙◌, ap, subst, arith, length-set, length-append}
+use Rattle.std.proofs.Common.{◌≡◌, ◌≢◌, ◌⊎◌, inl, inr, ℕ, ◌<◌, ◌≤◌, Bool, true, false, List, [], ◌∷◌, ◌++◌, length, get_or, refl, sym, ◌∙◌, ap, subst, arith, length-set}
 use Rattle.std.proofs.Math.ListN.{set}
 use Rattle.std.specs.List.{Any}
 use Rattle.std.specs.Prelude.{All, map}
 use Rattle.std.proofs.lemmas.Bool.{cases_lt}
 use Rattle.std.proofs.lemmas.List.{get_or-set_other, get_or-set_same, get_or_default, get_or_append_left, get_or_push, get_or-map, length-map, length_push, same_lists}
-use Rattle.std.proofs.lemmas.List.Elements.{All-push}
 use Rattle.dv_model.specs.declared.types.How.{How}
 use Rattle.dv_model.specs.declared.types.Pair.{Pair}
 use Rattle.dv_model.specs.declared.types.Row.{Row}

@@ -3,6 +3,7 @@ use Rattle.std.proofs.Common.{◌≡◌, ℕ, zero, suc, ◌+◌, ◌%◌, Bool,
 use Rattle.std.specs.Prelude.{◌&&◌, ◌||◌, All, bit_and, bytes_eq, filter, map, nat_eq, not}
 use Rattle.std.specs.List.{list_any}
 use Rattle.std.proofs.lemmas.Bool.{eq-eqb, ne_eqb}
+use Rattle.std.proofs.lemmas.Bool.Decides.{nat_tests}
 use Rattle.std.proofs.lemmas.List.{take-map}
 use Rattle.std.proofs.lemmas.List.Elements.{All-map, All-weaker}
 use Rattle.std.proofs.lemmas.List.Sums.{sum_by-cons}
@@ -158,6 +159,36 @@ mark_walked first last ranges row =
     by_uid first last (λ r. marked) (λ r p. refl) row.uid ranges (with_note row row.flags) refl
     ∙ once (has first last row.uid) marked (λ p. refl) ranges (with_note row row.flags)
 
+-- the test of a UID as a range
+has_one : (uid other : ℕ) → has (λ x. x) (λ x. x) uid other ≡ nat_eq uid other
+has_one uid other = grind (arith, nat_tests)
+
+any_agree : {X : Type 0} (p q : X → Bool) → ((x : X) → p x ≡ q x) → (xs : List X) → list_any p xs ≡ list_any q xs
+any_agree p q same [] = refl
+any_agree p q same (x ∷ xs) = ap (λ b. b || list_any p xs) (same x) ∙ ap (λ b. q x || b) (any_agree p q same xs)
+
+-- a row that isn't there is marked
+abbrev pub missing_marked : (ℕ → Bool) → ℕ → Noted → Noted
+missing_marked there r p = record p { note = cond (there p.row.uid) p.note (cond (nat_eq p.row.flags 0) 1 0) }
+
+marked_once : (b : Bool) (n m : ℕ) → cond b (cond b n m) m ≡ cond b n m
+marked_once true n m = refl
+marked_once false n m = refl
+
+missing_by : (named there : Bool) (row : Row)
+    → cond named (record { row = row; note = cond there row.flags (cond (nat_eq row.flags 0) 1 0) }) (with_note row row.flags) ≡ cond (named && not there) (marked (with_note row row.flags)) (with_note row row.flags)
+missing_by true true row = refl
+missing_by true false row = refl
+missing_by false there row = refl
+
+missing_walked : (there : ℕ → Bool) (uids : List ℕ) (row : Row)
+    → by_ranges (λ x. x) (λ x. x) (missing_marked there) uids (with_note row row.flags) ≡ marked_if (λ uid. list_any (nat_eq uid) uids && not (there uid)) row
+missing_walked there uids row =
+    by_uid (λ x. x) (λ x. x) (missing_marked there) (λ r p. refl) row.uid uids (with_note row row.flags) refl
+    ∙ once (has (λ x. x) (λ x. x) row.uid) (missing_marked there 0) (λ p. ap (with_note p.row) (marked_once (there p.row.uid) p.note (cond (nat_eq p.row.flags 0) 1 0))) uids (with_note row row.flags)
+    ∙ ap (λ b. cond b (missing_marked there 0 (with_note row row.flags)) (with_note row row.flags)) (any_agree (has (λ x. x) (λ x. x) row.uid) (nat_eq row.uid) (has_one row.uid) uids)
+    ∙ missing_by (list_any (nat_eq row.uid) uids) (there row.uid) row
+
 -- a row that stays has its flags beside it
 abbrev pub stays : Noted → Bool
 stays p = nat_eq p.note p.row.flags
@@ -264,6 +295,14 @@ all_marked first last ranges rows notes new flags is =
     is ∙ ap (λ l. map (by_ranges first last (λ r. marked) ranges) (noted rows l)) flags ∙ ap (map (by_ranges first last (λ r. marked) ranges)) (noted_flags rows)
     ∙ map_map (by_ranges first last (λ r. marked) ranges) (λ (row : Row). with_note row row.flags) rows
     ∙ map_same (λ (row : Row). by_ranges first last (λ r. marked) ranges (with_note row row.flags)) (marked_if (λ uid. list_any (has first last uid) ranges)) (mark_walked first last ranges) rows
+
+-- marks where a UID is named and no row has it
+pub missing_are_marked : (there : ℕ → Bool) (uids : List ℕ) (rows : List Row) (notes : List ℕ) (new : List Noted) → notes ≡ map (λ row. row.flags) rows
+    → new ≡ map (by_ranges (λ x. x) (λ x. x) (missing_marked there) uids) (noted rows notes) → new ≡ map (marked_if (λ uid. list_any (nat_eq uid) uids && not (there uid))) rows
+missing_are_marked there uids rows notes new flags is =
+    is ∙ ap (λ l. map (by_ranges (λ x. x) (λ x. x) (missing_marked there) uids) (noted rows l)) flags ∙ ap (map (by_ranges (λ x. x) (λ x. x) (missing_marked there) uids)) (noted_flags rows)
+    ∙ map_map (by_ranges (λ x. x) (λ x. x) (missing_marked there) uids) (λ (row : Row). with_note row row.flags) rows
+    ∙ map_same (λ (row : Row). by_ranges (λ x. x) (λ x. x) (missing_marked there) uids (with_note row row.flags)) (marked_if (λ uid. list_any (nat_eq uid) uids && not (there uid))) (missing_walked there uids) rows
 
 -- the rows that aren't marked, with what is beside them
 pub record AreLeft (test : ℕ → Bool) (before : List Row) (notes : List ℕ) (new : List Row) (now : List ℕ) : Type 0 where

@@ -1,5 +1,5 @@
 -- The rows that records name, as a part that is taken out and put back.
-use Rattle.std.specs.Prelude.{◌≡◌, ℕ, Bool, true, ◌||◌, List, map, Contains, nat_eq, nat_le}
+use Rattle.std.specs.Prelude.{◌≡◌, ℕ, Bool, true, ◌&&◌, ◌||◌, List, map, not, Contains, nat_eq, nat_le}
 use Rattle.std.specs.List.{list_any}
 use Rattle.dv_model.specs.declared.types.Row.{Row}
 use Rattle.dv_rows.specs.Noted.{has}
@@ -19,3 +19,7 @@ is_among uids uid = list_any (nat_eq uid) uids
 -- the UID is in the list, or that of a new row
 abbrev pub is_parted : List ℕ → ℕ → ℕ → Bool
 is_parted uids bound uid = is_among uids uid || nat_le bound uid
+
+-- the UID is in the list, and no row of the part has it
+abbrev pub is_missing : List ℕ → List Row → ℕ → Bool
+is_missing uids part uid = is_among uids uid && not (list_any (λ row. nat_eq row.uid uid) part)

@@ -1,7 +1,6 @@
 -- What a record does to a row, and to the number beside it.
 use Rattle.std.specs.Prelude.{ℕ, ◌%◌, [], bytes_eq, nat_eq, if◌then◌else◌}
 use Rattle.dv_model.specs.declared.types.Change.{Change}
-use Rattle.dv_model.specs.declared.types.Row.{Row}
 use Rattle.dv_model.specs.Effects.{with_bits}
 use Rattle.dv_rows.specs.Noted.{Noted}
 

@@ -1,11 +1,12 @@
-ghost use Rattle.std.specs.Prelude.{◌≡◌, ◌+◌, ◌<◌, ◌≤◌, ◌^◌, All, IfOk, count_by, filter, length, nat_le, take, vec_capacity, vec_len};
+ghost use Rattle.std.specs.Prelude.{◌≡◌, ◌≤◌, All, IfOk, false, filter, length, nat_eq, not, refl, take, if◌then◌else◌};
+ghost use Rattle.std.specs.List.{list_any};
 ghost use Rattle.std.specs.List.Sorted.{IsStrictlyIncreasing};
 ghost use Rattle.dv_rows.specs.Kept.{AreRows};
-ghost use Rattle.dv_rows.specs.Noted.{IsTally, noted};
-ghost use Rattle.dv_rows.specs.Parted.{is_among};
+ghost use Rattle.dv_rows.specs.Parted.{is_among, is_missing};
 
-use crate::counts::{Counts, put_note};
-use crate::places::{add_note, add_row, place_of};
+use crate::places::{place_from, place_of};
+use crate::rows::Rows;
+use crate::walks::Step;
 use dv_model::{Duplicate, NoMemory, Row};
 use std::alloc::Global;
 
@@ -25,48 +26,47 @@ pub fn copies(alloc: Global, rows: &[Row], uids: &[u32]) -> Result<Vec<Row>, NoM
     Ok(made)
 }
 
-// Puts a row in the place of another, and its flags beside it.
-fn put_row(rows: &mut Vec<Row>, notes: &mut Vec<u8>, counts: &mut Counts, at: usize, row: Row) {
-    put_note(notes.as_mut_slice(), counts, at, row.flags);
-    rows[at] = row;
+// Whether no row of the part has this UID.
+fn lacks(part: &Rows, uid: u32) -> bool
+    ensures { result ≡ not (list_any (λ row. nat_eq row.uid uid) part.now.rows) }
+{
+    part.position(uid).is_none()
 }
 
-// Puts a row in its place or, where its UID isn't below the bound, at the end.
-fn put_or_add(rows: &mut Vec<Row>, notes: &mut Vec<u8>, counts: &mut Counts, bound: u32, row: Row) {
-    if row.uid >= bound {
-        add_note(notes, counts, row.flags);
-        add_row(rows, row);
-        return;
-    }
-    if let Some(at) = place_of(rows, row.uid) {
-        put_row(rows, notes, counts, at, row);
-    }
-}
-
-/// Puts rows in their places or, where their UIDs aren't below the bound, at the end.
-pub fn put_rows(
-    rows: &mut Vec<Row>,
-    notes: &mut Vec<u8>,
-    counts: &mut Counts,
-    bound: u32,
-    part: Vec<Row>,
-) {
-    for row in part {
-        put_or_add(rows, notes, counts, bound, row);
-    }
-}
-
-/// The place of the first row that is marked, or the end. Only rows with these UIDs are.
-pub fn first_marked(rows: &[Row], notes: &[u8], uids: &[u32]) -> usize
+/// A place before which no row has one of these UIDs, which rise, and is missing in the part: that
+/// of the first one, or the end.
+pub fn first_missing(rows: &[Row], uids: &[u32], part: &Rows) -> usize
     requires rows { AreRows rows.now }
-    requires noted { length notes.now ≡ length rows.now }
+    requires rising { IsStrictlyIncreasing uids.now }
+    ensures inside { result ≤ length rows.now }
+    ensures before { All (λ row. is_missing uids.now part.now.rows row.uid
+        ≡ false) (take result rows.now) }
 {
     for uid in uids {
-        if let Some(at) = place_of(rows, *uid) {
-            if notes[at] != rows[at].flags {
-                return at;
-            }
+        if lacks(part, *uid) {
+            return place_from(rows, *uid);
         }
     }
     rows.len()
+}
+
+/// A row that is missing in the part leaves.
+#[derive(Drop)]
+pub struct MarkMissing<'a> {
+    pub part: &'a Rows,
+}
+
+impl<'a> Step<u32> for MarkMissing<'a> {
+    ghost after = { λ s r p. record p {
+      note = if list_any (λ row. nat_eq row.uid p.row.uid) s.part.now.rows then p.note
+          else (if nat_eq p.row.flags 0 then 1 else 0);
+    } };
+
+    fn step(&self, _range: &u32, row: &mut Row, note: &mut u8) {
+        if lacks(self.part, row.uid) {
+            *note = if row.flags == 0 { 1 } else { 0 };
+        }
+    }
+
+    ghost keeps = { λ s r p. refl };
 }

@@ -3,16 +3,16 @@ ghost use Rattle.dv_model.specs.Effects.{grown_to, is_in_pairs, is_in_guid_rows,
 ghost use Rattle.dv_rows.specs.Changed.{changed_keywords, written_at_front};
 ghost use Rattle.dv_rows.specs.Kept.{AreRows, flag_count};
 ghost use Rattle.dv_rows.specs.Noted.{has};
-ghost use Rattle.dv_rows.specs.Parted.{HasUid, IsNamed, is_among, is_parted};
+ghost use Rattle.dv_rows.specs.Parted.{HasUid, IsNamed, is_among, is_missing, is_parted};
 ghost use Rattle.std.specs.List.{list_any};
 ghost use Rattle.std.specs.List.Sorted.{IsStrictlyIncreasing};
 ghost use Rattle.dv_validity.specs.Laws.{changed_flags, restamped};
 
-use crate::counts::{Counts, flags_of, tally};
+use crate::counts::{Counts, flags_of, put_note, tally};
 use crate::flags::{ChangeFlags, StampFlags};
 use crate::keywords::{ClearKeywords, change_keywords};
 use crate::naming::name_ranges;
-use crate::parting::{copies, first_marked, put_rows};
+use crate::parting::{MarkMissing, copies, first_missing};
 use crate::parts::{add_part, clear_part, grow_part, set_part};
 use crate::places::{add_note, add_row, place_of};
 use crate::ranges::Range;
@@ -194,10 +194,33 @@ impl Rows {
             parts,
             modseq,
         };
-        add_row(&mut self.rows, row);
-        add_note(&mut self.notes, &mut self.counts, flags);
-        self.room -= 1;
+        self.push(row);
         Ok(())
+    }
+
+    // Adds a row at the end, in the room that is there.
+    fn push(&mut self, row: Row)
+        requires above { All (λ other. other.uid < row.uid) self.old.rows }
+        requires below { row.uid < 2 ^ 32 - 1 }
+        requires room { 0 < self.old.room }
+        ensures rows { self.new.rows ≡ self.old.rows ++ row ∷ [] }
+        ensures room { self.old.room ≡ self.new.room + 1 }
+    {
+        add_note(&mut self.notes, &mut self.counts, row.flags);
+        add_row(&mut self.rows, row);
+        self.room -= 1;
+    }
+
+    // Puts a row in the place of the one with its UID.
+    fn replace(&mut self, row: Row)
+        ensures rows { self.new.rows
+            ≡ map (λ other. if nat_eq row.uid other.uid then row else other) self.old.rows }
+        ensures room { self.new.room ≡ self.old.room }
+    {
+        if let Some(at) = place_of(&self.rows, row.uid) {
+            put_note(&mut self.notes, &mut self.counts, at, row.flags);
+            self.rows[at] = row;
+        }
     }
 
     // Removes the rows in the ranges. Only those behind the first that leaves are moved.
@@ -214,6 +237,26 @@ impl Rows {
             &mut self.counts,
             ranges,
             &Mark,
+        );
+        remove_marked(&mut self.rows, &mut self.notes, from);
+    }
+
+    // Removes the rows with these UIDs, which rise, that the part lacks. Only rows behind the first
+    // that leaves are moved.
+    fn remove_missing(&mut self, uids: &[u32], part: &Rows)
+        requires { IsStrictlyIncreasing uids.now }
+        ensures rows { self.new.rows
+            ≡ filter (λ row. not (is_missing uids.now part.now.rows row.uid)) self.old.rows }
+        ensures room { self.new.room ≡ self.old.room }
+        ensures are { AreRows self.new.rows }
+    {
+        let from = first_missing(&self.rows, uids, part);
+        walk(
+            &mut self.rows,
+            &mut self.notes,
+            &mut self.counts,
+            uids,
+            &MarkMissing { part },
         );
         remove_marked(&mut self.rows, &mut self.notes, from);
     }
@@ -391,24 +434,13 @@ impl Rows {
         ensures room { self.old.room
             ≡ self.new.room + count_by (λ row. nat_le bound row.uid) part.rows }
     {
-        let count = self.rows.len();
-        walk(
-            &mut self.rows,
-            &mut self.notes,
-            &mut self.counts,
-            uids,
-            &Mark,
-        );
-        let rows = part.into_list().into_vec();
-        put_rows(
-            &mut self.rows,
-            &mut self.notes,
-            &mut self.counts,
-            bound,
-            rows,
-        );
-        self.room -= (self.rows.len() - count) as u32;
-        let from = first_marked(&self.rows, &self.notes, uids);
-        remove_marked(&mut self.rows, &mut self.notes, from);
+        self.remove_missing(uids, &part);
+        for row in part.into_list().into_vec() {
+            if row.uid < bound {
+                self.replace(row);
+            } else {
+                self.push(row);
+            }
+        }
     }
 }

@@ -1,4 +1,4 @@
-use Rattle.std.proofs.Common.{◌≡◌, ◌∙◌, subst, sym}
+use Rattle.std.proofs.Common.{◌∙◌, subst, sym}
 use Rattle.dv_model.specs.declared.types.Row.{Row}
 use Rattle.dv_model.specs.Effects.{keywords_after}
 use Rattle.dv_validity.specs.Laws.{restamped}

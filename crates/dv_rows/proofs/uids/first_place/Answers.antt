@@ -1,12 +1,10 @@
-use Rattle.std.proofs.Common.{◌≡◌, ◌∙◌, ℕ, ◌+◌, ◌<◌, ◌≤◌, true, ap, sym, subst, false, length, take, drop, get_or, arith, ltb}
+use Rattle.std.proofs.Common.{◌≡◌, ℕ, ◌<◌, ◌≤◌, ap, subst, false, length, take, get_or, arith}
 use Rattle.std.specs.Prelude.{All}
 use Rattle.std.specs.List.{list_any}
-use Rattle.std.proofs.lemmas.Bool.{ltb-true, ltb-false}
-use Rattle.std.proofs.lemmas.List.{get_or_default, get_or-take, length-take-le, take_all}
+use Rattle.std.proofs.lemmas.List.{get_or_default, take_all}
 use Rattle.dv_model.specs.declared.types.Row.{Row}
 use Rattle.dv_rows.specs.Noted.{has}
 use Rattle.dv_rows.specs.Places.{IsPlace}
-use Rattle.dv_rows.proofs.Rising.{no_fall}
 use Rattle.dv_rows.proofs.Walking.{below, none_before, outside}
 use Rattle.dv_rows.proofs.uids.first_place.Goals.{then-at-first+then-rows-at, else-at-first, else-at-first-via-then-at-first+else-rows-at, else-at-first-via-else-at-first}
 use Rattle.dv_rows.proofs.uids.first_place.Goals as goal

@@ -1,4 +1,4 @@
-use Rattle.std.proofs.Common.{◌≡◌, ◌≤◌, length, eqb, vec_len, vec_capacity}
+use Rattle.std.proofs.Common.{◌≡◌, length, eqb, vec_len, vec_capacity}
 use Rattle.std.proofs.lemmas.List.Filters.{FiltersInPlace}
 use Rattle.dv_rows.specs.Noted.{noted}
 use Rattle.dv_rows.proofs.uids.remove_marked.Given as goal

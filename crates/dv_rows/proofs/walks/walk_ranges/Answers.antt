@@ -1,7 +1,7 @@
-use Rattle.std.proofs.Common.{◌≡◌, ◌∙◌, [], ◌∷◌, ap, sym, get_or, length, arith}
+use Rattle.std.proofs.Common.{◌≡◌, ◌∙◌, [], ◌∷◌, ap, sym, length, arith}
 use Rattle.std.specs.Prelude.{map}
 use Rattle.std.proofs.lemmas.List.{map-id}
-use Rattle.dv_rows.specs.Noted.{Noted, by_range, noted}
+use Rattle.dv_rows.specs.Noted.{by_range, noted}
 use Rattle.dv_rows.proofs.Walking.{one_more, still_rows}
 use Rattle.dv_rows.proofs.walks.walk_ranges.Goals as goal
 

@@ -1,10 +1,10 @@
-use Rattle.std.proofs.Common.{◌≡◌, ◌∙◌, List, ℕ, ap, arith, fold, length, refl, rules, sym}
+use Rattle.std.proofs.Common.{◌≡◌, ◌∙◌, ap, arith, fold, length, refl}
 use Rattle.std.specs.Prelude.{map}
 use Rattle.dv_model.specs.declared.types.Change.{Change}
 use Rattle.dv_model.specs.declared.types.Row.{Row}
 use Rattle.dv_validity.specs.Laws.{changed_flags, restamped}
 use Rattle.dv_rows.specs.Kept.{Kept}
-use Rattle.dv_rows.specs.Noted.{Noted, by_ranges, noted}
+use Rattle.dv_rows.specs.Noted.{noted}
 use Rattle.dv_rows.specs.Steps.{flags_changed, flags_stamped}
 use Rattle.dv_rows.proofs.FlagChanges.{changed_uid}
 use Rattle.dv_rows.proofs.Rising.{counted_many, mapped_rows}

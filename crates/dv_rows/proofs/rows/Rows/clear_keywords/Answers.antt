@@ -1,4 +1,4 @@
-use Rattle.std.proofs.Common.{◌≡◌, ◌∙◌, [], List, ℕ, ap, arith, length, refl, rules, sym}
+use Rattle.std.proofs.Common.{◌≡◌, ◌∙◌, [], ap, arith, length, sym}
 use Rattle.std.specs.Prelude.{map}
 use Rattle.dv_model.specs.declared.types.Pair.{Pair}
 use Rattle.dv_model.specs.declared.types.Row.{Row}

@@ -1,10 +1,9 @@
-use Rattle.std.proofs.Common.{◌≡◌, ◌∙◌, Bool, false, List, ℕ, ap, arith, length, refl, rules, subst, sym, take}
+use Rattle.std.proofs.Common.{◌≡◌, ◌∙◌, Bool, false, List, ℕ, ap, arith, length, subst, sym, take}
 use Rattle.std.specs.Prelude.{All, filter, not}
 use Rattle.std.specs.List.{list_any}
 use Rattle.dv_model.specs.declared.types.Row.{Row}
 use Rattle.dv_rows.specs.Kept.{Kept}
 use Rattle.dv_rows.specs.Noted.{Noted, has, noted}
-use Rattle.dv_rows.specs.Steps.{marked}
 use Rattle.dv_rows.proofs.Rising.{filtered_rows}
 use Rattle.dv_rows.proofs.Walked.{AreLeft, all_marked, left, marked_if, unmarked}
 use Rattle.std.specs.Prelude.{map}
