@@ -1,4 +1,7 @@
 mod Appending
+mod Applying
+mod Lending
+mod Replacing
 mod Changing
 mod Becoming
 mod Extending

@@ -2,10 +2,12 @@
 //! (Dovecot's `mail-transaction-log.h`).
 #![tactic(auto)]
 
+mod apart;
 mod appends;
 mod blanks;
 mod bodies;
 mod changes;
+mod completing;
 mod each;
 mod extensions;
 mod fault;
@@ -14,7 +16,9 @@ mod keywords;
 mod law;
 mod live;
 mod parts;
+mod prepare;
 mod sends;
+mod share;
 mod state;
 mod survey;
 

@@ -1,45 +1,30 @@
-use Rattle.std.proofs.Common.{rules, ◌≡◌, All, OnErr, OnOk, Some, ℕ, ◌+◌, ◌-◌, ◌*◌, ◌<◌, ◌≤◌, length, ◌/◌, ◌%◌, Bool, true, false, nat_eq, nat_lt, List, [], ◌∷◌, ◌++◌, slice_index_or, slice_set, bit_and, bit_or, Fits, w8, w32, w64, Bor, MutBor}
-use Rattle.dv_model.specs.Effects.{after_record, applied}
+use Rattle.std.proofs.Common.{ap, sym, ◌∙◌, subst}
+use Rattle.std.specs.Prelude.{get_or}
+use Rattle.std.proofs.lemmas.List.Elements.{All-more}
+use Rattle.dv_model.specs.declared.types.Record.{Record}
+use Rattle.dv_model.specs.Effects.{after_record}
 use Rattle.dv_model.specs.Spelling.{IsRecord}
-use Rattle.dv_validity.specs.Laws.{GrowsTo, IsInRange}
-use Rattle.dv_apply.specs.Answers.{OnBadAppend}
-use Rattle.dv_apply.specs.Bodies.{refused_row}
-use Rattle.dv_apply.specs.Preparing.{IsRefused}
-use Rattle.dv_apply.specs.States.{IsKept, kept_of, mailbox_of}
+use Rattle.dv_validity.proofs.Rows.{grows_again}
+use Rattle.dv_validity.specs.Laws.{IsInRange}
+use Rattle.dv_apply.specs.States.{mailbox_of}
+use Rattle.dv_apply.proofs.Applying.{applied_next, grows, range_of}
+use Rattle.dv_apply.proofs.Keeping.{sound}
 use Rattle.dv_apply.proofs.each.apply_each.Goals as goal
 
--- src/each.rt:44:5
-pub loop-record-init : goal.loop-record-init
-loop-record-init c = ?
-
--- src/each.rt:45:9
-pub apply_record-requires-clause-kept : goal.apply_record-requires-clause-kept
-apply_record-requires-clause-kept c = ?
-
--- src/each.rt:45:9
-pub returns-in_err-apply_record-clause-bad : goal.returns-in_err-apply_record-clause-bad
-returns-in_err-apply_record-clause-bad c = ?
-
--- src/each.rt:45:9
-pub returns-in_err-apply_record-clause-names : goal.returns-in_err-apply_record-clause-names
-returns-in_err-apply_record-clause-names c = ?
-
--- src/each.rt:44:5
 pub loop-record-preserved : goal.loop-record-preserved
-loop-record-preserved c = ?
-
--- src/each.rt:34:1
-pub returns-clause-ok : goal.returns-clause-ok
-returns-clause-ok c = ?
-
--- src/each.rt:34:1
-pub returns-clause-range : goal.returns-clause-range
-returns-clause-range c = ?
-
--- src/each.rt:34:1
-pub returns-clause-names : goal.returns-clause-names
-returns-clause-names c = ?
-
--- src/each.rt:34:1
-pub returns-clause-kept : goal.returns-clause-kept
-returns-clause-kept c = ?
+loop-record-preserved c =
+    let i = c.loop-record.record-index in
+    let rs = c.args.records.now in
+    let r = c.record-item.result in
+    let made = c.in_ok-apply_record.ensures.ok in
+    let range : IsInRange r.body = range_of (mailbox_of c.loop-record.state) (mailbox_of c.apply_record.new.state) r (sound r (subst IsRecord (sym c.record-item.is) (c.requires.records i r c.loop-record-test.true))) made c.apply_record.ensures.kept.valid.next_uid.1 in
+    record {
+      is =
+          applied_next (mailbox_of c.args.state.now) (mailbox_of c.loop-record.state) (mailbox_of c.apply_record.new.state) rs i r c.loop-record-test.true c.loop-record.invariant.is
+          (ap (after_record (mailbox_of c.loop-record.state)) (sym c.record-item.is) ∙ made);
+      range = All-more (λ (x : Record). IsInRange x.body) rs i r c.loop-record-test.true c.loop-record.invariant.range (subst (λ (x : Record). IsInRange x.body) c.record-item.is range);
+      names =
+          grows_again c.args.state.now.names.names c.loop-record.state.names.names c.apply_record.new.state.names.names c.loop-record.invariant.names
+          (grows (mailbox_of c.loop-record.state) (mailbox_of c.apply_record.new.state) r made);
+      kept = c.apply_record.ensures.kept;
+    }

@@ -1,0 +1,61 @@
+-- What is made ready takes its place.
+use Rattle.std.proofs.Common.{◌≡◌, ℕ, ◌+◌, ◌-◌, ◌≤◌, Bool, true, false, cond, List, [], ◌∷◌, ◌++◌, length, get_or, refl, sym, ◌∙◌, ap, subst, arith, if◌then◌else◌}
+use Rattle.std.specs.Prelude.{All, filter, map, not, replicate, take}
+use Rattle.std.proofs.lemmas.List.Elements.{All-nil, filter_passes}
+use Rattle.dv_model.specs.declared.types.Extension.{Extension}
+use Rattle.dv_model.specs.declared.types.Mailbox.{Mailbox}
+use Rattle.dv_model.specs.declared.types.Row.{Row}
+use Rattle.dv_model.specs.Mailboxes.{IsValid}
+use Rattle.dv_rows.proofs.TwoParts.{same_parts}
+use Rattle.dv_rows.specs.Kept.{AreRows}
+use Rattle.dv_rows.specs.Parted.{is_parted}
+use Rattle.dv_validity.proofs.Rows.{map_map}
+use Rattle.dv_apply.specs.Preparing.{Makes, Ready, alone}
+use Rattle.dv_apply.specs.States.{Held, blank_parts}
+
+-- the rows whose UIDs pass, and the others, tell all rows
+pub rows_are : (live : Held) (p : Ready) (after : Mailbox) (new : List Row) (uids : List ℕ) → Makes live p after → AreRows new → uids ≡ p.uids
+    → filter (λ row. is_parted uids live.mailbox.next_uid row.uid) new ≡ p.share.rows.rows
+    → filter (λ row. not (is_parted uids live.mailbox.next_uid row.uid)) new ≡ filter (λ row. not (is_parted uids live.mailbox.next_uid row.uid)) live.mailbox.rows
+    → new ≡ after.rows
+rows_are live p after new uids makes are same part others =
+    let test : List ℕ → ℕ → Bool = λ us. is_parted us live.mailbox.next_uid in
+    same_parts (test p.uids) new after.rows are.rising makes.valid.rising
+    (ap (λ (us : List ℕ). filter (λ (row : Row). test us row.uid) new) (sym same) ∙ part ∙ sym (ap (λ (m : Mailbox). m.rows) makes.portion))
+    (ap (λ (us : List ℕ). filter (λ (row : Row). not (test us row.uid)) new) (sym same) ∙ others ∙ ap (λ (us : List ℕ). filter (λ (row : Row). not (test us row.uid)) live.mailbox.rows) same ∙ sym makes.rest)
+
+pub mailbox_is : (live : Held) (p : Ready) (after : Mailbox) (new : List Row) (names : List (List ℕ)) → Makes live p after → new ≡ after.rows → names ≡ live.mailbox.keywords ++ take p.share.names live.hidden
+    → record (alone names p.share) { rows = new } ≡ after
+mailbox_is live p after new names makes rows named =
+    ap (λ (rs : List Row). record (alone names p.share) { rows = rs }) rows ∙ ap (λ (ns : List (List ℕ)). record (alone ns p.share) { rows = after.rows }) named
+    ∙ sym (ap (λ (m : Mailbox). record m { rows = after.rows }) makes.portion)
+
+pub parted_pass : (live : Held) (p : Ready) (after : Mailbox) (uids : List ℕ) → Makes live p after → uids ≡ p.uids → All (λ row. is_parted uids live.mailbox.next_uid row.uid ≡ true) p.share.rows.rows
+parted_pass live p after uids makes same =
+    subst (λ (us : List ℕ). All (λ (row : Row). is_parted us live.mailbox.next_uid row.uid ≡ true) p.share.rows.rows) (sym same)
+    (subst (All (λ (row : Row). is_parted p.uids live.mailbox.next_uid row.uid ≡ true)) (ap (λ (m : Mailbox). m.rows) makes.portion) (filter_passes (λ (row : Row). is_parted p.uids live.mailbox.next_uid row.uid) after.rows))
+
+-- ---- spare rows
+
+pub record HasLeft (es : List Extension) (items : List (List (List ℕ))) (n space : ℕ) : Type 0 where
+  pub blank : All (λ parts. parts ≡ blank_parts es) items
+  pub blanks : n ≤ length items
+  pub room : n ≤ space
+
+pub has_left : (b : Bool) (es fs : List Extension) (items kept : List (List (List ℕ))) (spare appended n room before : ℕ) → All (λ parts. parts ≡ blank_parts es) items → spare ≤ length items → spare ≤ before
+    → (b ≡ true → blank_parts fs ≡ blank_parts es) → kept ≡ cond b items [] → n ≡ cond b (spare - appended) 0 → before ≡ room + appended → HasLeft fs kept n room
+has_left true es fs items kept spare appended n room before blank many rooms same is left used = record {
+  blank = subst (λ (k : List (List (List ℕ))). All (λ parts. parts ≡ blank_parts fs) k) (sym is) (subst (λ (bs : List (List ℕ)). All (λ parts. parts ≡ bs) items) (sym (same refl)) blank);
+  blanks = let long : length kept ≡ length items = ap length is in omega arith;
+  room = omega arith;
+}
+has_left false es fs items kept spare appended n room before blank many rooms same is left used = record {
+  blank = subst (λ (k : List (List (List ℕ))). All (λ parts. parts ≡ blank_parts fs) k) (sym is) (All-nil (λ (parts : List (List ℕ)). parts ≡ blank_parts fs));
+  blanks = omega arith;
+  room = omega arith;
+}
+
+-- extensions of one size each have one row's zero bytes
+pub sizes_blank : (es fs : List Extension) → map (λ e. e.record_size) fs ≡ map (λ e. e.record_size) es → blank_parts fs ≡ blank_parts es
+sizes_blank es fs same =
+    sym (map_map (λ (n : ℕ). replicate n 0) (λ (e : Extension). e.record_size) fs) ∙ ap (map (λ (n : ℕ). replicate n 0)) same ∙ map_map (λ (n : ℕ). replicate n 0) (λ (e : Extension). e.record_size) es
