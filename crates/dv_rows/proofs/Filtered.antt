@@ -17,6 +17,7 @@ use Rattle.dv_rows.specs.Kept.{AreRows}
 use Rattle.dv_rows.specs.Parted.{is_among, is_missing}
 use Rattle.dv_rows.specs.Places.{IsPlace}
 use Rattle.std.proofs.lemmas.List.Quantifiers.{position-Some}
+use Rattle.dv_rows.proofs.Named.{no_row}
 use Rattle.dv_rows.proofs.PartChanges.{none_there}
 use Rattle.dv_rows.proofs.Rising.{apart}
 
@@ -110,9 +111,6 @@ pub none_yet : (rows : List Row) → filter (λ row. is_among [] row.uid) rows �
 none_yet rows = filter_none rows
 
 -- ---- rows that a part lacks
-
-no_row : Row
-no_row = record { uid = 0; flags = 0; keywords = []; parts = []; modseq = 0 }
 
 there_by : (uid : ℕ) (rows : List Row) (o : Option ℕ) → position (λ (row : Row). nat_eq row.uid uid) rows ≡ o → is_some o ≡ list_any (λ row. nat_eq row.uid uid) rows
 there_by uid rows None e = sym (list_any_none (λ row. nat_eq row.uid uid) rows (none_there uid rows e))

@@ -1,4 +1,6 @@
-ghost use Rattle.std.specs.Prelude.{◌≤◌, All, IfSome, IsTrue, length, slice_get};
+ghost use Rattle.std.specs.Prelude.{◌≡◌, ◌<◌, ◌≤◌, All, IfOk, IfSome, IsTrue, count_by, length, nat_le, slice_get, true};
+ghost use Rattle.std.specs.List.Sorted.{IsStrictlyIncreasing};
+ghost use Rattle.dv_rows.specs.Parted.{HasUid, is_parted};
 
 use super::*;
 use dv_model::{Bytes, Change, GuidRow, How, List, NoMemory, Pair, Row};
@@ -332,5 +334,90 @@ fn keywords_of_ranges_in_disorder_are_changed_once(rt: HostRuntime) -> Result<()
         (LAST, 0x81, 5, 6),
     ];
     assert_eq!(rt; seen_as(rt.alloc(), &rows)?.as_slice(), after.as_slice());
+    Ok(())
+}
+
+// The UIDs of the rows in the ranges, rising.
+fn named_by<R: Range>(alloc: Global, rows: &Rows, ranges: &[R]) -> Result<Vec<u32>, NoMemory>
+    ensures rising { IfOk result (λ uids. IsStrictlyIncreasing uids.items) }
+    ensures named { IfOk result (λ uids. All (HasUid rows.now.rows) uids.items) }
+{
+    let mut uids = Vec::new(alloc);
+    rows.name_uids(ranges, &mut uids)?;
+    sort_uids(&mut uids);
+    Ok(uids)
+}
+
+#[test]
+fn rows_in_ranges_in_disorder_are_named(rt: HostRuntime) -> Result<(), Fail> {
+    let rows = five(rt.alloc())?;
+    let ranges = [pair(9, u32::MAX), pair(3, 4), pair(1, 2), pair(2, 5)];
+    let uids = named_by(rt.alloc(), &rows, &ranges)?;
+    assert_eq!(rt; uids.as_slice(), [1, 2, 5, 9, LAST].as_slice());
+    let ranges = [change(6, 9, 0, 0), change(5, 5, 0, 0), change(3, 4, 0, 0)];
+    let uids = named_by(rt.alloc(), &rows, &ranges)?;
+    assert_eq!(rt; uids.as_slice(), [5, 9].as_slice());
+    let uids = named_by(rt.alloc(), &rows, &[named(3), named(2)])?;
+    assert_eq!(rt; uids.as_slice(), [2].as_slice());
+    Ok(())
+}
+
+// Whether each row of a part has one of these UIDs, or one from the bound on.
+fn is_part(part: &[Row], uids: &[u32], bound: u32) -> bool
+    ensures { IsTrue result → All (λ row. is_parted uids.now bound row.uid ≡ true) part.now }
+{
+    part.iter()
+        .all(|row| row.uid >= bound || uids.contains(&row.uid))
+}
+
+// Whether all rows have UIDs below the bound.
+fn are_below(rows: &[Row], bound: u32) -> bool
+    ensures { IsTrue result → All (λ row. row.uid < bound) rows.now }
+{
+    rows.iter().all(|row| row.uid < bound)
+}
+
+// How many rows have UIDs from the bound on.
+fn new_rows(rows: &[Row], bound: u32) -> usize
+    ensures { result ≡ count_by (λ row. nat_le bound row.uid) rows.now }
+{
+    rows.iter().filter(|row| row.uid >= bound).count()
+}
+
+// Puts a part back, where it is one.
+fn put(rows: &mut Rows, uids: &[u32], bound: u32, part: Rows) -> Result<(), NoMemory>
+    requires rising { IsStrictlyIncreasing uids.now }
+    requires named { All (HasUid rows.old.rows) uids.now }
+{
+    let more = new_rows(part.as_slice(), bound);
+    if more > 9 || !is_part(part.as_slice(), uids, bound) || !are_below(rows.as_slice(), bound) {
+        return Err(NoMemory);
+    }
+    rows.reserve(more as u32)?;
+    rows.put_part(uids, bound, part);
+    Ok(())
+}
+
+#[test]
+fn a_part_that_changed_is_put_back(rt: HostRuntime) -> Result<(), Fail> {
+    let mut rows = five(rt.alloc())?;
+    rows.expunge(&[pair(LAST, LAST)]);
+    let ranges = [pair(5, 5), pair(9, u32::MAX), pair(1, 1)];
+    let uids = named_by(rt.alloc(), &rows, &ranges)?;
+    let mut part = rows.part(rt.alloc(), &uids)?;
+    // 1 is deleted in place of seen, 9 leaves and 12 is new.
+    part.change_flags(&[change(1, 1, 0x04, 0x08)], 7);
+    part.expunge(&[pair(9, 9)]);
+    add(rt.alloc(), &mut part, 12, 0x08)?;
+    assert_eq!(rt; put(&mut rows, &uids, 10, part), Ok(()));
+    let after = [
+        (1, 0x04, 0, 7),
+        (2, 0x00, 0, 3),
+        (5, 0x0c, 0, 3),
+        (12, 0x08, 0, 3),
+    ];
+    assert_eq!(rt; seen_as(rt.alloc(), &rows)?.as_slice(), after.as_slice());
+    assert!(rt; rows.seen() == 2);
+    assert!(rt; rows.deleted() == 2);
     Ok(())
 }

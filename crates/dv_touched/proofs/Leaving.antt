@@ -27,6 +27,7 @@ use Rattle.dv_validity.proofs.Comparisons.{as_before_itself}
 use Rattle.dv_validity.proofs.Records.{after_by, by_some}
 use Rattle.dv_validity.proofs.Rows.{fold_keeps, fold_keeps_any}
 use Rattle.dv_touched.specs.Naming.{names_uid}
+use Rattle.dv_touched.specs.Telling.{shown_in}
 
 -- ---- rows
 
@@ -42,8 +43,8 @@ all_off : {X : Type 0} (p : X → Bool) (xs : List X) → list_any p xs ≡ fals
 all_off p xs off k d h = no_by (p (get_or xs k d)) (λ passes. let found : list_any p xs ≡ true = list_any_at p xs k d h passes in absurd cc)
 
 -- what is shown of the row of this UID
-abbrev seen : ℕ → List Row → Option Shown
-seen u rows = option_map shown (find (λ row. nat_eq row.uid u) rows)
+abbrev pub seen : ℕ → List Row → Option Shown
+seen u rows = shown_in rows u
 
 beside : (row : Row) (o p : Option Row) (b : Bool) → option_map shown o ≡ option_map shown p → option_map shown (cond b (Some row) o) ≡ option_map shown (cond b (Some row) p)
 beside row o p true rest = refl
@@ -71,7 +72,7 @@ kept_by u row rows kept true passes rest = beside row (find (λ row. nat_eq row.
 kept_by u row rows kept false passes rest =
     passed u row (find (λ row. nat_eq row.uid u) rows) (no_by (nat_eq row.uid u) (λ found. let impossible : false ≡ true = passes found in absurd cc)) ∙ rest
 
-seen_filtered : (u : ℕ) (p : Row → Bool) → ((row : Row) → row.uid ≡ u → p row ≡ true) → (rows : List Row) → seen u rows ≡ seen u (filter p rows)
+pub seen_filtered : (u : ℕ) (p : Row → Bool) → ((row : Row) → row.uid ≡ u → p row ≡ true) → (rows : List Row) → seen u rows ≡ seen u (filter p rows)
 seen_filtered u p stays [] = refl
 seen_filtered u p stays (row ∷ rows) = kept_by u row rows (filter p rows) (p row) (λ found. stays row (match row.uid u found)) (seen_filtered u p stays rows)
 
@@ -87,7 +88,7 @@ found_by : (u : ℕ) (f : Row → Row) (row : Row) (o p : Option Row) → (f row
 found_by u f row o p uid rest true e = ap (λ (b : Bool). cond b (Some (f row)) p) (ap (λ n. nat_eq n u) uid ∙ e)
 found_by u f row o p uid rest false e = ap (λ (b : Bool). cond b (Some (f row)) p) (ap (λ n. nat_eq n u) uid ∙ e) ∙ rest
 
-found_mapped : (u : ℕ) (f : Row → Row) → ((row : Row) → (f row).uid ≡ row.uid) → (rows : List Row) → find (λ row. nat_eq row.uid u) (map f rows) ≡ option_map f (find (λ row. nat_eq row.uid u) rows)
+pub found_mapped : (u : ℕ) (f : Row → Row) → ((row : Row) → (f row).uid ≡ row.uid) → (rows : List Row) → find (λ row. nat_eq row.uid u) (map f rows) ≡ option_map f (find (λ row. nat_eq row.uid u) rows)
 found_mapped u f uid [] = refl
 found_mapped u f uid (row ∷ rows) =
     found_by u f row (find (λ row. nat_eq row.uid u) rows) (find (λ row. nat_eq row.uid u) (map f rows)) (uid row) (found_mapped u f uid rows) (nat_eq row.uid u) refl
@@ -96,14 +97,14 @@ contained_by : (row old : Row) (rows : List Row) (o : Option Row) → (o ≡ Som
 contained_by row old rows o later true e = let same : row ≡ old = cc in (0, omega arith, same)
 contained_by row old rows o later false e = let (k, h, at) = later e in (suc k, omega arith, at)
 
-contained : (u : ℕ) (rows : List Row) (old : Row) → find (λ row. nat_eq row.uid u) rows ≡ Some old → Contains rows old
+pub contained : (u : ℕ) (rows : List Row) (old : Row) → find (λ row. nat_eq row.uid u) rows ≡ Some old → Contains rows old
 contained u [] old e = absurd cc
 contained u (row ∷ rows) old e = contained_by row old rows (find (λ row. nat_eq row.uid u) rows) (contained u rows old) (nat_eq row.uid u) e
 
 any_contained : (p : Row → Bool) (rows : List Row) (old : Row) → Contains rows old → p old ≡ true → list_any p rows ≡ true
 any_contained p rows old (k, h, at) passes = list_any_at p rows k old h (ap p at ∙ passes)
 
-as_before : (row old : Row) → shown row ≡ shown old → is_as_before row old ≡ true
+pub as_before : (row old : Row) → shown row ≡ shown old → is_as_before row old ≡ true
 as_before row old same =
     ap (λ (s : Shown). nat_eq s.uid old.uid && nat_eq s.flags (old.flags % 32) && bytes_eq s.keywords old.keywords) same ∙ as_before_itself old
 

@@ -1,4 +1,4 @@
-ghost use Rattle.std.specs.Prelude.{◌≡◌, ◌↔◌, ◌⊎◌, ℕ, Contains, IfOk, IfSome, IsTrue, None, OnOk, option_map, unwrap_or, find, nat_eq};
+ghost use Rattle.std.specs.Prelude.{◌≡◌, ◌↔◌, ◌⊎◌, ◌&&◌, ◌+◌, ◌<◌, ◌≤◌, ℕ, Contains, IfOk, IsTrue, find, length, nat_eq, nat_lt, option_map, slice_index, if◌then◌else◌};
 ghost use Rattle.std.specs.List.Sorted.{IsStrictlyIncreasing};
 ghost use Rattle.dv_model.specs.Views.{shown};
 ghost use Rattle.dv_touched.specs.Telling.{Differs};
@@ -8,7 +8,10 @@ use dv_rows::Rows;
 use std::alloc::Global;
 
 // The row of a UID.
-fn row_of(rows: &Rows, uid: u32) -> Option<&Row> {
+fn row_of(rows: &Rows, uid: u32) -> Option<&Row>
+    ensures { option_map (λ row. row.now) result
+        ≡ find (λ row. nat_eq row.uid uid) rows.now.rows }
+{
     match rows.position(uid) {
         Some(at) => Some(rows.row(at)),
         None => None,
@@ -54,17 +57,27 @@ pub fn differing(alloc: Global, uids: &[u32], old: &Rows, new: &Rows) -> Result<
 }
 
 // The lesser of the numbers at two places, of which one may be behind the last number.
-fn lesser(xs: &[u32], i: usize, ys: &[u32], j: usize) -> u32 {
-    match (xs.get(i), ys.get(j)) {
-        (Some(x), Some(y)) => *x.min(y),
-        (Some(x), None) => *x,
-        (None, Some(y)) => *y,
-        (None, None) => u32::MAX,
+fn lesser(xs: &[u32], i: usize, ys: &[u32], j: usize) -> u32
+    requires { (i < length xs.now) ⊎ (j < length ys.now) }
+    ensures first { i < length xs.now → result ≤ slice_index xs.now i }
+    ensures second { j < length ys.now → result ≤ slice_index ys.now j }
+    ensures one { ((i < length xs.now) × (result ≡ slice_index xs.now i))
+        ⊎ ((j < length ys.now) × (result ≡ slice_index ys.now j)) }
+{
+    if i >= xs.len() {
+        return ys[j];
     }
+    if j >= ys.len() {
+        return xs[i];
+    }
+    xs[i].min(ys[j])
 }
 
 // The place behind this number, where it is the one at a place, and else that place.
-fn behind(xs: &[u32], at: usize, x: u32) -> usize {
+fn behind(xs: &[u32], at: usize, x: u32) -> usize
+    ensures { result
+        ≡ (if nat_lt at (length xs.now) && nat_eq (slice_index xs.now at) x then at + 1 else at) }
+{
     if at < xs.len() && xs[at] == x {
         at + 1
     } else {

@@ -1,18 +1,10 @@
-use Rattle.std.proofs.Common.{◌≡◌, ◌⊎◌, inl, inr, Bool, true, false, get_or, refl, sym, take, ◌∙◌}
-use Rattle.std.specs.Prelude.{◌||◌}
+use Rattle.std.proofs.Common.{get_or, sym, take, ◌∙◌}
 use Rattle.std.specs.List.{list_any}
 use Rattle.std.proofs.lemmas.List.Folds.{list_any_at, list_any_more}
 use Rattle.dv_model.specs.declared.types.Pair.{Pair}
 use Rattle.dv_model.specs.Effects.{is_in_pair}
+use Rattle.dv_rows.proofs.Named.{either, or_cases}
 use Rattle.dv_rows.proofs.keywords.plan.Goals as goal
-
-or_cases : (a b : Bool) → (a || b) ≡ true → (a ≡ true) ⊎ (b ≡ true)
-or_cases true b e = inl refl
-or_cases false b e = inr e
-
-either : (A B C : Type 0) → A ⊎ B → (A → C) → (B → C) → C
-either A B C (inl a) f g = f a
-either A B C (inr b) f g = g b
 
 pub loop-pair-preserved : goal.loop-pair-preserved
 loop-pair-preserved c =

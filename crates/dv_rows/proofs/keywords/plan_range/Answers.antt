@@ -1,16 +1,13 @@
-use Rattle.std.proofs.Common.{◌≡◌, ◌⊎◌, inl, inr, ◌<◌, ◌≤◌, ap, arith, get_or, length, subst, sym, ◌∙◌}
+use Rattle.std.proofs.Common.{◌≡◌, ◌<◌, ◌≤◌, ap, arith, get_or, length, subst, sym, ◌∙◌}
 use Rattle.std.proofs.lemmas.Bool.{cases_lt, ltb-false, false≢true}
 use Rattle.std.proofs.lemmas.List.{get_or_default}
 use Rattle.dv_model.specs.declared.types.Pair.{Pair}
 use Rattle.dv_model.specs.declared.types.Row.{Row}
 use Rattle.dv_rows.specs.Plans.{IsPlanned}
+use Rattle.dv_rows.proofs.Named.{either}
 use Rattle.dv_rows.proofs.Rising.{no_fall}
 use Rattle.dv_rows.proofs.Walking.{too_high, within}
 use Rattle.dv_rows.proofs.keywords.plan_range.Goals as goal
-
-either : (A B C : Type 0) → A ⊎ B → (A → C) → (B → C) → C
-either A B C (inl a) f g = f a
-either A B C (inr b) f g = g b
 
 pub loop-at-preserved : goal.loop-at-preserved
 loop-at-preserved c =
