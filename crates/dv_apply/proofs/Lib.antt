@@ -1,6 +1,7 @@
 mod Appending
 mod Applying
 mod Lending
+mod Readying
 mod Replacing
 mod Changing
 mod Becoming

@@ -1,4 +1,4 @@
-ghost use Rattle.std.specs.Prelude.{◌≡◌, ◌↔◌, ◌⊎◌, ℕ, ◌≤◌, All, Contains, IfOk, IsSomeAnd, OnErr, OnOk, count_by, max, nat_le};
+ghost use Rattle.std.specs.Prelude.{◌≡◌, ◌↔◌, ◌⊎◌, ℕ, ◌<◌, ◌≤◌, ◌^◌, All, Contains, IfOk, IsSomeAnd, OnErr, OnOk, count_by, length, max, nat_le};
 ghost use Rattle.std.specs.List.Sorted.{IsStrictlyIncreasing};
 ghost use Rattle.dv_model.specs.Effects.{applied};
 ghost use Rattle.dv_model.specs.Spelling.{IsRecord};
@@ -20,10 +20,21 @@ use dv_touched::Touched;
 use std::alloc::Global;
 
 // How many of these rows have UIDs from the bound on.
-fn count_new(rows: &[Row], bound: u32) -> usize
+fn count_from(rows: &[Row], bound: u32) -> u32
+    requires { length rows.now < 2 ^ 32 }
     ensures { result ≡ count_by (λ row. nat_le bound row.uid) rows.now }
 {
-    rows.iter().filter(|row| bound <= row.uid).count()
+    rows.iter().filter(|row| bound <= row.uid).count() as u32
+}
+
+// How many rows are new.
+fn count_new(rows: &Rows, bound: u32) -> u32
+    ensures { result ≡ count_by (λ row. nat_le bound row.uid) rows.now.rows }
+{
+    if rows.count() == 0 {
+        return 0;
+    }
+    count_from(rows.as_slice(), bound)
 }
 
 // These UIDs and those of the rows, rising.
@@ -75,9 +86,12 @@ pub fn prepare(state: &mut State, records: &[Record]) -> Result<Made, ApplyFault
     let mut uids = named_rows(state.alloc, &state.rows, extensions, records)?;
     sort_uids(&mut uids);
     let before = state.rows.part(state.alloc, &uids)?;
-    let share = apply_apart(state, &uids, records)?;
+    let share = match apply_apart(state, &uids, records) {
+        Ok(share) => share,
+        Err(e) => return Err(e),
+    };
     let touched = find_touched(state.alloc, &uids, &before, &share.rows)?;
-    let appended = count_new(share.rows.as_slice(), state.next_uid) as u32;
+    let appended = count_new(&share.rows, state.next_uid);
     reserve(state, appended)?;
     Ok(Made {
         uids,
