@@ -1,5 +1,6 @@
-ghost use Rattle.std.specs.Prelude.{◌≡◌, ◌-◌, ◌≤◌, [], true, if◌then◌else◌};
+ghost use Rattle.std.specs.Prelude.{◌≡◌, ◌↔◌, ℕ, Contains, ◌-◌, ◌≤◌, [], true, if◌then◌else◌};
 ghost use Rattle.dv_model.specs.declared.types.Mailbox.{Mailbox};
+ghost use Rattle.dv_model.specs.Fresh.{IsTouched};
 ghost use Rattle.dv_apply.specs.Preparing.{IsPrepared, Makes, ready_of};
 ghost use Rattle.dv_apply.specs.States.{IsKept, blank_parts, held_of, mailbox_of};
 
@@ -43,7 +44,8 @@ pub fn complete(state: &mut State, made: Made) -> Touched
     ensures kept { IsKept state.new }
     ensures is { (after : Mailbox) → Makes (held_of state.old) (ready_of made) after →
         mailbox_of state.new ≡ after }
-    ensures touched { result ≡ made.touched }
+    ensures touched { (uid : ℕ) →
+        Contains result uid ↔ IsTouched (mailbox_of state.old) (mailbox_of state.new) uid }
 {
     let Made {
         uids,

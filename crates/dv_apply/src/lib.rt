@@ -24,7 +24,7 @@ mod survey;
 
 pub use fault::ApplyFault;
 pub use law::refused_by_a_row;
-pub use live::Live;
+pub use live::{Live, Prepared};
 
 #[cfg(test)]
 mod tests;
