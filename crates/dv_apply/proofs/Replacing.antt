@@ -1,10 +1,11 @@
 -- What is made ready takes its place.
-use Rattle.std.proofs.Common.{◌≡◌, ℕ, ◌+◌, ◌-◌, ◌≤◌, Bool, true, false, cond, List, [], ◌∷◌, ◌++◌, length, get_or, refl, sym, ◌∙◌, ap, subst, arith, if◌then◌else◌}
-use Rattle.std.specs.Prelude.{All, filter, map, not, replicate, take}
+use Rattle.std.proofs.Common.{◌≡◌, ◌↔◌, ◌⊎◌, inl, inr, Option, Some, None, ℕ, ◌+◌, ◌-◌, ◌≤◌, Bool, true, false, cond, List, [], ◌∷◌, ◌++◌, length, get_or, refl, sym, ◌∙◌, ap, subst, arith, if◌then◌else◌}
+use Rattle.std.specs.Prelude.{All, Contains, IsSomeAnd, filter, map, not, replicate, take}
 use Rattle.std.proofs.lemmas.List.Elements.{All-nil, filter_passes}
 use Rattle.dv_model.specs.declared.types.Extension.{Extension}
 use Rattle.dv_model.specs.declared.types.Mailbox.{Mailbox}
 use Rattle.dv_model.specs.declared.types.Row.{Row}
+use Rattle.dv_model.specs.Fresh.{IsTouched}
 use Rattle.dv_model.specs.Mailboxes.{IsValid}
 use Rattle.dv_rows.proofs.TwoParts.{same_parts}
 use Rattle.dv_rows.specs.Kept.{AreRows}
@@ -59,3 +60,23 @@ has_left false es fs items kept spare appended n room before blank many rooms sa
 pub sizes_blank : (es fs : List Extension) → map (λ e. e.record_size) fs ≡ map (λ e. e.record_size) es → blank_parts fs ≡ blank_parts es
 sizes_blank es fs same =
     sym (map_map (λ (n : ℕ). replicate n 0) (λ (e : Extension). e.record_size) fs) ∙ ap (map (λ (n : ℕ). replicate n 0)) same ∙ map_map (λ (n : ℕ). replicate n 0) (λ (e : Extension). e.record_size) es
+
+-- ---- touched UIDs
+
+-- those that were made ready are those of the mailbox that is shown
+pub touched_one : (o : Option Mailbox) (old new : Mailbox) (live : Held) (p : Ready) (uid : ℕ) → IsSomeAnd o (Makes live p) → ((after : Mailbox) → Makes live p after → new ≡ after) → live.mailbox ≡ old
+    → Contains p.touched uid ↔ IsTouched old new uid
+touched_one None old new live p uid makes is same = absurd makes
+touched_one (Some after) old new live p uid makes is same =
+    subst (λ (m : Mailbox). Contains p.touched uid ↔ IsTouched m new uid) same (subst (λ (m : Mailbox). Contains p.touched uid ↔ IsTouched live.mailbox m uid) (sym (is after makes)) (makes.touched uid))
+
+pub either_touched : (A B C D : Type 0) → A ↔ (B ⊎ C) → C ↔ D → A ↔ (B ⊎ D)
+either_touched A B C D one two = (λ a. forth (one.0 a), λ e. one.1 (back e))
+  where
+    forth : B ⊎ C → B ⊎ D
+    forth (inl b) = inl b
+    forth (inr c) = inr (two.0 c)
+
+    back : B ⊎ D → B ⊎ C
+    back (inl b) = inl b
+    back (inr d) = inr (two.1 d)

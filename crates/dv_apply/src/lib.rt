@@ -21,6 +21,7 @@ mod sends;
 mod share;
 mod state;
 mod survey;
+mod touching;
 
 pub use fault::ApplyFault;
 pub use law::refused_by_a_row;

@@ -1,4 +1,4 @@
-ghost use Rattle.std.specs.Prelude.{◌≡◌, ◌↔◌, ℕ, ◌<◌, ◌≤◌, [], All, Contains, IsSomeAnd, Err, IfOk, Ok, OnErr, OnOk, Some, length, max, nat_eq, position, slice_get};
+ghost use Rattle.std.specs.Prelude.{◌≡◌, ◌↔◌, ◌⊎◌, ℕ, ◌<◌, ◌≤◌, [], All, Contains, IsSomeAnd, Err, IfOk, Ok, OnErr, OnOk, Some, length, max, nat_eq, position, slice_get};
 ghost use Rattle.dv_model.specs.Effects.{after_record, applied};
 ghost use Rattle.dv_model.specs.declared.types.Mailbox.{Mailbox};
 ghost use Rattle.dv_model.specs.Fresh.{IsTouched};
@@ -18,6 +18,7 @@ use crate::fault::ApplyFault;
 use crate::prepare::prepare;
 use crate::share::Made;
 use crate::state::{State, empty_state, mailbox, state_of};
+use crate::touching::apply_touched;
 use dv_ext::Extensions;
 use dv_keywords::Table;
 use dv_model::{Mailbox, NoMemory, Record, Row};
@@ -158,6 +159,22 @@ impl Live {
     {
         let Prepared { made } = prepared;
         complete(&mut self.state, made)
+    }
+
+    /// Applies a record as `apply` does, and adds the UIDs that it touches to others. It takes
+    /// memory. After a fault the mailbox, the spare rows and the UIDs are as before.
+    pub fn apply_touched(&mut self, r: &Record, touched: &mut Touched) -> Result<(), ApplyFault>
+        requires { IsRecord r.now }
+        ensures ok { OnOk result (after_record self.old.mailbox r.now ≡ Some self.new.mailbox) }
+        ensures bad { OnBadAppend result (λ refused. refused_row self.old.mailbox r.now.body
+            ≡ Some refused) }
+        ensures err { OnErr result (shown_in self.new ≡ shown_in self.old) }
+        ensures touched { OnOk result ((uid : ℕ) →
+            Contains touched.new uid ↔ (Contains touched.old uid
+            ⊎ IsTouched self.old.mailbox self.new.mailbox uid)) }
+        ensures untouched { OnErr result (touched.new ≡ touched.old) }
+    {
+        apply_touched(&mut self.state, r, touched)
     }
 
     /// Makes the number of spare rows at least this. After `NoMemory` all is as before.
