@@ -1,11 +1,10 @@
 -- What is made ready of records is what they make of the mailbox.
-use Rattle.std.proofs.Common.{◌≡◌, ◌≢◌, ◌⊎◌, inl, inr, ◌↔◌, ℕ, ◌+◌, ◌<◌, ◌≤◌, Bool, true, false, cond, List, [], ◌∷◌, ◌++◌, length, get_or, nat_eq, nat_le, Option, Some, None, refl, sym, ◌∙◌, ap, subst, arith}
+use Rattle.std.proofs.Common.{◌≡◌, ◌≢◌, ◌⊎◌, inl, inr, ◌↔◌, ℕ, ◌≤◌, Bool, true, false, List, ◌++◌, length, get_or, nat_eq, nat_le, Option, Some, None, refl, sym, ◌∙◌, ap, subst, arith}
 use Rattle.std.specs.Prelude.{◌||◌, All, Contains, IsSomeAnd, count_by, filter, find, map, not, option_map, take, Result, Ok, Err, IfOk}
-use Rattle.std.specs.List.{list_any}
 use Rattle.std.specs.List.Sorted.{IsStrictlyIncreasing}
 use Rattle.std.proofs.lemmas.Bool.Decides.{nat_tests}
 use Rattle.std.proofs.lemmas.List.{get_or_default}
-use Rattle.std.proofs.lemmas.List.Elements.{All-contains_itself, All-filter, All-map, All-weaker, Contains-append_cases, Contains-append_left, Contains-append_right, filter_passes}
+use Rattle.std.proofs.lemmas.List.Elements.{All-contains_itself, All-filter, All-map, All-weaker, filter_passes}
 use Rattle.std.proofs.lemmas.List.Folds.{Any-from_list_any, list_any_at}
 use Rattle.dv_model.specs.declared.types.Body.{Body}
 use Rattle.dv_model.specs.declared.types.Body.TheVariants.{Append}
@@ -27,7 +26,6 @@ use Rattle.dv_touched.specs.Telling.{Differs, shown_in}
 use Rattle.dv_validity.proofs.Records.{all_in_range_valid}
 use Rattle.dv_validity.specs.Laws.{IsInRange}
 use Rattle.dv_apply.proofs.Lending.{among_parted}
-use Rattle.dv_apply.specs.declared.share.Share.{Share}
 use Rattle.dv_apply.specs.Bodies.{Refused, refused_row}
 use Rattle.dv_apply.specs.Preparing.{IsRefused, Makes, Ready, alone}
 use Rattle.dv_apply.specs.States.{Held}

@@ -1,11 +1,10 @@
 -- UIDs of the rows that records may change, as they are collected.
-use Rattle.std.proofs.Common.{◌≡◌, ◌⊎◌, inl, inr, ℕ, ◌+◌, ◌-◌, ◌^◌, ◌<◌, ◌≤◌, Bool, true, false, ◌&&◌, List, [], ◌∷◌, ◌++◌, length, get_or, nat_eq, nat_le, Option, Some, None, refl, sym, ◌∙◌, ap, subst, arith}
-use Rattle.std.specs.Prelude.{◌||◌, All, Contains, OnOk, Result, Ok, Err, fold, map, option_and_then, take}
-use Rattle.std.specs.Int.{w32, from_le_bytes}
+use Rattle.std.proofs.Common.{◌≡◌, ◌⊎◌, inl, inr, ℕ, ◌+◌, ◌-◌, ◌^◌, ◌<◌, ◌≤◌, Bool, true, false, ◌&&◌, List, [], ◌∷◌, length, get_or, nat_eq, nat_le, Option, Some, None, refl, sym, ◌∙◌, ap, subst, arith}
+use Rattle.std.specs.Prelude.{◌||◌, All, Contains, OnOk, Result, Ok, Err, map, option_and_then, take}
 use Rattle.std.specs.List.{list_any}
 use Rattle.std.proofs.lemmas.Bool.{cases_lt}
 use Rattle.std.proofs.lemmas.Bool.Decides.{nat_tests}
-use Rattle.std.proofs.lemmas.List.{get_or_default, length-map, take_all, take_more}
+use Rattle.std.proofs.lemmas.List.{get_or_default, length-map, take_more}
 use Rattle.std.proofs.lemmas.List.Elements.{All-contains_itself, All-map, All-take, All-weaker}
 use Rattle.std.proofs.lemmas.List.Folds.{list_any-append}
 use Rattle.std.proofs.lemmas.Option.{option_and_then_some}
@@ -28,7 +27,7 @@ use Rattle.dv_portion.specs.Portions.{may_change, table_of}
 use Rattle.dv_model.specs.declared.types.Pair.{Pair}
 use Rattle.dv_rows.specs.Kept.{AreRows}
 use Rattle.dv_rows.specs.Noted.{has}
-use Rattle.dv_rows.specs.Parted.{HasUid, IsNamed}
+use Rattle.dv_rows.specs.Parted.{HasUid}
 use Rattle.dv_validity.proofs.Records.{all_in_range_valid, by_some}
 use Rattle.dv_validity.proofs.Stamps.{higher_valid}
 use Rattle.dv_validity.specs.Laws.{IsInRange}

@@ -1,12 +1,10 @@
-use Rattle.std.proofs.Common.{◌≡◌, ℕ, ◌+◌, ◌-◌, List, ◌≤◌, length, length-append, Some, refl, ap, sym, ◌∙◌, subst, arith}
+use Rattle.std.proofs.Common.{◌≡◌, ℕ, ◌+◌, ◌-◌, List, length, length-append, Some, ap, sym, ◌∙◌, subst, arith}
 use Rattle.std.specs.Prelude.{All}
 use Rattle.std.proofs.lemmas.List.Elements.{All-nil}
 use Rattle.dv_model.specs.declared.types.Mailbox.{Mailbox}
 use Rattle.dv_model.specs.Effects.{applied}
-use Rattle.dv_portion.specs.Portions.{portion}
-use Rattle.dv_rows.specs.Parted.{is_parted}
 use Rattle.dv_apply.proofs.Lending.{apart_is, apart_valid, bad_by, names_split, still_kept}
-use Rattle.dv_apply.specs.Preparing.{IsRefused, alone}
+use Rattle.dv_apply.specs.Preparing.{IsRefused}
 use Rattle.dv_apply.specs.declared.share.Share.{Share}
 use Rattle.dv_apply.specs.States.{blank_parts, mailbox_of}
 use Rattle.dv_apply.proofs.apart.apply_apart.Goals as goal

@@ -1,7 +1,6 @@
-use Rattle.std.proofs.Common.{◌≡◌, ◌↔◌, List, ◌++◌, take, ap, sym, ◌∙◌, subst, arith}
+use Rattle.std.proofs.Common.{◌≡◌, ◌↔◌, ap, sym, ◌∙◌, subst, arith}
 use Rattle.dv_keywords.specs.Tables.{Keywords}
 use Rattle.dv_model.specs.declared.types.Mailbox.{Mailbox}
-use Rattle.dv_model.specs.declared.types.Row.{Row}
 use Rattle.std.specs.Prelude.{Contains}
 use Rattle.dv_model.specs.Fresh.{IsTouched}
 use Rattle.dv_model.specs.Mailboxes.{IsValid}

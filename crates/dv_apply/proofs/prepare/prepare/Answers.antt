@@ -1,4 +1,4 @@
-use Rattle.std.proofs.Common.{◌≡◌, ◌⊎◌, ◌↔◌, ℕ, ◌++◌, ◌≤◌, List, Some, length, nat_le, take, refl, ap, sym, ◌∙◌, subst, arith}
+use Rattle.std.proofs.Common.{◌≡◌, ◌⊎◌, ◌↔◌, ℕ, ◌++◌, ◌≤◌, List, Some, length, nat_le, take, ap, sym, ◌∙◌, subst, arith}
 use Rattle.std.specs.Prelude.{Contains, count_by, filter}
 use Rattle.dv_keywords.specs.Tables.{Keywords}
 use Rattle.dv_model.specs.declared.types.Mailbox.{Mailbox}

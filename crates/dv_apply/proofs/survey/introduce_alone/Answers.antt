@@ -1,4 +1,4 @@
-use Rattle.std.proofs.Common.{◌≡◌, fold, get_or, take, ap, sym, ◌∙◌}
+use Rattle.std.proofs.Common.{◌≡◌, fold, take, ap, sym, ◌∙◌}
 use Rattle.std.proofs.lemmas.List.{take_all}
 use Rattle.std.proofs.lemmas.List.Sums.{fold_more}
 use Rattle.dv_model.specs.declared.types.Mailbox.{Mailbox}

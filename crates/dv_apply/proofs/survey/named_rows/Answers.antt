@@ -1,4 +1,4 @@
-use Rattle.std.proofs.Common.{ap, sym, ◌∙◌, subst}
+use Rattle.std.proofs.Common.{subst}
 use Rattle.dv_model.specs.declared.types.Record.{Record}
 use Rattle.dv_apply.specs.Surveys.{AreNamed, MovesOn}
 use Rattle.dv_apply.proofs.Surveying.{named_next, only_again, table_next}

@@ -1,4 +1,3 @@
-use Rattle.std.proofs.Common.{◌∷◌, []}
 use Rattle.std.specs.Prelude.{Contains}
 use Rattle.dv_model.specs.Effects.{applied}
 use Rattle.dv_model.specs.Fresh.{IsTouched}
