@@ -1,7 +1,12 @@
 mod Appending
+mod Applying
+mod Lending
+mod Readying
+mod Replacing
 mod Changing
 mod Becoming
 mod Extending
 pub mod Keeping
 mod Naming
 pub mod Refusing
+mod Surveying

@@ -2,3 +2,5 @@ pub mod Alike
 pub mod Answers
 pub mod Bodies
 pub mod States
+pub mod Surveys
+pub mod Preparing

@@ -28,6 +28,20 @@ mailbox_of s = record {
 abbrev pub kept_of : State → Kept
 kept_of s = record { mailbox = mailbox_of s; spare = s.spare }
 
+-- what callers see of it: the mailbox, its spare rows, and keyword names whose memory is kept but that aren't shown
+pub record Held : Type 0 where
+  pub mailbox : Mailbox
+  pub spare : ℕ
+  pub hidden : List (List ℕ)
+
+-- that of a state
+abbrev pub held_of : State → Held
+held_of s = record { mailbox = mailbox_of s; spare = s.spare; hidden = s.names.kept }
+
+-- all but the hidden names
+abbrev pub shown_in : Held → Kept
+shown_in l = record { mailbox = l.mailbox; spare = l.spare }
+
 -- an appended row has zero bytes for each extension
 abbrev pub blank_parts : List Extension → List (List ℕ)
 blank_parts es = map (λ e. replicate e.record_size 0) es

@@ -40,6 +40,7 @@ pub fn prepare(state: &mut State, n: usize) -> Result<(), NoMemory>
     requires { IsKept state.old }
     ensures kept { IsKept state.new }
     ensures is { kept_of state.new ≡ kept_of state.old }
+    ensures names { state.new.names ≡ state.old.names }
     ensures ok { OnOk result (HasSpare n state.new) }
     ensures succeeds { n ≤ state.old.spare → result ≡ Ok tt }
 {
@@ -61,6 +62,7 @@ pub fn reserve(state: &mut State, n: u32) -> Result<(), NoMemory>
     requires { IsKept state.old }
     ensures kept { IsKept state.new }
     ensures is { mailbox_of state.new ≡ mailbox_of state.old }
+    ensures names { state.new.names ≡ state.old.names }
     ensures ok { OnOk result (state.new.spare ≡ max n state.old.spare) }
     ensures err { OnErr result (state.new.spare ≡ state.old.spare) }
     ensures succeeds { n ≤ state.old.spare → result ≡ Ok tt }

@@ -14,8 +14,8 @@ use crate::state::State;
 use dv_ext::{Extensions, RowUpdates};
 use dv_model::{Duplicate, Intro, List, NoMemory, Part};
 
-// Whether the introductions leave the extensions, and so each row, as they are.
-fn are_quiet(extensions: &Extensions, intros: &[Intro]) -> bool
+/// Whether the introductions leave the extensions, and so each row, as they are.
+pub fn are_quiet(extensions: &Extensions, intros: &[Intro]) -> bool
     ensures { result ≡ list_all (is_quiet extensions.now.extensions) intros.now }
 {
     for intro in intros {

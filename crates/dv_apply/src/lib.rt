@@ -2,10 +2,13 @@
 //! (Dovecot's `mail-transaction-log.h`).
 #![tactic(auto)]
 
+mod apart;
 mod appends;
 mod blanks;
 mod bodies;
 mod changes;
+mod completing;
+mod each;
 mod extensions;
 mod fault;
 mod headers;
@@ -13,13 +16,17 @@ mod keywords;
 mod law;
 mod live;
 mod parts;
+mod prepare;
 mod raising;
 mod sends;
+mod share;
 mod state;
+mod survey;
+mod touching;
 
 pub use fault::ApplyFault;
 pub use law::refused_by_a_row;
-pub use live::Live;
+pub use live::{Live, Prepared};
 
 #[cfg(test)]
 mod tests;

@@ -1,44 +1,70 @@
-ghost use Rattle.std.specs.Prelude.{◌≡◌, ◌<◌, ◌≤◌, Err, IfOk, Ok, OnErr, OnOk, Some, length, max, nat_eq, position, slice_get};
-ghost use Rattle.dv_model.specs.Effects.{after_record};
+ghost use Rattle.std.specs.Prelude.{◌≡◌, ◌↔◌, ◌⊎◌, ℕ, ◌<◌, ◌≤◌, [], All, Contains, IsSomeAnd, Err, IfOk, Ok, OnErr, OnOk, Some, length, max, nat_eq, position, slice_get};
+ghost use Rattle.dv_model.specs.Effects.{after_record, applied};
+ghost use Rattle.dv_model.specs.declared.types.Mailbox.{Mailbox};
+ghost use Rattle.dv_model.specs.Fresh.{IsTouched};
 ghost use Rattle.dv_model.specs.Mailboxes.{IsValid, empty_mailbox, last_modseq};
 ghost use Rattle.dv_model.specs.Spelling.{IsRecord};
 ghost use Rattle.dv_rows.specs.Kept.{flag_count};
 ghost use Rattle.dv_apply.specs.Answers.{OnBadAppend};
 ghost use Rattle.dv_apply.specs.Bodies.{Refused, TakesNone, refused_row, spare_after};
+ghost use Rattle.dv_apply.specs.Preparing.{IsPrepared, IsRefused, Makes};
+ghost use Rattle.dv_apply.specs.States.{shown_in};
 ghost use Rattle.dv_apply.specs.declared.fault.ApplyFault.TheVariants as fault;
 
 use crate::appends;
 use crate::bodies::{apply_body, is_request, pass};
+use crate::completing::complete;
 use crate::fault::ApplyFault;
+use crate::prepare::prepare;
 use crate::raising::raise;
+use crate::share::Made;
 use crate::state::{State, empty_state, mailbox, state_of};
+use crate::touching::apply_touched;
 use dv_ext::Extensions;
 use dv_keywords::Table;
 use dv_model::{Mailbox, NoMemory, Record, Row};
+use dv_touched::Touched;
 use std::alloc::Global;
 use std::marker::Model;
 
 /// A mailbox while the records of its log are applied, one after another. Contracts see the
-/// mailbox, and the number of spare rows: of those that can be appended without memory.
+/// mailbox, the number of spare rows: of those that can be appended without memory, and keyword
+/// names whose memory is kept but that aren't shown.
 #[derive(Drop)]
 pub struct Live {
     state: State,
 }
 
 impl Model for Live {
-    ghost use Rattle.dv_apply.specs.States.{IsKept, Kept, kept_of};
+    ghost use Rattle.dv_apply.specs.States.{Held, IsKept, held_of};
 
-    ghost Value = { Kept };
+    ghost Value = { Held };
 
-    ghost view = { λ l. kept_of l.state };
+    ghost view = { λ l. held_of l.state };
 
     ghost invariant = { λ l. IsKept l.state };
+}
+
+/// What records make of a live mailbox: it takes no memory to show it. Contracts see which rows it
+/// puts in the place of which, how many of them are new, and the UIDs that are touched.
+#[derive(Drop)]
+pub struct Prepared {
+    made: Made,
+}
+
+impl Model for Prepared {
+    ghost use Rattle.dv_apply.specs.Preparing.{Ready, ready_of};
+
+    ghost Value = { Ready };
+
+    ghost view = { λ p. ready_of p.made };
 }
 
 impl Live {
     /// A mailbox that never had a message. Takes no memory.
     pub fn empty(alloc: Global, uid_validity: u32) -> Live
-        ensures { result ≡ record { mailbox = empty_mailbox uid_validity; spare = 0 } }
+        ensures { result
+            ≡ record { mailbox = empty_mailbox uid_validity; spare = 0; hidden = [] } }
     {
         Live {
             state: empty_state(alloc, uid_validity),
@@ -49,7 +75,7 @@ impl Live {
     /// many to be counted.
     pub fn of(alloc: Global, m: Mailbox) -> Result<Live, NoMemory>
         requires { IsValid m }
-        ensures { IfOk result (λ made. made ≡ record { mailbox = m; spare = 0 }) }
+        ensures { IfOk result (λ made. made ≡ record { mailbox = m; spare = 0; hidden = [] }) }
     {
         let state = state_of(alloc, m)?;
         Ok(Live { state })
@@ -65,7 +91,8 @@ impl Live {
 
     /// An equal mailbox, with no spare row. `NoMemory` is the only error.
     pub fn copy(&self, alloc: Global) -> Result<Live, NoMemory>
-        ensures { IfOk result (λ made. made ≡ record { mailbox = self.now.mailbox; spare = 0 }) }
+        ensures { IfOk result (λ made. made
+            ≡ record { mailbox = self.now.mailbox; spare = 0; hidden = [] }) }
     {
         let mailbox = self.mailbox(alloc)?;
         Live::of(alloc, mailbox)
@@ -88,8 +115,8 @@ impl Live {
         ensures refused { (refused : Refused) →
             refused_row self.old.mailbox r.now.body ≡ Some refused →
             result ≡ Err (fault.BadAppend refused.uid refused.next_uid) }
-        // Nothing changes by an error.
-        ensures err { OnErr result (self.new ≡ self.old) }
+        // Nothing that is shown changes by an error.
+        ensures err { OnErr result (shown_in self.new ≡ shown_in self.old) }
         // Only appends use up spare rows, and introductions that change the extensions.
         ensures spare { OnOk result (self.new.spare
             ≡ spare_after self.old.mailbox.extensions self.old.spare r.now.body) }
@@ -102,6 +129,53 @@ impl Live {
             return Ok(());
         }
         apply_body(&mut self.state, &r.body)
+    }
+
+    /// Takes all the memory that these records need, in time by the rows that they name, and leaves
+    /// the mailbox as it is. `BadAppend` names the first refused row of the first refused record.
+    /// Where new rows come, as many are spare.
+    pub fn prepare(&mut self, records: &[Record]) -> Result<Prepared, ApplyFault>
+        requires { All IsRecord records.now }
+        ensures mailbox { self.new.mailbox ≡ self.old.mailbox }
+        // What is prepared makes of the mailbox what the records make of it.
+        ensures ok { IfOk result (λ prepared.
+            IsSomeAnd (applied self.old.mailbox records.now) (Makes self.new prepared)) }
+        ensures bad { OnBadAppend result (IsRefused self.old.mailbox records.now) }
+        ensures spare { IfOk result (λ prepared. self.new.spare
+            ≡ max prepared.appended self.old.spare) }
+        ensures err { OnErr result (self.new.spare ≡ self.old.spare) }
+    {
+        let made = prepare(&mut self.state, records)?;
+        Ok(Prepared { made })
+    }
+
+    /// Shows what was prepared from this mailbox, which hasn't changed since, and hands out the
+    /// UIDs of which a session is to be told. Takes no memory.
+    pub fn complete(&mut self, prepared: Prepared) -> Touched
+        requires { IsPrepared self.old prepared }
+        ensures is { (after : Mailbox) → Makes self.old prepared after →
+            self.new.mailbox ≡ after }
+        ensures touched { (uid : ℕ) →
+            Contains result uid ↔ IsTouched self.old.mailbox self.new.mailbox uid }
+    {
+        let Prepared { made } = prepared;
+        complete(&mut self.state, made)
+    }
+
+    /// Applies a record as `apply` does, and adds the UIDs that it touches to others. It takes
+    /// memory. After a fault the mailbox, the spare rows and the UIDs are as before.
+    pub fn apply_touched(&mut self, r: &Record, touched: &mut Touched) -> Result<(), ApplyFault>
+        requires { IsRecord r.now }
+        ensures ok { OnOk result (after_record self.old.mailbox r.now ≡ Some self.new.mailbox) }
+        ensures bad { OnBadAppend result (λ refused. refused_row self.old.mailbox r.now.body
+            ≡ Some refused) }
+        ensures err { OnErr result (shown_in self.new ≡ shown_in self.old) }
+        ensures touched { OnOk result ((uid : ℕ) →
+            Contains touched.new uid ↔ (Contains touched.old uid
+            ⊎ IsTouched self.old.mailbox self.new.mailbox uid)) }
+        ensures untouched { OnErr result (touched.new ≡ touched.old) }
+    {
+        apply_touched(&mut self.state, r, touched)
     }
 
     /// Makes the number of spare rows at least this. After `NoMemory` all is as before.

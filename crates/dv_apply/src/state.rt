@@ -1,4 +1,4 @@
-ghost use Rattle.std.specs.Prelude.{◌≡◌, IfOk};
+ghost use Rattle.std.specs.Prelude.{◌≡◌, [], IfOk};
 ghost use Rattle.dv_model.specs.Mailboxes.{IsValid, empty_mailbox};
 ghost use Rattle.dv_apply.specs.States.{IsKept, mailbox_of};
 
@@ -30,6 +30,7 @@ pub fn empty_state(alloc: Global, uid_validity: u32) -> State
     ensures is { mailbox_of result ≡ empty_mailbox uid_validity }
     ensures kept { IsKept result }
     ensures spare { result.spare ≡ 0 }
+    ensures hidden { result.names.kept ≡ [] }
 {
     State {
         alloc,
@@ -51,6 +52,7 @@ pub fn state_of(alloc: Global, m: Mailbox) -> Result<State, NoMemory>
     ensures is { IfOk result (λ made. mailbox_of made ≡ m) }
     ensures kept { IfOk result (λ made. IsKept made) }
     ensures spare { IfOk result (λ made. made.spare ≡ 0) }
+    ensures hidden { IfOk result (λ made. made.names.kept ≡ []) }
 {
     let names = Table::of(alloc, m.keywords)?;
     let rows = Rows::of(alloc, m.rows)?;

@@ -12,7 +12,7 @@ use Rattle.dv_logfile.specs.declared.header.LogHeader.{LogHeader}
 use Rattle.dv_logfile.specs.Layout.{IsHeader}
 use Rattle.dv_logfile.specs.Scans.{Spot}
 use Rattle.dv_openings.specs.Openings.{Applied, applied_from, file_applied, file_number, raised, records_from, spots_applied}
-use Rattle.dv_apply.specs.States.{Kept}
+use Rattle.dv_apply.specs.States.{Held}
 use Rattle.dv_chain.specs.declared.file.File.{File}
 use Rattle.dv_chain.specs.Files.{HasSpots, ReadsFile, good_file}
 use Rattle.dv_chain.specs.Walks.{Applies, IsLeft, IsWalked, Measures}
@@ -58,15 +58,15 @@ pub left_at : (spots left : List Spot) (file : File) (place : ℕ) → HasSpots 
 left_at spots left file place has there = place_left file.bytes file.header.hdr_size place file.end spots left (has_left spots file has) there
 
 -- a mailbox is raised to the file's number
-pub all_applied : (spots : List Spot) (file : File) (m now : Mailbox) (n : ℕ) (result : Result Kept OpenFault) → n ≡ file_number file.header → now ≡ record m { highest = max m.highest n } → Applies result (spots_applied now spots)
+pub all_applied : (spots : List Spot) (file : File) (m now : Mailbox) (n : ℕ) (result : Result Held OpenFault) → n ≡ file_number file.header → now ≡ record m { highest = max m.highest n } → Applies result (spots_applied now spots)
     → Applies result (file_applied (good_file file spots) m)
 all_applied spots file m now n result number raise applied =
     subst (λ (x : Mailbox). Applies result (spots_applied x spots)) (raise ∙ ap (λ (k : ℕ). record m { highest = max m.highest k }) number) applied
 
-pub from_first : (spots left : List Spot) (file : File) (place : ℕ) (m : Mailbox) (result : Result Kept OpenFault) → place ≡ file.header.hdr_size → Applies result (file_applied (good_file file spots) m) → Applies result (applied_from (good_file file spots) place left m)
+pub from_first : (spots left : List Spot) (file : File) (place : ℕ) (m : Mailbox) (result : Result Held OpenFault) → place ≡ file.header.hdr_size → Applies result (file_applied (good_file file spots) m) → Applies result (applied_from (good_file file spots) place left m)
 from_first spots left file place m result is applied =
     subst (λ (x : Bool). Applies result (if x then file_applied (good_file file spots) m else spots_applied m left)) (sym (eq-eqb place file.header.hdr_size is)) applied
 
-pub from_later : (spots left : List Spot) (file : File) (place : ℕ) (m : Mailbox) (result : Result Kept OpenFault) → (place ≡ file.header.hdr_size → ⊥) → Applies result (spots_applied m left) → Applies result (applied_from (good_file file spots) place left m)
+pub from_later : (spots left : List Spot) (file : File) (place : ℕ) (m : Mailbox) (result : Result Held OpenFault) → (place ≡ file.header.hdr_size → ⊥) → Applies result (spots_applied m left) → Applies result (applied_from (good_file file spots) place left m)
 from_later spots left file place m result other applied =
     subst (λ (x : Bool). Applies result (if x then file_applied (good_file file spots) m else spots_applied m left)) (sym (ne_eqb place file.header.hdr_size other)) applied

@@ -8,7 +8,7 @@ use Rattle.dv_shelf.specs.declared.shelf.Name.TheVariants as name
 use Rattle.dv_shelf.specs.Folders.{Folder}
 use Rattle.dv_logfile.specs.Scans.{BadHeader, BadSpot, Good, IsGood, IsScanned, Missing, Spot}
 use Rattle.dv_openings.specs.Openings.{Finds, Found, IsFound, NoLog, end_mark, from_either, joining, joins}
-use Rattle.dv_apply.specs.States.{Kept}
+use Rattle.dv_apply.specs.States.{Held}
 use Rattle.dv_chain.specs.declared.file.File.{File}
 use Rattle.dv_chain.specs.declared.opening.Files.{Files}
 use Rattle.dv_chain.specs.Files.{HasHeader, HasSpots, IsFileOf, ReadsFile, good_file, snapshot_in}
@@ -105,7 +105,7 @@ module _ (folder : Folder) (files : Files) (are : AreFilesOf folder files) where
     is = is ∙ ap (from_either (good_file files.log are.log.spots) (joining (good_file files.log are.log.spots) are.rotated.scan)) (are.index.is are.log.spots);
   }
 
-  pub joined_end : (live : Kept) → Joins (good_file files.log are.log.spots) (Ok live) (from_either (good_file files.log are.log.spots) (joining (good_file files.log are.log.spots) are.rotated.scan) (snapshot_in files.index))
+  pub joined_end : (live : Held) → Joins (good_file files.log are.log.spots) (Ok live) (from_either (good_file files.log are.log.spots) (joining (good_file files.log are.log.spots) are.rotated.scan) (snapshot_in files.index))
       → IsEndOf folder files.log live.mailbox
   joined_end live joins = record { is = are.log; found = found_by _ joins }
 

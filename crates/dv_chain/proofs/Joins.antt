@@ -8,13 +8,13 @@ use Rattle.dv_model.specs.declared.types.OpenFault.TheVariants as fault
 use Rattle.dv_model.specs.Mailboxes.{empty_mailbox, last_modseq}
 use Rattle.dv_logfile.specs.Scans.{GoodLog, Spot}
 use Rattle.dv_openings.specs.Openings.{Applied, BadIndex, Found, Gap, Gives, Refused, Snapshot, applied_from, at_end, before_log, file_applied, file_number, first_mark, from_index, from_nothing, in_log, in_rotated, number_before, records_from, then_file, with_numbers}
-use Rattle.dv_apply.specs.States.{Kept}
+use Rattle.dv_apply.specs.States.{Held}
 use Rattle.dv_chain.specs.Openings.{Joins}
 use Rattle.dv_chain.specs.Walks.{Applies, Counts}
 
 -- ---- the answers
 
-pub ended : (log : GoodLog) (result : Result Kept OpenFault) (applied : Applied) → Applies result applied → Joins log result (at_end log applied)
+pub ended : (log : GoodLog) (result : Result Held OpenFault) (applied : Applied) → Applies result applied → Joins log result (at_end log applied)
 ended log (Ok live) applied is = sym (ap (at_end log) is)
 ended log (Err fault.NoMemory) applied is = tt
 ended log (Err (fault.BadRecord offset)) applied is = sym (ap (at_end log) is)
@@ -44,7 +44,7 @@ not_then log fault.BadLogHeader applied is = absurd is
 not_then log fault.BadIndex applied is = absurd is
 not_then log (fault.Gap index mark) applied is = absurd is
 
-pub then_applied : (log : GoodLog) (m : Mailbox) (result : Result Kept OpenFault) (applied : Applied) → applied ≡ Gives m → Applies result (file_applied log m) → Applies result (then_file log applied)
+pub then_applied : (log : GoodLog) (m : Mailbox) (result : Result Held OpenFault) (applied : Applied) → applied ≡ Gives m → Applies result (file_applied log m) → Applies result (then_file log applied)
 then_applied log m result applied is all = subst (Applies result) (sym (ap (then_file log) is)) all
 
 -- ---- from nothing
@@ -113,7 +113,7 @@ not_next log (Some first) s seq = rw (seq, in_rotated) refl
 pub number_is : (log : GoodLog) (left : List Spot) (before : ℕ) → before + length left ≡ length log.spots → min (file_number log.header + before) last_modseq ≡ number_before log left
 number_is log left before is = ap (λ (n : ℕ). min (file_number log.header + n) last_modseq) (omega arith)
 
-pub resumed : (log : GoodLog) (place n : ℕ) (left : List Spot) (s : Snapshot) (m : Mailbox) (result : Result Kept OpenFault) → m ≡ with_numbers s n → n ≡ number_before log left
+pub resumed : (log : GoodLog) (place n : ℕ) (left : List Spot) (s : Snapshot) (m : Mailbox) (result : Result Held OpenFault) → m ≡ with_numbers s n → n ≡ number_before log left
     → Applies result (applied_from log place left m) → Applies result (applied_from log place left (with_numbers s (number_before log left)))
 resumed log place n left s m result is number applied =
     subst (λ (x : Mailbox). Applies result (applied_from log place left x)) (is ∙ ap (with_numbers s) number) applied
@@ -121,14 +121,14 @@ resumed log place n left s m result is number applied =
 -- ---- the answers of each way
 
 -- from the first log alone
-pub first_alone : (log : GoodLog) (before : Option GoodLog) (m : Mailbox) (result : Result Kept OpenFault) → log.header.file_seq ≡ 1 → m ≡ empty_mailbox log.header.indexid → Applies result (file_applied log m) → Joins log result (from_nothing log before)
+pub first_alone : (log : GoodLog) (before : Option GoodLog) (m : Mailbox) (result : Result Held OpenFault) → log.header.file_seq ≡ 1 → m ≡ empty_mailbox log.header.indexid → Applies result (file_applied log m) → Joins log result (from_nothing log before)
 first_alone log before m result one empty applied =
     subst (Joins log result) (sym (nothing_first log before one))
     (ended log result (file_applied log (empty_mailbox log.header.indexid)) (subst (λ (x : Mailbox). Applies result (file_applied log x)) empty applied))
 
 module _ (log first : GoodLog) (before : Option GoodLog) (is : before ≡ Some first) (other : log.header.file_seq ≡ 1 → ⊥) where
   -- from the second behind the first
-  pub both_applied : (m next : Mailbox) (result : Result Kept OpenFault) → log.header.file_seq ≡ 2 → m ≡ empty_mailbox log.header.indexid → file_applied first m ≡ Gives next → Applies result (file_applied log next) → Joins log result (from_nothing log before)
+  pub both_applied : (m next : Mailbox) (result : Result Held OpenFault) → log.header.file_seq ≡ 2 → m ≡ empty_mailbox log.header.indexid → file_applied first m ≡ Gives next → Applies result (file_applied log next) → Joins log result (from_nothing log before)
   both_applied m next result two empty gives applied =
       subst (λ (x : Option GoodLog). Joins log result (from_nothing log x)) (sym is)
       (subst (Joins log result) (sym (nothing_second log first other two))
@@ -148,19 +148,19 @@ no_first log before is other = subst (λ (x : Option GoodLog). Joins log (Err fa
 
 -- from a snapshot
 module _ (log : GoodLog) (before : Option GoodLog) (s : Snapshot) where
-  pub from_log : (left : List Spot) (result : Result Kept OpenFault) → s.mark.file_seq ≡ log.header.file_seq → records_from log s.mark.offset ≡ Some left
+  pub from_log : (left : List Spot) (result : Result Held OpenFault) → s.mark.file_seq ≡ log.header.file_seq → records_from log s.mark.offset ≡ Some left
       → Applies result (applied_from log s.mark.offset left (with_numbers s (number_before log left))) → Joins log result (from_index log before s)
   from_log left result seq there applied =
       subst (Joins log result) (sym (index_in_log log before s _ (there_in_log log before s left seq there))) (ended log result _ applied)
 
-  pub from_first_file : (first : GoodLog) (left : List Spot) (result : Result Kept OpenFault) → before ≡ Some first → in_log log s ≡ None → nat_eq (s.mark.file_seq + 1) log.header.file_seq ≡ true → records_from first s.mark.offset ≡ Some left
+  pub from_first_file : (first : GoodLog) (left : List Spot) (result : Result Held OpenFault) → before ≡ Some first → in_log log s ≡ None → nat_eq (s.mark.file_seq + 1) log.header.file_seq ≡ true → records_from first s.mark.offset ≡ Some left
       → Applies result (then_file log (applied_from first s.mark.offset left (with_numbers s (number_before first left)))) → Joins log result (from_index log before s)
   from_first_file first left result is none seq there applied =
       subst (Joins log result)
       (sym (index_in_rotated log before s _ none (ap (λ (x : Option GoodLog). in_rotated log x s) is ∙ there_in_rotated log first s left seq there)))
       (ended log result _ applied)
 
-  pub from_named_end : (m : Mailbox) (n : ℕ) (result : Result Kept OpenFault) → in_log log s ≡ None → in_rotated log before s ≡ None
+  pub from_named_end : (m : Mailbox) (n : ℕ) (result : Result Held OpenFault) → in_log log s ≡ None → in_rotated log before s ≡ None
       → (nat_eq (s.mark.file_seq + 1) log.header.file_seq && nat_eq s.mark.offset log.header.prev_file_offset && nat_eq s.mark.file_seq log.header.prev_file_seq) ≡ true
       → m ≡ with_numbers s n → n ≡ file_number log.header → Applies result (file_applied log m) → Joins log result (from_index log before s)
   from_named_end m n result none nowhere is start number applied =

@@ -18,7 +18,7 @@ use Rattle.dv_logfile.specs.Scans.{Spot, AreSpots, IsFaulty}
 use Rattle.dv_logfile.proofs.OneScan.{readings_one}
 use Rattle.dv_logfile.proofs.Spots.{spots_end}
 use Rattle.dv_openings.specs.Openings.{Applied, Gives, Refused, spots_applied, spots_from}
-use Rattle.dv_apply.specs.States.{Kept}
+use Rattle.dv_apply.specs.States.{Held}
 use Rattle.dv_chain.specs.Walks.{Applies, Counts, EndsAt, IsLeft, IsWalked, Measures}
 
 true_is_not_false : {A : Type 0} (b : Bool) → b ≡ true → b ≡ false → A

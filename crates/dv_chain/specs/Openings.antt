@@ -15,7 +15,7 @@ use Rattle.dv_logfile.specs.Layout.{last_end}
 use Rattle.dv_logfile.specs.Scans.{Spot, GoodLog, Scanned, Good, IsGood, IsScanned}
 use Rattle.dv_openings.specs.Openings as found
 use Rattle.dv_openings.specs.Openings.{Found, Finds, IsFound, end_mark, IsIndex, Snapshot, mended, joining, counted}
-use Rattle.dv_apply.specs.States.{Kept}
+use Rattle.dv_apply.specs.States.{Held}
 use Rattle.dv_chain.specs.declared.chain.Chain.{Chain}
 use Rattle.dv_chain.specs.declared.file.File.{File}
 use Rattle.dv_chain.specs.declared.index.Index.{Index}
@@ -39,7 +39,7 @@ Answers of (Ok x) P = P (of x)
 Answers of (Err e) P = FaultFound e P
 
 -- so is the mailbox at the log's end
-abbrev pub Joins : GoodLog → Result Kept OpenFault → Found → Type 0
+abbrev pub Joins : GoodLog → Result Held OpenFault → Found → Type 0
 Joins log result found = Answers (λ live. Finds live.mailbox (end_mark log)) result (λ f. f ≡ found)
 
 -- the mailbox of a chain, and its place

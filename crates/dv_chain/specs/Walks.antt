@@ -10,7 +10,7 @@ use Rattle.dv_records.specs.Faults.{IsRecordAt}
 use Rattle.dv_logfile.specs.Layout.{last_end}
 use Rattle.dv_logfile.specs.Scans.{Spot, AreSpots, IsFaulty}
 use Rattle.dv_openings.specs.Openings.{Applied, Gives, Refused}
-use Rattle.dv_apply.specs.States.{Kept}
+use Rattle.dv_apply.specs.States.{Held}
 
 -- the disk failed only with this
 abbrev pub OnDisk : {A : Type 0} → Result A OpenFault → (ℕ → Type 0) → Type 0
@@ -62,7 +62,7 @@ pub record IsLeft (b : List ℕ) (at : ℕ) (left : List Spot) (end : ℕ) : Typ
   pub closed : is_closed rest ≡ true
 
 -- records are applied, or the first that is refused is named
-abbrev pub Applies : Result Kept OpenFault → Applied → Type 0
+abbrev pub Applies : Result Held OpenFault → Applied → Type 0
 Applies (Ok live) applied = applied ≡ Gives live.mailbox
 Applies (Err fault.NoMemory) applied = ⊤
 Applies (Err (fault.BadRecord offset)) applied = applied ≡ Refused offset

@@ -1,5 +1,5 @@
 use Rattle.std.proofs.Common.{ap}
-use Rattle.dv_apply.specs.States.{Kept}
+use Rattle.dv_apply.specs.States.{Held}
 use Rattle.dv_chain.specs.Files.{IsFileOf, good_file}
 use Rattle.dv_chain.proofs.Joins.{both_applied, too_late}
 use Rattle.dv_chain.proofs.joining.from_nothing.Goals as goal
@@ -13,4 +13,4 @@ pub returns-in_ok-live-in-Some-clause-given : goal.returns-in_ok-live-in-Some-cl
 returns-in_ok-live-in-Some-clause-given c = λ spots before has file.
     let first = rw c.in-Some.is at file in
     both_applied (good_file c.args.log.now spots) (good_file c.in-Some.first first.0) before first.2 c.if-log-eq1.false c.empty-live.result.mailbox c.in_ok-live-in-Some.live.mailbox c.apply_all-in-Some-2.result
-    c.if-log-ne2.false (ap (λ (live : Kept). live.mailbox) c.empty-live.ensures) (c.in_ok-live-in-Some.ensures.applied first.0 first.1) (c.apply_all-in-Some-2.ensures.applied spots has)
+    c.if-log-ne2.false (ap (λ (live : Held). live.mailbox) c.empty-live.ensures) (c.in_ok-live-in-Some.ensures.applied first.0 first.1) (c.apply_all-in-Some-2.ensures.applied spots has)

@@ -1,0 +1,102 @@
+ghost use Rattle.std.specs.Prelude.{◌≡◌, ◌↔◌, ◌⊎◌, ℕ, ◌<◌, ◌≤◌, ◌^◌, All, Contains, IfOk, IsSomeAnd, OnErr, OnOk, count_by, length, max, nat_le};
+ghost use Rattle.std.specs.List.Sorted.{IsStrictlyIncreasing};
+ghost use Rattle.dv_model.specs.Effects.{applied};
+ghost use Rattle.dv_model.specs.Spelling.{IsRecord};
+ghost use Rattle.dv_rows.specs.Parted.{HasUid};
+ghost use Rattle.dv_touched.specs.Telling.{Differs};
+ghost use Rattle.dv_apply.specs.Answers.{OnBadAppend};
+ghost use Rattle.dv_apply.specs.Preparing.{IsRefused, Makes, ready_of};
+ghost use Rattle.dv_apply.specs.States.{IsKept, held_of, mailbox_of};
+
+use crate::apart::apply_apart;
+use crate::appends::reserve;
+use crate::fault::ApplyFault;
+use crate::share::Made;
+use crate::state::State;
+use crate::survey::named_rows;
+use dv_model::{Duplicate, NoMemory, Record, Row};
+use dv_rows::{Rows, sort_uids};
+use dv_touched::Touched;
+use std::alloc::Global;
+
+// How many of these rows have UIDs from the bound on.
+fn count_from(rows: &[Row], bound: u32) -> u32
+    requires { length rows.now < 2 ^ 32 }
+    ensures { result ≡ count_by (λ row. nat_le bound row.uid) rows.now }
+{
+    rows.iter().filter(|row| bound <= row.uid).count() as u32
+}
+
+// How many rows are new.
+fn count_new(rows: &Rows, bound: u32) -> u32
+    ensures { result ≡ count_by (λ row. nat_le bound row.uid) rows.now.rows }
+{
+    if rows.count() == 0 {
+        return 0;
+    }
+    count_from(rows.as_slice(), bound)
+}
+
+// These UIDs and those of the rows, rising.
+fn all_uids(alloc: Global, uids: &[u32], rows: &[Row]) -> Result<Vec<u32>, NoMemory>
+    ensures rising { IfOk result (λ all. IsStrictlyIncreasing all.items) }
+    ensures is { IfOk result (λ all. (uid : ℕ) →
+        Contains all.items uid ↔ (Contains uids.now uid ⊎ HasUid rows.now uid)) }
+{
+    let mut all = Vec::new(alloc);
+    for uid in uids {
+        all.push(*uid)?;
+    }
+    for row in rows {
+        all.push(row.uid)?;
+    }
+    sort_uids(&mut all);
+    Ok(all)
+}
+
+// Those of these UIDs, and of the rows behind, of which another row is shown than before.
+fn find_touched(
+    alloc: Global,
+    uids: &[u32],
+    before: &Rows,
+    behind: &Rows,
+) -> Result<Touched, NoMemory>
+    ensures { IfOk result (λ touched. (uid : ℕ) →
+        Contains touched uid
+        ↔ ((Contains uids.now uid ⊎ HasUid behind.now.rows uid)
+        × Differs before.now.rows behind.now.rows uid)) }
+{
+    let all = all_uids(alloc, uids, behind.as_slice())?;
+    Touched::between(alloc, &all, before, behind)
+}
+
+/// Takes the memory that records need. What is shown of the mailbox stays as it is.
+pub fn prepare(state: &mut State, records: &[Record]) -> Result<Made, ApplyFault>
+    requires kept { IsKept state.old }
+    requires records { All IsRecord records.now }
+    ensures kept { IsKept state.new }
+    ensures mailbox { mailbox_of state.new ≡ mailbox_of state.old }
+    ensures ok { IfOk result (λ made. IsSomeAnd (applied (mailbox_of state.old) records.now)
+        (Makes (held_of state.new) (ready_of made))) }
+    ensures bad { OnBadAppend result (IsRefused (mailbox_of state.old) records.now) }
+    ensures spare { IfOk result (λ made. state.new.spare ≡ max made.appended state.old.spare) }
+    ensures err { OnErr result (state.new.spare ≡ state.old.spare) }
+{
+    let extensions = state.extensions.duplicate(state.alloc)?;
+    let mut uids = named_rows(state.alloc, &state.rows, extensions, records)?;
+    sort_uids(&mut uids);
+    let before = state.rows.part(state.alloc, &uids)?;
+    let share = match apply_apart(state, &uids, records) {
+        Ok(share) => share,
+        Err(e) => return Err(e),
+    };
+    let touched = find_touched(state.alloc, &uids, &before, &share.rows)?;
+    let appended = count_new(&share.rows, state.next_uid);
+    reserve(state, appended)?;
+    Ok(Made {
+        uids,
+        share,
+        appended,
+        touched,
+    })
+}

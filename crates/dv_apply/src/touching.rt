@@ -1,0 +1,48 @@
+ghost use Rattle.std.specs.Prelude.{◌≡◌, ◌↔◌, ◌⊎◌, ℕ, Contains, OnErr, OnOk, Some};
+ghost use Rattle.dv_model.specs.Effects.{after_record};
+ghost use Rattle.dv_model.specs.Fresh.{IsTouched};
+ghost use Rattle.dv_model.specs.Spelling.{IsRecord};
+ghost use Rattle.dv_apply.specs.Answers.{OnBadAppend};
+ghost use Rattle.dv_apply.specs.Bodies.{refused_row};
+ghost use Rattle.dv_apply.specs.States.{IsKept, kept_of, mailbox_of};
+
+use crate::completing::complete;
+use crate::fault::ApplyFault;
+use crate::prepare::prepare;
+use crate::state::State;
+use dv_model::Record;
+use dv_touched::Touched;
+use std::slice;
+
+/// Applies a record, and adds the UIDs that it touches to others. After a fault both are as before.
+pub fn apply_touched(state: &mut State, r: &Record, touched: &mut Touched) -> Result<(), ApplyFault>
+    requires kept { IsKept state.old }
+    requires record { IsRecord r.now }
+    ensures kept { IsKept state.new }
+    ensures ok { OnOk result
+        (after_record (mailbox_of state.old) r.now ≡ Some (mailbox_of state.new)) }
+    ensures bad { OnBadAppend result (λ refused. refused_row (mailbox_of state.old) r.now.body
+        ≡ Some refused) }
+    ensures err { OnErr result (kept_of state.new ≡ kept_of state.old) }
+    ensures touched { OnOk result ((uid : ℕ) →
+        Contains touched.new uid ↔ (Contains touched.old uid
+        ⊎ IsTouched (mailbox_of state.old) (mailbox_of state.new) uid)) }
+    ensures untouched { OnErr result (touched.new ≡ touched.old) }
+{
+    let spare = state.spare;
+    let made = match prepare(state, slice::from_ref(r)) {
+        Ok(made) => made,
+        Err(e) => return Err(e),
+    };
+    match touched.with(state.alloc, &made.touched) {
+        Ok(all) => {
+            complete(state, made);
+            *touched = all;
+            Ok(())
+        }
+        Err(e) => {
+            state.spare = spare;
+            Err(ApplyFault::from(e))
+        }
+    }
+}

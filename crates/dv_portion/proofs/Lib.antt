@@ -1,0 +1,3 @@
+pub mod Portioned
+pub mod Staying
+pub mod Tables
