@@ -44,7 +44,8 @@ pub fn mend<S: Shelf>(alloc: Global, shelf: &mut S, log: &File) -> Result<(), Op
         LeavesMended (S.files shelf.old) log.now (S.files shelf.new) result }
     ensures since { S.tells → S.files shelf.old Log ≡ Some log.now.bytes →
         IsSettled S.files S.may_leave shelf.old →
-        LeavesOnly S.moment S.left_since shelf.old shelf.new (IsMended (S.files shelf.old) log.now) }
+        LeavesOnly S.moment S.left_since shelf.old shelf.new
+        (IsMended (S.files shelf.old) log.now) }
     ensures settled { S.tells → IsSettled S.files S.may_leave shelf.old →
         OnOk result (IsSettled S.files S.may_leave shelf.new) }
     ensures mail_reads { S.mail_reads shelf.new ≡ S.mail_reads shelf.old }

@@ -111,7 +111,9 @@ fn a_folder_without_a_log_costs_one_read(rt: HostRuntime) -> Result<(), Fail> {
 fn a_log_alone_gives_its_mailbox(rt: HostRuntime) -> Result<(), Fail> {
     let alloc = rt.alloc();
     let log = first_log(alloc, &[0; 4])?;
-    let chain = answer(alloc, log.as_slice(), &[], &[])?.ok().ok_or("a fault")?;
+    let chain = answer(alloc, log.as_slice(), &[], &[])?
+        .ok()
+        .ok_or("a fault")?;
     assert!(rt; has_row(&chain, 8, 4));
     assert!(rt; chain.log.file_seq == 1 && chain.log.end == 92 && chain.log.count == 3);
     assert!(rt; chain.indexid == 1000 && chain.records == 1);
@@ -125,7 +127,10 @@ fn an_open_end_is_closed(rt: HostRuntime) -> Result<(), Fail> {
     let cut = first_log(alloc, &[])?;
     assert_eq!(rt; mended(alloc, cut.as_slice())?.as_slice(), whole.as_slice());
     let gate = first_log(alloc, &[0x80, 0, 0, 0, 7])?;
-    assert_eq!(rt; mended(alloc, gate.as_slice())?.as_slice(), whole.as_slice());
+    assert_eq!(rt;
+        mended(alloc, gate.as_slice())?.as_slice(),
+        whole.as_slice()
+    );
     Ok(())
 }
 
@@ -153,17 +158,13 @@ fn a_bad_record_is_named(rt: HostRuntime) -> Result<(), Fail> {
     let alloc = rt.alloc();
     let log = first_log(alloc, &[0; 4])?;
     let small = changed(alloc, log.as_slice(), 43, 0x81)?;
-    assert!(rt;
-        fault_of(alloc, small.as_slice())? == Some(OpenFault::BadRecord { offset: 40 })
-    );
+    assert!(rt; fault_of(alloc, small.as_slice())? == Some(OpenFault::BadRecord { offset: 40 }));
     let unguarded = changed(alloc, log.as_slice(), 60, 1)?;
     assert!(rt;
         fault_of(alloc, unguarded.as_slice())? == Some(OpenFault::BadRecord { offset: 56 })
     );
     let zero = changed(alloc, log.as_slice(), 64, 0)?;
-    assert!(rt;
-        fault_of(alloc, zero.as_slice())? == Some(OpenFault::BadRecord { offset: 56 })
-    );
+    assert!(rt; fault_of(alloc, zero.as_slice())? == Some(OpenFault::BadRecord { offset: 56 }));
     Ok(())
 }
 
@@ -172,7 +173,9 @@ fn a_bad_record_is_named(rt: HostRuntime) -> Result<(), Fail> {
 fn a_mark_may_stand_in_the_log(rt: HostRuntime) -> Result<(), Fail> {
     let alloc = rt.alloc();
     let log = first_log(alloc, &[0; 4])?;
-    let chain = answer(alloc, log.as_slice(), &[], &OLD_INDEX)?.ok().ok_or("a fault")?;
+    let chain = answer(alloc, log.as_slice(), &[], &OLD_INDEX)?
+        .ok()
+        .ok_or("a fault")?;
     assert!(rt; has_row(&chain, 8, 4) && chain.log.end == 92);
     Ok(())
 }
@@ -181,7 +184,9 @@ fn a_mark_may_stand_in_the_log(rt: HostRuntime) -> Result<(), Fail> {
 fn a_mark_may_stand_in_the_rotated_log(rt: HostRuntime) -> Result<(), Fail> {
     let alloc = rt.alloc();
     let log2 = first_log(alloc, &[0; 4])?;
-    let chain = answer(alloc, &SECOND, log2.as_slice(), &OLD_INDEX)?.ok().ok_or("a fault")?;
+    let chain = answer(alloc, &SECOND, log2.as_slice(), &OLD_INDEX)?
+        .ok()
+        .ok_or("a fault")?;
     assert!(rt; has_row(&chain, 8, 4) && chain.log.file_seq == 2 && chain.log.end == 40);
     Ok(())
 }
@@ -190,7 +195,9 @@ fn a_mark_may_stand_in_the_rotated_log(rt: HostRuntime) -> Result<(), Fail> {
 fn a_mark_may_stand_at_the_named_end(rt: HostRuntime) -> Result<(), Fail> {
     let alloc = rt.alloc();
     let index = changed(alloc, &OLD_INDEX, 40, 92)?;
-    let chain = answer(alloc, &SECOND, &[], index.as_slice())?.ok().ok_or("a fault")?;
+    let chain = answer(alloc, &SECOND, &[], index.as_slice())?
+        .ok()
+        .ok_or("a fault")?;
     assert!(rt; has_row(&chain, 0, 4) && chain.log.end == 40);
     Ok(())
 }
