@@ -25,7 +25,8 @@ fn is_in_span(span: Span, star: u32, n: u32) -> bool
     from.min(to) <= n && n <= from.max(to)
 }
 
-fn is_in_set(set: &[Span], star: u32, n: u32) -> bool
+/// Whether a set has a number; `*` is the number `star` (RFC 3501, section 9, `sequence-set`).
+pub fn is_in_set(set: &[Span], star: u32, n: u32) -> bool
     ensures { result ≡ is_in_set star set.now n }
 {
     set.iter().any(|span| is_in_span(*span, star, n))
@@ -60,7 +61,8 @@ fn missing_end(set: &[Span], count: u32) -> Option<u32>
     None
 }
 
-fn largest_uid(rows: &[Shown]) -> u32
+/// The largest UID of the rows, or 0 where there is none.
+pub fn largest_uid(rows: &[Shown]) -> u32
     ensures { result ≡ fold (λ n s. max n s.uid) 0 rows.now }
 {
     let mut largest = 0;

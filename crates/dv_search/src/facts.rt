@@ -1,0 +1,44 @@
+ghost use Rattle.std.specs.Prelude.{◌≡◌, ℕ, List, Option, Some};
+ghost use Rattle.std.specs.Option.{option_copied};
+ghost use Rattle.dv_search.specs.Facts.{AreRising, facts_of, known_field};
+
+use dv_model::{Bytes, List};
+
+/// What is known of a message, so that keys are tried without reading it again.
+#[derive(Drop)]
+pub struct MailFacts {
+    pub uid: u32,
+    /// The number of bytes where each line ends in CRLF (RFC822.SIZE).
+    pub size: u64,
+    /// Names as they were asked, and the value of the message's first field of that name; `None`
+    /// where it has no such field.
+    pub fields: List<(Bytes, Option<Bytes>)>,
+}
+
+/// The facts of a UID, found by halves.
+pub fn facts_of(mail: &[MailFacts], uid: u32) -> Option<&MailFacts>
+    requires { AreRising mail.now }
+    ensures { option_copied result ≡ facts_of mail.now uid }
+{
+    let at = mail.partition_point(|facts| facts.uid < uid);
+    if at >= mail.len() {
+        return None;
+    }
+    if mail[at].uid != uid {
+        return None;
+    }
+    Some(&mail[at])
+}
+
+/// The value of the field of this name, where it is known that the message has one.
+pub fn value_of<'a>(facts: &'a MailFacts, name: &[u8]) -> Option<&'a Bytes>
+    ensures { (value : Option (List ℕ)) → known_field facts.now.fields name.now ≡ Some value
+        → option_copied result ≡ value }
+{
+    for (known, value) in facts.fields.as_slice() {
+        if known.as_slice() == name {
+            return value.as_ref();
+        }
+    }
+    None
+}
