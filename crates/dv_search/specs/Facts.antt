@@ -1,5 +1,5 @@
 -- What is known of messages, and the rows that a search finds by that (RFC 3501, section 6.4.4).
-use Rattle.std.specs.Prelude.{◌≡◌, ℕ, Bool, true, false, ◌||◌, All, List, [], map, filter, find, Option, Some, None, nat_eq, bytes_eq, if◌then◌else◌}
+use Rattle.std.specs.Prelude.{◌≡◌, ℕ, Bool, true, false, ◌||◌, All, List, [], map, filter, find, Option, Some, None, nat_eq, bytes_eq, slice_get, unwrap_or, if◌then◌else◌}
 use Rattle.std.specs.List.{list_any}
 use Rattle.std.specs.List.Sorted.{IsStrictlyIncreasing}
 use Rattle.std.specs.Option.{option_map}
@@ -73,6 +73,10 @@ is_found key candidate message = if needs_mail key then needing message else mee
     needing : Option (List ℕ) → Bool
     needing None = false
     needing (Some text) = meets key (candidate text)
+
+-- the name stands at this place of a table
+abbrev pub has_name : List (List ℕ) → List ℕ → ℕ → Bool
+has_name names name place = bytes_eq name (unwrap_or (slice_get names place) [])
 
 -- the rows that are found, as they were shown
 abbrev pub found_rows : (ℕ → Option (List ℕ)) → Key → View → Mailbox → List (ℕ × Shown)

@@ -1,4 +1,4 @@
-ghost use Rattle.std.specs.Prelude.{◌≡◌, ℕ, List, Option, Some};
+ghost use Rattle.std.specs.Prelude.{◌≡◌, ℕ, List, Option, Some, bytes_eq, find};
 ghost use Rattle.std.specs.Option.{option_copied};
 ghost use Rattle.dv_search.specs.Facts.{AreRising, facts_of, known_field};
 
@@ -30,15 +30,19 @@ pub fn facts_of(mail: &[MailFacts], uid: u32) -> Option<&MailFacts>
     Some(&mail[at])
 }
 
+fn field_named<'a>(fields: &'a [(Bytes, Option<Bytes>)], name: &[u8]) -> Option<&'a (Bytes, Option<Bytes>)>
+    ensures { option_copied result ≡ find (λ f. bytes_eq f.0 name.now) fields.now }
+{
+    fields.iter().find(|field| field.0.as_slice() == name)
+}
+
 /// The value of the field of this name, where it is known that the message has one.
 pub fn value_of<'a>(facts: &'a MailFacts, name: &[u8]) -> Option<&'a Bytes>
     ensures { (value : Option (List ℕ)) → known_field facts.now.fields name.now ≡ Some value
         → option_copied result ≡ value }
 {
-    for (known, value) in facts.fields.as_slice() {
-        if known.as_slice() == name {
-            return value.as_ref();
-        }
+    match field_named(facts.fields.as_slice(), name) {
+        Some((_, value)) => value.as_ref(),
+        None => None,
     }
-    None
 }

@@ -1,10 +1,9 @@
-ghost use Rattle.std.specs.Prelude.{◌≡◌, ℕ, List, Option, Some, bytes_eq, map, IfOk};
+ghost use Rattle.std.specs.Prelude.{◌≡◌, [], ℕ, List, Option, Some, bytes_eq, map, slice_get, unwrap_or, IfOk};
 ghost use Rattle.std.specs.List.{list_all, list_any};
 ghost use Rattle.std.specs.Option.{option_copied};
 ghost use Rattle.dv_model.specs.declared.types.Key.TheVariants as key;
 ghost use Rattle.dv_model.specs.Searches.{meets, needs_mail};
-ghost use Rattle.dv_view.specs.Tells.{names_at};
-ghost use Rattle.dv_search.specs.Facts.{AreKnown, candidate_of, is_found};
+ghost use Rattle.dv_search.specs.Facts.{AreKnown, candidate_of, has_name, is_found};
 
 use crate::facts::{MailFacts, value_of};
 use crate::text::contains;
@@ -25,20 +24,27 @@ pub struct Candidate<'a> {
     pub facts: Option<&'a MailFacts>,
 }
 
-// Whether the name stands at one of these places of the table.
-fn has_keyword(names: &[Bytes], places: &[u32], name: &[u8]) -> bool
-    ensures { result ≡ list_any (bytes_eq name.now) (names_at names.now places.now) }
+// The name at a place of the table, or no bytes where it has none there.
+fn name_at(names: &[Bytes], place: u32) -> &[u8]
+    ensures { result.now ≡ unwrap_or (slice_get names.now place) [] }
 {
-    for place in places {
-        let known = match names.get(*place as usize) {
-            Some(known) => known.as_slice(),
-            None => &[],
-        };
-        if known == name {
-            return true;
-        }
+    match names.get(place as usize) {
+        Some(name) => name.as_slice(),
+        None => &[],
     }
-    false
+}
+
+fn has_name(names: &[Bytes], place: u32, name: &[u8]) -> bool
+    ensures { result ≡ has_name names.now name.now place }
+{
+    name == name_at(names, place)
+}
+
+// Whether the name stands at one of these places.
+fn has_keyword(names: &[Bytes], places: &[u32], name: &[u8]) -> bool
+    ensures { result ≡ list_any (has_name names.now name.now) places.now }
+{
+    places.iter().any(|place| has_name(names, *place, name))
 }
 
 fn is_larger(c: &Candidate, size: u32) -> bool

@@ -1,0 +1,1 @@
+-- Keys of a text nest no deeper than the text's grammar lets them.

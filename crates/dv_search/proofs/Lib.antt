@@ -1,0 +1,5 @@
+pub mod Known
+pub mod Levels
+pub mod Looking
+pub mod Meeting
+pub mod Texts
