@@ -24,10 +24,11 @@ pub fn facts_of(mail: &[MailFacts], uid: u32) -> Option<&MailFacts>
     if at >= mail.len() {
         return None;
     }
-    if mail[at].uid != uid {
+    let facts = &mail[at];
+    if facts.uid != uid {
         return None;
     }
-    Some(&mail[at])
+    Some(facts)
 }
 
 fn field_named<'a>(fields: &'a [(Bytes, Option<Bytes>)], name: &[u8]) -> Option<&'a (Bytes, Option<Bytes>)>

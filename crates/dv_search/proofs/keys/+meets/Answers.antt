@@ -1,11 +1,11 @@
 use Rattle.std.proofs.Common.{◌≡◌, ◌∙◌, ap, sym, rules, subst, not, List, map, take, ℕ, Some, IfOk, Bool, true, false, ◌+◌}
-use Rattle.std.specs.List.{list_all}
+use Rattle.std.specs.List.{list_all, list_any}
 use Rattle.std.specs.Option.{option_copied}
 use Rattle.std.proofs.lemmas.List.{take_all}
 use Rattle.dv_model.specs.declared.types.Key.{Key}
 use Rattle.dv_model.specs.declared.types.Key.TheVariants as key
 use Rattle.dv_model.specs.Searches.{meets}
-use Rattle.dv_search.specs.Facts.{AreKnown, candidate_of}
+use Rattle.dv_search.specs.Facts.{AreKnown, candidate_of, has_name}
 use Rattle.dv_search.proofs.Meeting.{Answers, AnswersAll, met-Not, met-Keyword, met-first, met-second, met-And, met-not-all, met-more}
 use Rattle.dv_search.proofs.keys.+meets.Goals as goal
 
@@ -59,3 +59,10 @@ meets_all-returns t c =
     let items = c.as_slice-key-items.result.now in
     λ message known.
       sym (c.loop-key.invariant message known) ∙ ap (λ ks. list_all (λ met. met (a message)) (map meets ks)) (take_all c.loop-key.key-index items c.loop-key-test.false ∙ c.as_slice-key-items.ensures)
+
+pub meets-returns-in-Keyword : goal.meets-returns-in-Keyword
+meets-returns-in-Keyword t c =
+    let facts = option_copied c.args.c.now.facts in
+    let is : c.args.k.now ≡ key.Keyword c.in-Keyword.name = search rules in
+    let found : c.has_keyword.result ≡ list_any (has_name c.args.c.now.names.now c.in-Keyword.name) c.args.c.now.shown.now.keywords = search rules in
+    subst (λ k. Answers facts c.args.c.now k c.has_keyword.result) (sym is) (met-Keyword facts c.args.c.now c.in-Keyword.name c.has_keyword.result found)
