@@ -1,17 +1,20 @@
 -- Where the item with a number stands among items by rising numbers, and where the field of a name stands.
-use Rattle.std.proofs.Common.{◌≡◌, ◌≢◌, ◌⊎◌, inl, inr, ℕ, ◌<◌, ◌≤◌, true, false, eqb, ltb, List, length, get_or, Option, Some, None, sym, ◌∙◌, ap, subst, arith}
+use Rattle.std.proofs.Common.{◌≡◌, ◌≢◌, ◌⊎◌, inl, inr, ℕ, ◌<◌, ◌≤◌, true, false, eqb, ltb, List, [], ◌∷◌, ◌++◌, All, length, get_or, Option, Some, None, sym, ◌∙◌, ap, subst, arith}
 use Rattle.std.specs.Prelude.{map, find, nat_eq, bytes_eq, slice_get, unwrap_or}
 use Rattle.std.specs.List.{position_or_len}
 use Rattle.std.specs.List.Sorted.{IsPartitionedBy, IsPartitionPoint, IsStrictlyIncreasing}
 use Rattle.std.specs.Option.{option_map}
 use Rattle.std.proofs.lemmas.Bool.{cases_lt, eq-eqb, ltb-true, ltb-false, ne_eqb}
-use Rattle.std.proofs.lemmas.List.{get_or-map, length-map}
+use Rattle.std.proofs.lemmas.List.{get_or-map, length-map, map-append}
+use Rattle.std.proofs.lemmas.List.Elements.{All-map}
 use Rattle.std.proofs.lemmas.List.Folds.{find_at}
 use Rattle.std.proofs.lemmas.List.Kept.{AllPairs-from_increasing}
 use Rattle.std.proofs.lemmas.List.Sorted.{IsPartitionedBy-ltb}
 use Rattle.std.proofs.lemmas.List.Sums.{position_or_len_is}
 use Rattle.std.proofs.lemmas.Option.{slice_get_past}
-use Rattle.dv_search.specs.Facts.{known_field}
+use Rattle.dv_search.specs.Facts.{AreRising, known_field}
+use Rattle.dv_search.specs.declared.facts.MailFacts.{MailFacts}
+use Rattle.dv_validity.proofs.Rows.{rising_push}
 
 -- ---- by number
 
@@ -66,6 +69,11 @@ module _ {X : Type 0} (n : X → ℕ) (xs : List X) (u : ℕ) where
 
     pub between : (at : ℕ) (x : X) → IsPlace at → at < length xs → x ≡ get_or xs at x → n x ≢ u → find (λ x. nat_eq (n x) u) xs ≡ None
     between at x place inside is other = none x (λ k h. not_at at x place inside is other k h (cases_lt k at) (cases_lt at k))
+
+-- one more behind those before it
+pub rising_more : (mail : List MailFacts) (f : MailFacts) → AreRising mail → All (λ (x : MailFacts). x.uid < f.uid) mail → AreRising (mail ++ f ∷ [])
+rising_more mail f rising low =
+    subst IsStrictlyIncreasing (sym (map-append (λ (x : MailFacts). x.uid) mail (f ∷ []))) (rising_push (map (λ (x : MailFacts). x.uid) mail) f.uid rising (All-map (λ n. n < f.uid) (λ (x : MailFacts). x.uid) mail low))
 
 -- ---- by name
 

@@ -1,9 +1,9 @@
 -- A key is met by the answers of the keys inside it.
 use Rattle.std.proofs.Common.{◌≡◌, ℕ, ◌<◌, Bool, true, false, ◌||◌, ◌&&◌, ◌+◌, not, List, [], ◌∷◌, length, get_or, map, take, Option, Some, None, Result, Ok, Err, refl, sym, ap, subst, ◌∙◌}
-use Rattle.std.specs.Prelude.{IfOk, bytes_eq, nat_lt}
+use Rattle.std.specs.Prelude.{IfOk, bytes_eq, nat_lt, slice_get, unwrap_or}
 use Rattle.std.specs.List.{list_all, list_any}
 use Rattle.std.specs.Str.{str_to_ascii_lowercase}
-use Rattle.std.proofs.lemmas.List.Folds.{list_all_at, list_all_more}
+use Rattle.std.proofs.lemmas.List.Folds.{list_all-map, list_all_at, list_all_more}
 use Rattle.std.proofs.lemmas.List.{take_all}
 use Rattle.std.proofs.lemmas.Slice.Eq.{bytes_eq-Decides}
 use Rattle.dv_model.specs.declared.memory.NoMemory.{NoMemory}
@@ -16,7 +16,7 @@ use Rattle.dv_search.specs.declared.facts.MailFacts.{MailFacts}
 use Rattle.dv_search.specs.declared.keys.Candidate.{Candidate as Tried}
 use Rattle.dv_search.specs.Facts.{AreFacts, AreKnown, Describes, candidate_of, has_name, known_field}
 use Rattle.dv_view.specs.Tells.{names_at}
-use Rattle.dv_search.proofs.Known.{known-Not, asks-Header, known-Not, known-first, known-second, known-each}
+use Rattle.dv_search.proofs.Asking.{any_of_made, asks-Header, known-Not, known-first, known-second, known-each}
 
 -- the answer for a key, whatever the message of which the facts are known
 abbrev pub Answers : Option MailFacts → Tried → Key → Bool → Type 0
@@ -39,19 +39,10 @@ module _ (facts : Option MailFacts) (c : Tried) where
 
   -- ---- keywords
 
-  any_of_names : (names : List (List ℕ)) (name : List ℕ) (places : List ℕ) → list_any (has_name names name) places ≡ list_any (bytes_eq name) (names_at names places)
-  any_of_names names name [] = refl
-  any_of_names names name (k ∷ places) = ap (λ b. has_name names name k || b) (any_of_names names name places)
-
   pub met-Keyword : (name : List ℕ) (b : Bool) → b ≡ list_any (has_name c.names.now name) c.shown.now.keywords → Answers facts c (key.Keyword name) b
-  met-Keyword name b is message known = is ∙ any_of_names c.names.now name c.shown.now.keywords ∙ sym (meets-Keyword (candidate_of c message) name)
+  met-Keyword name b is message known = is ∙ sym (any_of_made (bytes_eq name) (λ k. unwrap_or (slice_get c.names.now k) []) c.shown.now.keywords) ∙ sym (meets-Keyword (candidate_of c message) name)
 
   -- ---- several keys
-
-  -- what is asked of all keys is asked of each in its turn
-  all_of_map : {X : Type 0} (p : X → Candidate → Bool) (a : Candidate) (xs : List X) → list_all (λ met. met a) (map p xs) ≡ list_all (λ x. p x a) xs
-  all_of_map p a [] = refl
-  all_of_map p a (x ∷ xs) = ap (λ b. p x a && b) (all_of_map p a xs)
 
   -- the answer for several keys
   abbrev pub AnswersAll : List Key → List Key → Bool → Type 0
@@ -61,14 +52,14 @@ module _ (facts : Option MailFacts) (c : Tried) where
   met-not-all keys i d b less here unmet is message known =
       let a = candidate_of c message in
       let first = ap (λ (k : Key). meets k a) (sym here) ∙ sym (is message (subst (λ k. AreKnown k (Some message) facts) (sym here) (known-each (Some message) facts keys i d less known))) ∙ unmet in
-      unmet ∙ sym (all_of_map meets a keys ∙ list_all_at (λ k. meets k a) keys i d less first)
+      unmet ∙ sym (list_all-map (λ met. met a) meets keys ∙ list_all_at (λ k. meets k a) keys i d less first)
 
   pub met-more : (keys : List Key) (i : ℕ) (d : Key) (b : Bool) → i < length keys → d ≡ get_or keys i d → b ≡ true → Answers facts c d b
       → AnswersAll keys (take i keys) true → AnswersAll keys (take (i + 1) keys) true
   met-more keys i d b less here met is before message known =
       let a = candidate_of c message in
       let last = ap (λ (k : Key). meets k a) (sym here) ∙ sym (is message (subst (λ k. AreKnown k (Some message) facts) (sym here) (known-each (Some message) facts keys i d less known))) ∙ met in
-      sym (all_of_map meets a (take (i + 1) keys) ∙ list_all_more (λ k. meets k a) keys i d less ∙ ap (λ b. list_all (λ k. meets k a) (take i keys) && b) last ∙ ap (λ b. b && true) (sym (before message known ∙ all_of_map meets a (take i keys))))
+      sym (list_all-map (λ met. met a) meets (take (i + 1) keys) ∙ list_all_more (λ k. meets k a) keys i d less ∙ ap (λ b. list_all (λ k. meets k a) (take i keys) && b) last ∙ ap (λ b. b && true) (sym (before message known ∙ list_all-map (λ met. met a) meets (take i keys))))
 
   pub if_ok-same : (x y : Bool) → x ≡ y → (r : Result Bool NoMemory) → IfOk r (λ b. b ≡ x) → IfOk r (λ b. b ≡ y)
   if_ok-same x y same (Ok b) is = is ∙ same

@@ -31,7 +31,10 @@ pub fn facts_of(mail: &[MailFacts], uid: u32) -> Option<&MailFacts>
     Some(facts)
 }
 
-fn field_named<'a>(fields: &'a [(Bytes, Option<Bytes>)], name: &[u8]) -> Option<&'a (Bytes, Option<Bytes>)>
+fn field_named<'a>(
+    fields: &'a [(Bytes, Option<Bytes>)],
+    name: &[u8],
+) -> Option<&'a (Bytes, Option<Bytes>)>
     ensures { option_copied result ≡ find (λ f. bytes_eq f.0 name.now) fields.now }
 {
     fields.iter().find(|field| field.0.as_slice() == name)

@@ -3,12 +3,19 @@
 
 mod facts;
 mod keys;
+mod known;
 mod law;
+mod levels;
 mod mail;
 mod search;
 mod text;
 
 pub use facts::MailFacts;
+pub use known::Mail;
 pub use law::{search_says_found, sought_is_shallow};
+pub use levels::is_shallow;
 pub use mail::needs_mail;
 pub use search::eval;
+
+#[cfg(test)]
+mod tests;

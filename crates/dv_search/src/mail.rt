@@ -33,7 +33,7 @@ fn any_reads(keys: &Items<Key>) -> bool
 /// Whether a LARGER or a HEADER stands in the key, so that a search reads messages.
 pub fn needs_mail(k: &Key) -> bool
     // Keys nest as deep as the grammar of a SEARCH lets them, so that the stack is short.
-    requires shallow { levels_of k.now ≤ most_levels }
+    requires { levels_of k.now ≤ most_levels }
     ensures { result ≡ needs_mail k.now }
 {
     reads(k)

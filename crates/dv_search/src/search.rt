@@ -1,9 +1,9 @@
 ghost use Rattle.std.specs.Prelude.{◌≡◌, ◌≤◌, ℕ, List, Option, map, IfOk};
-ghost use Rattle.dv_search.specs.Facts.{AreAllKnown, AreRising, found_rows};
+ghost use Rattle.dv_search.specs.Facts.{AreAllKnown, found_rows};
 ghost use Rattle.dv_search.specs.Nesting.{levels_of, most_levels};
 
-use crate::facts::{MailFacts, facts_of};
 use crate::keys::{Candidate, is_found};
+use crate::known::Mail;
 use crate::mail::needs_mail;
 use dv_apply::Live;
 use dv_model::{Key, List, NoMemory};
@@ -20,11 +20,10 @@ pub fn eval(
     k: &Key,
     v: &View,
     live: &Live,
-    mail: &List<MailFacts>,
+    mail: &Mail,
 ) -> Result<List<u32>, NoMemory>
     // Keys nest as deep as the grammar of a SEARCH lets them, so that the stack is short.
-    requires shallow { levels_of k.now ≤ most_levels }
-    requires rising { AreRising mail.now }
+    requires { levels_of k.now ≤ most_levels }
     // So it is for all messages that have these facts, and where rows without facts have none.
     ensures { (message : ℕ → Option (List ℕ)) → AreAllKnown k.now message mail.now v.now.rows
         → IfOk result (λ numbers. numbers
@@ -38,7 +37,7 @@ pub fn eval(
     let mut number = 0;
     for shown in rows {
         number += 1;
-        let facts = facts_of(mail.as_slice(), shown.uid);
+        let facts = mail.of(shown.uid);
         let c = Candidate {
             shown,
             names,

@@ -58,7 +58,7 @@ meets_all-returns t c =
     let a = candidate_of c.args.c.now in
     let items = c.as_slice-key-items.result.now in
     λ message known.
-      sym (c.loop-key.invariant message known) ∙ ap (λ ks. list_all (λ met. met (a message)) (map meets ks)) (take_all c.loop-key.key-index items c.loop-key-test.false ∙ c.as_slice-key-items.ensures)
+    sym (c.loop-key.invariant message known) ∙ ap (λ ks. list_all (λ met. met (a message)) (map meets ks)) (take_all c.loop-key.key-index items c.loop-key-test.false ∙ c.as_slice-key-items.ensures)
 
 pub meets-returns-in-Keyword : goal.meets-returns-in-Keyword
 meets-returns-in-Keyword t c =

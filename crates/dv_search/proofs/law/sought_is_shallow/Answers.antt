@@ -1,4 +1,4 @@
-use Rattle.dv_search.proofs.Levels.{sought_levels}
+use Rattle.dv_search.proofs.Depths.{sought_levels}
 use Rattle.dv_search.proofs.law.sought_is_shallow.Goals as goal
 
 pub returns : goal.returns

@@ -2,7 +2,7 @@ use Rattle.std.proofs.Common.{◌∙◌, List, ap, map, sym}
 use Rattle.std.specs.List.{list_any}
 use Rattle.dv_model.specs.declared.types.Key.{Key}
 use Rattle.dv_model.specs.Searches.{needs_mail}
-use Rattle.dv_search.proofs.Known.{one_of}
+use Rattle.dv_search.proofs.Asking.{one_of}
 use Rattle.dv_search.proofs.mail.+mail.Goals as goal
 
 pub any_reads-returns-then-reads : goal.any_reads-returns-then-reads

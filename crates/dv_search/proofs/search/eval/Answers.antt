@@ -28,8 +28,8 @@ loop-shown-preserved c =
     let all = c.as_slice-rows.ensures ∙ c.rows.ensures.is in
     let names = c.names-names.ensures.is ∙ c.names.ensures in
     let largest : c.largest_uid-largest_uid.result ≡ largest_uid view = c.largest_uid-largest_uid.ensures ∙ ap (fold (λ n s. max n s.uid) 0) all in
-    let facts : option_copied c.facts_of-facts.result ≡ facts_of mail shown.uid = c.facts_of-facts.ensures ∙ ap (λ fs. facts_of fs shown.uid) c.as_slice.ensures in
-    let test = step k view m mail rows i shown c.names-names.result.now c.largest_uid-largest_uid.result c.in_ok-is_found.field-0 (option_copied c.facts_of-facts.result) all c.loop-shown-test.true c.shown-item.is names largest facts c.in_ok-is_found.ensures in
+    let facts : option_copied c.of-facts.result ≡ facts_of mail shown.uid = c.of-facts.ensures in
+    let test = step k view m mail rows i shown c.names-names.result.now c.largest_uid-largest_uid.result c.in_ok-is_found.field-0 (option_copied c.of-facts.result) all c.loop-shown-test.true c.shown-item.is names largest facts c.in_ok-is_found.ensures in
     let number : c.loop-shown.number + 1 ≡ i + 1 = ap (λ n. n + 1) c.loop-shown.invariant.counted in
     elim c.if-branch.branch [
       | then-branch+in_ok-push w ↦ record {

@@ -1,7 +1,8 @@
 -- What is known of a message for a key is known for the keys inside it.
-use Rattle.std.proofs.Common.{◌≡◌, ℕ, suc, zero, ◌<◌, Bool, true, false, ◌||◌, not, List, [], ◌∷◌, length, get_or, map, Option, Some, None, refl, sym, ap, ◌∙◌, arith}
+use Rattle.std.proofs.Common.{◌≡◌, ℕ, ◌<◌, Bool, true, false, ◌||◌, not, List, [], ◌∷◌, length, get_or, map, Option, Some, None, refl, sym, ap, ◌∙◌, arith}
 use Rattle.std.specs.Prelude.{bytes_eq}
 use Rattle.std.specs.List.{list_any, list_all}
+use Rattle.std.proofs.lemmas.List.Folds.{list_any_at}
 use Rattle.dv_model.specs.declared.types.Key.{Key, fold-roll-Key}
 use Rattle.dv_model.specs.declared.types.Key.TheOpen.{Key-F}
 use Rattle.dv_model.specs.declared.types.Key.TheVariants as key
@@ -14,15 +15,18 @@ use Rattle.dv_search.specs.Facts.{AreFacts, AreKnown, asks, asks_step}
 
 -- ---- tests of the keys of a list
 
+-- a test of what is made of the items
+pub any_of_made : {X Y : Type 0} (p : Y → Bool) (f : X → Y) (xs : List X) → list_any p (map f xs) ≡ list_any (λ x. p (f x)) xs
+any_of_made p f [] = refl
+any_of_made p f (x ∷ xs) = ap (λ b. p (f x) || b) (any_of_made p f xs)
+
 or-true : (b : Bool) → (b || true) ≡ true
 or-true true = refl
 or-true false = refl
 
 -- one of them passes
 pub one_of : {X : Type 0} (p : X → Bool) (xs : List X) (i : ℕ) (d : X) → i < length xs → p (get_or xs i d) ≡ true → list_any (λ b. b) (map p xs) ≡ true
-one_of p [] i d less passes = absurd (omega arith)
-one_of p (x ∷ xs) zero d less passes = ap (λ b. b || list_any (λ b. b) (map p xs)) passes
-one_of p (x ∷ xs) (suc i) d less passes = ap (λ b. p x || b) (one_of p xs i d (omega arith) passes) ∙ or-true (p x)
+one_of p xs i d less passes = any_of_made (λ b. b) p xs ∙ list_any_at p xs i d less passes
 
 -- ---- what keys ask
 
@@ -64,9 +68,4 @@ module _ (message : Option (List ℕ)) (facts : Option MailFacts) where
 
   pub known-each : (keys : List Key) (i : ℕ) (d : Key) → i < length keys → AreKnown (key.And keys) message facts → AreKnown (get_or keys i d) message facts
   known-each keys i d less =
-      known_less (key.And keys) (get_or keys i d) (λ reads. needs_mail-And keys ∙ one_of needs_mail keys i d less reads) (λ name asked. asks-And keys name ∙ asked_of keys name i d less asked)
-    where
-      asked_of : (keys : List Key) (name : List ℕ) (i : ℕ) (d : Key) → i < length keys → asks (get_or keys i d) name ≡ true → list_any (λ asks. asks name) (map asks keys) ≡ true
-      asked_of [] name i d less asked = absurd (omega arith)
-      asked_of (k ∷ keys) name zero d less asked = ap (λ b. b || list_any (λ asks. asks name) (map asks keys)) asked
-      asked_of (k ∷ keys) name (suc i) d less asked = ap (λ b. asks k name || b) (asked_of keys name i d (omega arith) asked) ∙ or-true (asks k name)
+      known_less (key.And keys) (get_or keys i d) (λ reads. needs_mail-And keys ∙ one_of needs_mail keys i d less reads) (λ name asked. asks-And keys name ∙ any_of_made (λ (asks : List ℕ → Bool). asks name) asks keys ∙ list_any_at (λ k. asks k name) keys i d less asked)

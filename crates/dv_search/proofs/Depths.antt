@@ -1,8 +1,11 @@
 -- Keys of a text nest no deeper than the text's grammar lets them.
-use Rattle.std.proofs.Common.{◌≡◌, ◌⊎◌, inl, inr, ℕ, zero, suc, ◌≤◌, List, [], ◌∷◌, sym, ap, ◌∙◌, subst, arith}
-use Rattle.std.specs.Prelude.{fold, map, max}
+use Rattle.std.proofs.Common.{◌≡◌, ◌⊎◌, inl, inr, ℕ, zero, suc, ◌≤◌, List, [], ◌∷◌, ◌-◌, Bool, true, false, ◌&&◌, refl, sym, ap, ◌∙◌, subst, arith}
+use Rattle.std.specs.Prelude.{fold, map, max, nat_le}
+use Rattle.std.specs.List.{list_all}
+use Rattle.std.proofs.lemmas.Bool.{and_from, and_parts, false≢true, le-leb, leb-true}
 use Rattle.dv_model.specs.declared.types.Key.{Key, out-Key, roll-Key, roll-out-Key, fold-roll-Key}
 use Rattle.dv_model.specs.declared.types.Key.TheOpen.{Key-F}
+use Rattle.dv_model.specs.declared.types.Key.TheVariants as key
 use Rattle.dv_formats.specs.Scripts.{AreKeys, AreSought, IsKey, IsWord, key_levels}
 use Rattle.dv_search.specs.Nesting.{level_step, levels_of, most_levels}
 
@@ -25,6 +28,8 @@ word_level (Key-F.Header name text) b is = fold-roll-Key ℕ level_step (Key-F.H
 word_level (Key-F.Not key) b is = absurd is
 word_level (Key-F.Or one other) b is = absurd is
 word_level (Key-F.And keys) b is = absurd is
+
+-- ---- the keys of a text
 
 mutual
   shallow : (key : Key) (levels : ℕ) (b : List ℕ) → IsKey key levels b → levels_of key ≤ levels
@@ -60,3 +65,36 @@ sought_levels key b (inr several) =
     let deep : levels_of key ≡ suc (fold max 0 (map levels_of keys)) = layered key (Key-F.And keys) several.2 ∙ fold-roll-Key ℕ level_step (Key-F.And keys) in
     let less = all_shallow 0 keys key_levels texts (omega arith) several.4 in
     omega arith
+
+-- ---- whether a key nests within so many levels
+
+same_tests : (a b : Bool) → (a ≡ true → b ≡ true) → (b ≡ true → a ≡ true) → a ≡ b
+same_tests true b to from = sym (to refl)
+same_tests false true to from = absurd (false≢true (from refl))
+same_tests false false to from = refl
+
+below : (n levels : ℕ) → 1 ≤ levels → nat_le (suc n) levels ≡ nat_le n (levels - 1)
+below n levels some = same_tests (nat_le (suc n) levels) (nat_le n (levels - 1)) (λ e. le-leb n (levels - 1) (omega (arith, leb-true (suc n) levels e))) (λ e. le-leb (suc n) levels (omega (arith, leb-true n (levels - 1) e)))
+
+max_within : (levels a b : ℕ) → nat_le (max a b) levels ≡ (nat_le a levels && nat_le b levels)
+max_within levels a b =
+    same_tests (nat_le (max a b) levels) (nat_le a levels && nat_le b levels)
+    (λ e. and_from (nat_le a levels) (nat_le b levels) (le-leb a levels (omega (arith, leb-true (max a b) levels e))) (le-leb b levels (omega (arith, leb-true (max a b) levels e))))
+    (λ e. let both = and_parts (nat_le a levels) (nat_le b levels) e in le-leb (max a b) levels (max_least a b levels (leb-true a levels both.0) (leb-true b levels both.1)))
+
+and_true : (b : Bool) → (b && true) ≡ b
+and_true true = refl
+and_true false = refl
+
+and_grouped : (a b c : Bool) → ((a && b) && c) ≡ (a && (b && c))
+and_grouped true b c = refl
+and_grouped false b c = refl
+
+deepest_within : (levels n : ℕ) (keys : List Key) → nat_le (fold max n (map levels_of keys)) levels ≡ (nat_le n levels && list_all (λ key. nat_le (levels_of key) levels) keys)
+deepest_within levels n [] = sym (and_true (nat_le n levels))
+deepest_within levels n (key ∷ keys) =
+    deepest_within levels (max n (levels_of key)) keys ∙ ap (λ b. b && list_all (λ key. nat_le (levels_of key) levels) keys) (max_within levels n (levels_of key)) ∙ and_grouped (nat_le n levels) (nat_le (levels_of key) levels) (list_all (λ key. nat_le (levels_of key) levels) keys)
+
+pub within-And : (keys : List Key) (levels : ℕ) → 1 ≤ levels → nat_le (levels_of (key.And keys)) levels ≡ list_all (λ key. nat_le (levels_of key) (levels - 1)) keys
+within-And keys levels some =
+    ap (λ k. nat_le (levels_of k) levels) (sym (key.rolls-And keys)) ∙ ap (λ n. nat_le n levels) (fold-roll-Key ℕ level_step (Key-F.And keys)) ∙ below (fold max 0 (map levels_of keys)) levels some ∙ deepest_within (levels - 1) 0 keys ∙ ap (λ b. b && list_all (λ key. nat_le (levels_of key) (levels - 1)) keys) (le-leb 0 (levels - 1) (omega arith))
