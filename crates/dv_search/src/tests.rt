@@ -47,58 +47,58 @@ fn view_of(alloc: Global, live: &Live) -> Result<View, NoMemory> {
     Ok(view)
 }
 
+// Keys are made where they are handed in.
+type Made = Result<Key, NoMemory>;
+
 // Whether these rows are found in a view of the first records, when the others were applied too.
 fn finds(
     alloc: Global,
     shown: &[&[u8]],
     later: &[&[u8]],
-    key: &Key,
-    mail: &Mail,
+    key: Made,
+    mail: Result<Mail, NoMemory>,
     wanted: &[u32],
 ) -> Result<bool, NoMemory> {
+    let key = key?;
+    let mail = mail?;
     let mut live = Live::empty(alloc, 1000);
     apply(alloc, &mut live, shown)?;
     let view = view_of(alloc, &live)?;
     apply(alloc, &mut live, later)?;
-    if !is_shallow(key) {
+    if !is_shallow(&key) {
         return Ok(false);
     }
-    let found = eval(alloc, key, &view, &live, mail)?;
+    let found = eval(alloc, &key, &view, &live, &mail)?;
     Ok(found.as_slice() == wanted)
 }
 
-// The same in a view of three rows.
-fn finds_of_three(alloc: Global, key: &Key, mail: &Mail, wanted: &[u32]) -> Result<bool, NoMemory> {
-    finds(alloc, &[APPEND, ADD_K1], &[], key, mail, wanted)
-}
-
-fn keyword(alloc: Global, name: &[u8]) -> Result<Key, NoMemory> {
+fn keyword(alloc: Global, name: &[u8]) -> Made {
     Ok(Key::Keyword(Bytes::from_slice(alloc, name)?))
 }
 
-fn uids(alloc: Global, from: End, to: End) -> Result<Key, NoMemory> {
+fn uids(alloc: Global, from: End, to: End) -> Made {
     Ok(Key::Uid(List::from_slice(alloc, &[Span { from, to }])?))
 }
 
-fn header(alloc: Global, name: &[u8], text: &[u8]) -> Result<Key, NoMemory> {
+fn header(alloc: Global, name: &[u8], text: &[u8]) -> Made {
     Ok(Key::Header {
         name: Bytes::from_slice(alloc, name)?,
         text: Bytes::from_slice(alloc, text)?,
     })
 }
 
-fn not(alloc: Global, key: Key) -> Result<Key, NoMemory> {
-    Ok(Key::Not(Boxed::new(alloc, key)?))
+fn not(alloc: Global, key: Made) -> Made {
+    Ok(Key::Not(Boxed::new(alloc, key?)?))
 }
 
-fn or(alloc: Global, one: Key, other: Key) -> Result<Key, NoMemory> {
-    Ok(Key::Or(Boxed::new(alloc, one)?, Boxed::new(alloc, other)?))
+fn or(alloc: Global, one: Key, other: Made) -> Made {
+    Ok(Key::Or(Boxed::new(alloc, one)?, Boxed::new(alloc, other?)?))
 }
 
-fn and(alloc: Global, one: Key, other: Key) -> Result<Key, NoMemory> {
+fn and(alloc: Global, one: Key, other: Made) -> Made {
     let mut keys = Items::new(alloc);
     keys.push(one)?;
-    keys.push(other)?;
+    keys.push(other?)?;
     Ok(Key::And(keys))
 }
 
@@ -125,117 +125,141 @@ fn mail_of_three(alloc: Global) -> Result<Mail, NoMemory> {
     Ok(mail)
 }
 
+// Whether these of the three rows are found.
+fn finds_of_three(alloc: Global, key: Made, wanted: &[u32]) -> Result<bool, NoMemory> {
+    let mail = mail_of_three(alloc);
+    finds(alloc, &[APPEND, ADD_K1], &[], key, mail, wanted)
+}
+
 #[test]
-fn flags_keywords_and_uids_are_tried(rt: HostRuntime) -> Result<(), Fail> {
+fn flags_are_tried(rt: HostRuntime) -> Result<(), Fail> {
     let alloc = rt.alloc();
-    let mail = Mail::new(alloc);
-    assert!(rt; finds_of_three(alloc, &Key::All, &mail, &[1, 2, 3])?);
-    assert!(rt; finds_of_three(alloc, &Key::Has(8), &mail, &[1])?);
-    assert!(rt; finds_of_three(alloc, &Key::Lacks(16), &mail, &[1, 3])?);
-    assert!(rt; finds_of_three(alloc, &keyword(alloc, b"k1")?, &mail, &[2, 3])?);
-    assert!(rt; finds_of_three(alloc, &keyword(alloc, b"k2")?, &mail, &[])?);
-    let some = uids(alloc, End::Number(7), End::Number(5))?;
-    assert!(rt; finds_of_three(alloc, &some, &mail, &[2])?);
-    assert!(rt; finds_of_three(alloc, &uids(alloc, End::Star, End::Star)?, &mail, &[3])?);
+    assert!(rt; finds_of_three(alloc, Ok(Key::All), &[1, 2, 3])?);
+    assert!(rt; finds_of_three(alloc, Ok(Key::Has(8)), &[1])?);
+    assert!(rt; finds_of_three(alloc, Ok(Key::Lacks(16)), &[1, 3])?);
+    Ok(())
+}
+
+#[test]
+fn keywords_and_uids_are_tried(rt: HostRuntime) -> Result<(), Fail> {
+    let alloc = rt.alloc();
+    assert!(rt; finds_of_three(alloc, keyword(alloc, b"k1"), &[2, 3])?);
+    assert!(rt; finds_of_three(alloc, keyword(alloc, b"k2"), &[])?);
+    let few = uids(alloc, End::Number(7), End::Number(5));
+    assert!(rt; finds_of_three(alloc, few, &[2])?);
+    assert!(rt; finds_of_three(alloc, uids(alloc, End::Star, End::Star), &[3])?);
     Ok(())
 }
 
 #[test]
 fn keys_stand_inside_keys(rt: HostRuntime) -> Result<(), Fail> {
     let alloc = rt.alloc();
-    let mail = Mail::new(alloc);
-    let seen_or_draft = or(alloc, Key::Has(8), Key::Has(16))?;
-    assert!(rt; finds_of_three(alloc, &seen_or_draft, &mail, &[1, 2])?);
-    assert!(rt; finds_of_three(alloc, &not(alloc, seen_or_draft)?, &mail, &[3])?);
-    let k1_and_draft = and(alloc, keyword(alloc, b"k1")?, Key::Has(16))?;
-    assert!(rt; finds_of_three(alloc, &k1_and_draft, &mail, &[2])?);
-    let other = not(alloc, not(alloc, k1_and_draft)?)?;
-    assert!(rt; finds_of_three(alloc, &or(alloc, other, Key::Has(8))?, &mail, &[1, 2])?);
+    let seen_or_draft = or(alloc, Key::Has(8), Ok(Key::Has(16)));
+    assert!(rt; finds_of_three(alloc, not(alloc, seen_or_draft), &[3])?);
+    let draft_and_k1 = and(alloc, Key::Has(16), keyword(alloc, b"k1"));
+    assert!(rt; finds_of_three(alloc, or(alloc, Key::Has(8), draft_and_k1), &[1, 2])?);
+    let other = and(alloc, Key::Lacks(16), keyword(alloc, b"k1"));
+    assert!(rt; finds_of_three(alloc, not(alloc, not(alloc, other)), &[3])?);
     Ok(())
 }
 
 #[test]
 fn messages_are_tried_by_their_facts(rt: HostRuntime) -> Result<(), Fail> {
     let alloc = rt.alloc();
-    let mail = mail_of_three(alloc)?;
-    assert!(rt; finds_of_three(alloc, &Key::Larger(3), &mail, &[1, 3])?);
-    assert!(rt; finds_of_three(alloc, &Key::Larger(4), &mail, &[1])?);
-    assert!(rt; finds_of_three(alloc, &header(alloc, b"Subject", b"LO w")?, &mail, &[1])?);
-    assert!(rt; finds_of_three(alloc, &header(alloc, b"Subject", b"")?, &mail, &[1])?);
-    assert!(rt; finds_of_three(alloc, &header(alloc, b"Subject", b"worlds")?, &mail, &[])?);
+    assert!(rt; finds_of_three(alloc, Ok(Key::Larger(3)), &[1, 3])?);
+    assert!(rt; finds_of_three(alloc, Ok(Key::Larger(4)), &[1])?);
+    assert!(rt; finds_of_three(alloc, header(alloc, b"Subject", b"LO w"), &[1])?);
+    assert!(rt; finds_of_three(alloc, header(alloc, b"Subject", b"worlds"), &[])?);
     Ok(())
 }
 
 #[test]
 fn row_without_facts_is_not_found(rt: HostRuntime) -> Result<(), Fail> {
     let alloc = rt.alloc();
-    let mail = mail_of_three(alloc)?;
-    let not_larger = not(alloc, Key::Larger(4))?;
-    assert!(rt; finds_of_three(alloc, &not_larger, &mail, &[3])?);
-    assert!(rt; finds_of_three(alloc, &or(alloc, Key::All, not_larger)?, &mail, &[1, 3])?);
+    let not_larger = not(alloc, Ok(Key::Larger(4)));
+    assert!(rt; finds_of_three(alloc, not_larger, &[3])?);
+    let all_or_larger = or(alloc, Key::All, Ok(Key::Larger(4)));
+    assert!(rt; finds_of_three(alloc, all_or_larger, &[1, 3])?);
     Ok(())
 }
 
 #[test]
 fn rows_are_searched_as_they_were_shown(rt: HostRuntime) -> Result<(), Fail> {
     let alloc = rt.alloc();
-    let mail = Mail::new(alloc);
-    let later = [EXPUNGE_3, SEE_9];
-    assert!(rt; finds(alloc, &[APPEND], &later, &Key::All, &mail, &[1, 2, 3])?);
-    assert!(rt; finds(alloc, &[APPEND], &later, &Key::Has(8), &mail, &[1])?);
+    let later: [&[u8]; 2] = [EXPUNGE_3, SEE_9];
+    let all = Ok(Key::All);
+    assert!(rt;
+        finds(
+            alloc,
+            &[APPEND],
+            &later,
+            all,
+            mail_of_three(alloc),
+            &[1, 2, 3]
+        )?
+    );
+    let seen = Ok(Key::Has(8));
+    assert!(rt; finds(alloc, &[APPEND], &later, seen, mail_of_three(alloc), &[1])?);
     Ok(())
+}
+
+// Whether these rows are found of one draft with a keyword, whose message has five bytes and no
+// header.
+fn finds_of_draft(alloc: Global, key: Made, wanted: &[u32]) -> Result<bool, NoMemory> {
+    let mut mail = Mail::new(alloc);
+    mail.push(facts(alloc, 1, 5, None)?)?;
+    finds(
+        alloc,
+        &[APPEND_DRAFT, ADD_K1_TO_1],
+        &[],
+        key,
+        Ok(mail),
+        wanted,
+    )
 }
 
 #[test]
 fn draft_without_a_header_is_searched(rt: HostRuntime) -> Result<(), Fail> {
     let alloc = rt.alloc();
-    let draft = [APPEND_DRAFT, ADD_K1_TO_1];
-    let mut mail = Mail::new(alloc);
-    mail.push(facts(alloc, 1, 5, None)?)?;
-    let seen_or_k1 = or(alloc, Key::Has(8), keyword(alloc, b"k1")?)?;
-    assert!(rt; finds(alloc, &draft, &[], &seen_or_k1, &mail, &[1])?);
-    assert!(rt; finds(alloc, &draft, &[], &not(alloc, Key::Has(16))?, &mail, &[])?);
-    assert!(rt; finds(alloc, &draft, &[], &Key::Larger(4), &mail, &[1])?);
-    assert!(rt;
-        finds(
-            alloc,
-            &draft,
-            &[],
-            &header(alloc, b"Subject", b"")?,
-            &mail,
-            &[]
-        )?
-    );
+    let seen_or_k1 = or(alloc, Key::Has(8), keyword(alloc, b"k1"));
+    assert!(rt; finds_of_draft(alloc, seen_or_k1, &[1])?);
+    assert!(rt; finds_of_draft(alloc, not(alloc, Ok(Key::Has(16))), &[])?);
+    assert!(rt; finds_of_draft(alloc, Ok(Key::Larger(4)), &[1])?);
+    assert!(rt; finds_of_draft(alloc, header(alloc, b"Subject", b""), &[])?);
     Ok(())
 }
 
 // NOT so often before ALL.
-fn all_behind_nots(alloc: Global, count: u32) -> Result<Key, NoMemory> {
+fn all_behind_nots(alloc: Global, count: u32) -> Made {
     let mut key = Key::All;
     for _ in 0..count {
-        key = not(alloc, key)?;
+        key = not(alloc, Ok(key))?;
     }
     Ok(key)
 }
 
+fn nests_in_bounds(key: Made) -> Result<bool, NoMemory> {
+    Ok(is_shallow(&key?))
+}
+
 #[test]
 fn keys_nest_so_deep(rt: HostRuntime) -> Result<(), Fail> {
-    assert!(rt; is_shallow(&all_behind_nots(rt.alloc(), 32)?));
-    assert!(rt; !is_shallow(&all_behind_nots(rt.alloc(), 33)?));
+    assert!(rt; nests_in_bounds(all_behind_nots(rt.alloc(), 32))?);
+    assert!(rt; !nests_in_bounds(all_behind_nots(rt.alloc(), 33))?);
     Ok(())
 }
 
-// Whether the key is shallow and reads messages.
-fn reads(key: &Key) -> bool {
-    is_shallow(key) && needs_mail(key)
+fn reads(key: Made) -> Result<bool, NoMemory> {
+    let key = key?;
+    Ok(is_shallow(&key) && needs_mail(&key))
 }
 
 #[test]
 fn larger_and_header_read_messages(rt: HostRuntime) -> Result<(), Fail> {
     let alloc = rt.alloc();
-    let inside = not(alloc, and(alloc, Key::All, Key::Larger(4))?)?;
-    assert!(rt; reads(&or(alloc, Key::Has(8), inside)?));
-    assert!(rt; reads(&header(alloc, b"Subject", b"")?));
-    assert!(rt; !reads(&or(alloc, Key::Has(8), keyword(alloc, b"k1")?)?));
+    let inside = not(alloc, and(alloc, Key::All, Ok(Key::Larger(4))));
+    assert!(rt; reads(or(alloc, Key::Has(8), inside))?);
+    assert!(rt; reads(header(alloc, b"Subject", b""))?);
+    assert!(rt; !reads(or(alloc, Key::Has(8), keyword(alloc, b"k1")))?);
     Ok(())
 }
