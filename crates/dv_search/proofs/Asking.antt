@@ -1,13 +1,12 @@
 -- What is known of a message for a key is known for the keys inside it.
-use Rattle.std.proofs.Common.{◌≡◌, ℕ, ◌<◌, Bool, true, false, ◌||◌, not, List, [], ◌∷◌, length, get_or, map, Option, Some, None, refl, sym, ap, ◌∙◌, arith}
+use Rattle.std.proofs.Common.{◌≡◌, ℕ, ◌<◌, Bool, true, false, ◌||◌, List, [], ◌∷◌, length, get_or, map, Option, Some, None, refl, sym, ap, ◌∙◌}
 use Rattle.std.specs.Prelude.{bytes_eq}
-use Rattle.std.specs.List.{list_any, list_all}
+use Rattle.std.specs.List.{list_any}
 use Rattle.std.proofs.lemmas.List.Folds.{list_any_at}
 use Rattle.dv_model.specs.declared.types.Key.{Key, fold-roll-Key}
 use Rattle.dv_model.specs.declared.types.Key.TheOpen.{Key-F}
 use Rattle.dv_model.specs.declared.types.Key.TheVariants as key
 use Rattle.dv_model.specs.declared.types.Key.TheVariants.{rolls-Header, rolls-Not, rolls-Or, rolls-And}
-use Rattle.dv_model.specs.Fields.{field_of, virtual_size}
 use Rattle.dv_model.specs.Searches.{needs_mail}
 use Rattle.dv_model.proofs.Searching.{needs_mail-Not, needs_mail-Or, needs_mail-And}
 use Rattle.dv_search.specs.declared.facts.MailFacts.{MailFacts}

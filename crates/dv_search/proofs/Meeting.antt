@@ -1,21 +1,19 @@
 -- A key is met by the answers of the keys inside it.
-use Rattle.std.proofs.Common.{◌≡◌, ℕ, ◌<◌, Bool, true, false, ◌||◌, ◌&&◌, ◌+◌, not, List, [], ◌∷◌, length, get_or, map, take, Option, Some, None, Result, Ok, Err, refl, sym, ap, subst, ◌∙◌}
+use Rattle.std.proofs.Common.{◌≡◌, ℕ, ◌<◌, Bool, true, false, ◌||◌, ◌&&◌, ◌+◌, not, List, [], length, get_or, map, take, Option, Some, None, Result, Ok, Err, refl, sym, ap, subst, ◌∙◌}
 use Rattle.std.specs.Prelude.{IfOk, bytes_eq, nat_lt, slice_get, unwrap_or}
 use Rattle.std.specs.List.{list_all, list_any}
 use Rattle.std.specs.Str.{str_to_ascii_lowercase}
 use Rattle.std.proofs.lemmas.List.Folds.{list_all-map, list_all_at, list_all_more}
-use Rattle.std.proofs.lemmas.List.{take_all}
 use Rattle.std.proofs.lemmas.Slice.Eq.{bytes_eq-Decides}
 use Rattle.dv_model.specs.declared.memory.NoMemory.{NoMemory}
 use Rattle.dv_model.specs.declared.types.Key.{Key}
 use Rattle.dv_model.specs.declared.types.Key.TheVariants as key
-use Rattle.dv_model.specs.Searches.{Candidate, contains_text, meets, needs_mail, value_contains}
+use Rattle.dv_model.specs.Searches.{contains_text, meets, needs_mail, value_contains}
 use Rattle.dv_model.specs.Fields.{field_of}
 use Rattle.dv_model.proofs.Searching.{meets-Not, meets-Or, meets-And, meets-Keyword, meets-Larger, meets-Header, needs_mail-Larger, needs_mail-Header}
 use Rattle.dv_search.specs.declared.facts.MailFacts.{MailFacts}
 use Rattle.dv_search.specs.declared.keys.Candidate.{Candidate as Tried}
 use Rattle.dv_search.specs.Facts.{AreFacts, AreKnown, Describes, candidate_of, has_name, known_field}
-use Rattle.dv_view.specs.Tells.{names_at}
 use Rattle.dv_search.proofs.Asking.{any_of_made, asks-Header, known-Not, known-first, known-second, known-each}
 
 -- the answer for a key, whatever the message of which the facts are known

@@ -48,7 +48,8 @@ fn has_keyword(names: &[Bytes], places: &[u32], name: &[u8]) -> bool
 }
 
 fn is_larger(c: &Candidate, size: u32) -> bool
-    ensures { (message : List ℕ) → AreKnown (key.Larger size) (Some message) (option_copied c.now.facts)
+    ensures { (message : List ℕ)
+        → AreKnown (key.Larger size) (Some message) (option_copied c.now.facts)
         → result ≡ meets (key.Larger size) (candidate_of c.now message) }
 {
     match c.facts {
@@ -98,7 +99,8 @@ pub fn meets(alloc: Global, k: &Key, c: &Candidate) -> Result<bool, NoMemory>
 
 #[cycle(meets)]
 fn meets_all(alloc: Global, keys: &Items<Key>, c: &Candidate) -> Result<bool, NoMemory>
-    ensures { (message : List ℕ) → AreKnown (key.And keys.now) (Some message) (option_copied c.now.facts)
+    ensures { (message : List ℕ)
+        → AreKnown (key.And keys.now) (Some message) (option_copied c.now.facts)
         → IfOk result (λ met. met
         ≡ list_all (λ met. met (candidate_of c.now message)) (map meets keys.now)) }
 {

@@ -1,4 +1,4 @@
-use Rattle.std.proofs.Common.{◌≡◌, ◌∙◌, Some, ap, bytes_eq, find, rules, sym}
+use Rattle.std.proofs.Common.{◌≡◌, ◌∙◌, Some, ap, bytes_eq, find, sym}
 use Rattle.std.specs.Option.{option_copied}
 use Rattle.dv_search.proofs.Looking.{value_is}
 use Rattle.dv_search.proofs.facts.value_of.Goals as goal

@@ -1,8 +1,7 @@
-use Rattle.std.proofs.Common.{◌≡◌, ◌∙◌, ap, sym, rules, subst, not, List, map, take, ℕ, Some, IfOk, Bool, true, false, ◌+◌}
+use Rattle.std.proofs.Common.{◌≡◌, ◌∙◌, ap, sym, rules, subst, not, List, map, take, ℕ, Some, IfOk, true, ◌+◌}
 use Rattle.std.specs.List.{list_all, list_any}
 use Rattle.std.specs.Option.{option_copied}
 use Rattle.std.proofs.lemmas.List.{take_all}
-use Rattle.dv_model.specs.declared.types.Key.{Key}
 use Rattle.dv_model.specs.declared.types.Key.TheVariants as key
 use Rattle.dv_model.specs.Searches.{meets}
 use Rattle.dv_search.specs.Facts.{AreKnown, candidate_of, has_name}

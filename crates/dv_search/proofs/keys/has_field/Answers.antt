@@ -1,4 +1,4 @@
-use Rattle.std.proofs.Common.{◌≡◌, ◌∙◌, Some, None, ap, rules, subst, sym, IfOk}
+use Rattle.std.proofs.Common.{◌≡◌, ◌∙◌, Some, None, ap, rules, IfOk}
 use Rattle.std.specs.Option.{option_copied}
 use Rattle.std.specs.Str.{str_to_ascii_lowercase}
 use Rattle.dv_model.specs.declared.types.Key.TheVariants as key

@@ -1,4 +1,4 @@
-use Rattle.std.proofs.Common.{◌≡◌, ◌∙◌, Some, None, ap, nat_lt, rules, subst, sym}
+use Rattle.std.proofs.Common.{◌≡◌, Some, None, nat_lt, rules, subst, sym}
 use Rattle.std.specs.Option.{option_copied}
 use Rattle.dv_model.specs.declared.types.Key.TheVariants as key
 use Rattle.dv_model.proofs.Searching.{needs_mail-Larger}

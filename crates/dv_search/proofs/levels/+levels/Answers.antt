@@ -1,4 +1,4 @@
-use Rattle.std.proofs.Common.{◌≡◌, ◌∙◌, ◌≤◌, ap, arith, rules, sym}
+use Rattle.std.proofs.Common.{◌≡◌, ◌∙◌, ◌≤◌, ap, rules, sym}
 use Rattle.std.specs.Prelude.{nat_le}
 use Rattle.dv_model.specs.declared.types.Key.TheVariants as key
 use Rattle.dv_search.specs.Nesting.{levels_of}

@@ -1,4 +1,4 @@
-use Rattle.std.proofs.Common.{◌≡◌, ◌<◌, ◌+◌, ◌^◌, ◌≤◌, ◌++◌, ◌∷◌, [], ◌∙◌, ℕ, List, Option, Bool, arith, length, get_or, take, ap, sym, refl, map, rules}
+use Rattle.std.proofs.Common.{◌≡◌, ◌<◌, ◌+◌, ◌^◌, ◌++◌, ◌∷◌, [], ◌∙◌, length, take, ap, sym, rules}
 use Rattle.std.specs.Option.{option_copied}
 use Rattle.std.specs.Prelude.{fold, max}
 use Rattle.std.proofs.lemmas.List.{take_all}

@@ -1,5 +1,4 @@
-use Rattle.std.proofs.Common.{◌≡◌, ◌<◌, ◌∙◌, ◌++◌, ◌∷◌, [], ℕ, List, All, ap, length, map, rules, subst, sym}
-use Rattle.dv_search.specs.declared.facts.MailFacts.{MailFacts}
+use Rattle.std.proofs.Common.{◌≡◌, ◌++◌, ◌∷◌, [], rules, subst, sym}
 use Rattle.dv_search.specs.Facts.{AreRising}
 use Rattle.dv_search.proofs.Looking.{rising_more}
 use Rattle.dv_search.proofs.known.Mail.push.Goals as goal
