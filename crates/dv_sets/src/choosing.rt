@@ -29,8 +29,7 @@ fn is_in_span(span: Span, star: u32, n: u32) -> bool
     from.min(to) <= n && n <= from.max(to)
 }
 
-/// Whether a set has the number, where `*` is the largest in use (RFC 3501, section 9,
-/// sequence-set).
+/// Whether a set has a number; `*` is the number `star` (RFC 3501, section 9, `sequence-set`).
 pub fn is_in_set(set: &[Span], star: u32, n: u32) -> bool
     ensures { result ≡ is_in_set star set.now n }
 {
@@ -97,8 +96,8 @@ fn places_by_uid(span: Span, star: u32, rows: &[Shown]) -> Interval
     }
 }
 
-// The largest UID of rows by rising UID.
-fn largest_uid(rows: &[Shown]) -> u32
+/// The largest UID of rows by rising UID, or 0 where there is none.
+pub fn largest_uid(rows: &[Shown]) -> u32
     requires { IsStrictlyIncreasing (map (λ row. row.uid) rows.now) }
     ensures { result ≡ fold (λ n s. max n s.uid) 0 rows.now }
 {

@@ -1,0 +1,37 @@
+-- A row of the view is found by what is at hand of it.
+use Rattle.std.proofs.Common.{◌≡◌, ℕ, ◌+◌, ◌<◌, Bool, List, length, get_or, Option, sym, ap, subst, ◌∙◌, ◌^◌}
+use Rattle.dv_model.specs.declared.types.Key.{Key}
+use Rattle.dv_model.specs.declared.types.Mailbox.{Mailbox}
+use Rattle.dv_model.specs.declared.types.Shown.{Shown}
+use Rattle.dv_model.specs.Searches.{Candidate}
+use Rattle.dv_model.specs.Sessions.{candidate}
+use Rattle.dv_model.specs.Sets.{largest_uid}
+use Rattle.dv_model.specs.Views.{View}
+use Rattle.dv_view.specs.Orders.{IsOrdered}
+use Rattle.dv_view.proofs.Moving.{rising_of_ordered}
+use Rattle.dv_view.proofs.Rising.{few}
+use Rattle.dv_view.specs.Tells.{names_at}
+use Rattle.dv_search.specs.declared.facts.MailFacts.{MailFacts}
+use Rattle.dv_search.specs.Facts.{AreAllKnown, AreKnown, facts_of, is_found}
+
+module _ (k : Key) (view : View) (m : Mailbox) (mail : List MailFacts) where
+  -- the row is found
+  abbrev pub finds : (ℕ → Option (List ℕ)) → ℕ × Shown → Bool
+  finds message row = is_found k (candidate view m row.1) (message row.1.uid)
+
+  -- a row with what is at hand of it
+  abbrev pub at_hand : Shown → List (List ℕ) → ℕ → List ℕ → Candidate
+  at_hand s names largest text = record { uid = s.uid; flags = s.flags; keywords = names_at names s.keywords; largest_uid = largest; message = text }
+
+  pub step : (rows : List Shown) (i : ℕ) (s : Shown) (names : List (List ℕ)) (largest : ℕ) (b : Bool) (o : Option MailFacts) → rows ≡ view.rows → i < length rows → s ≡ get_or rows i s
+      → names ≡ m.keywords → largest ≡ largest_uid view → o ≡ facts_of mail s.uid
+      → ((text : Option (List ℕ)) → AreKnown k text o → b ≡ is_found k (at_hand s names largest) text)
+      → (message : ℕ → Option (List ℕ)) → AreAllKnown k message mail view.rows → finds message (i + 1, get_or rows i s) ≡ b
+  step rows i s names largest b o all less is same_names same_largest facts tried message known =
+      let here : AreKnown k (message (get_or rows i s).uid) (facts_of mail (get_or rows i s).uid) = subst (λ rows. AreAllKnown k message mail rows) (sym all) known i s less in
+      let has : AreKnown k (message s.uid) o = subst (AreKnown k (message s.uid)) (sym facts) (subst (λ (x : Shown). AreKnown k (message x.uid) (facts_of mail x.uid)) (sym is) here) in
+      ap (λ x. finds message (i + 1, x)) (sym is) ∙ ap (λ ns. is_found k (at_hand s ns (largest_uid view)) (message s.uid)) (sym same_names) ∙ ap (λ n. is_found k (at_hand s names n) (message s.uid)) (sym same_largest) ∙ sym (tried (message s.uid) has)
+
+-- there are no more rows than numbers
+pub few_rows : (view : View) → IsOrdered view → length view.rows < 2 ^ 32
+few_rows view ordered = few view.rows (rising_of_ordered view ordered)

@@ -1,0 +1,6 @@
+pub mod Asking
+pub mod Depths
+pub mod Found
+pub mod Looking
+pub mod Meeting
+pub mod Texts
