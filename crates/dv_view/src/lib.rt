@@ -4,10 +4,13 @@
 
 mod client;
 mod copies;
+mod following;
+mod fresh_places;
 mod laws;
 mod moves;
 mod places;
 mod replies;
+mod telling;
 mod view;
 
 pub use client::Client;
