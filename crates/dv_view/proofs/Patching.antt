@@ -55,18 +55,18 @@ same_rows n (x ∷ xs) (y ∷ ys) up down same = by_order (cases_lt x.uid y.uid)
 
 -- ---- one change
 
-abbrev Own : ℕ → Option Shown → Type 0
+abbrev pub Own : ℕ → Option Shown → Type 0
 Own uid row = IfSome row (λ s. s.uid ≡ uid)
 
-own_same : (u uid : ℕ) (row : Option Shown) (rows : List Shown) → Own uid row → uid ≡ u → at_uid u rows ≡ None → at_uid u (option_to_list row ++ rows) ≡ row
+pub own_same : (u uid : ℕ) (row : Option Shown) (rows : List Shown) → Own uid row → uid ≡ u → at_uid u rows ≡ None → at_uid u (option_to_list row ++ rows) ≡ row
 own_same u uid None rows own same none = none
 own_same u uid (Some s) rows own same none = rw (is_same s.uid u (own ∙ same)) refl
 
-own_other : (u uid : ℕ) (row : Option Shown) (rows : List Shown) → Own uid row → nat_eq uid u ≡ false → at_uid u (option_to_list row ++ rows) ≡ at_uid u rows
+pub own_other : (u uid : ℕ) (row : Option Shown) (rows : List Shown) → Own uid row → nat_eq uid u ≡ false → at_uid u (option_to_list row ++ rows) ≡ at_uid u rows
 own_other u uid None rows own other = refl
 own_other u uid (Some s) rows own other = at_tail s rows u (ap (λ v. nat_eq v u) own ∙ other)
 
-own_above : (n uid : ℕ) (row : Option Shown) (rows : List Shown) → Own uid row → n ≤ uid → Above (uid + 1) rows → Above n (option_to_list row ++ rows)
+pub own_above : (n uid : ℕ) (row : Option Shown) (rows : List Shown) → Own uid row → n ≤ uid → Above (uid + 1) rows → Above n (option_to_list row ++ rows)
 own_above n uid None rows own le above = above_lower n (uid + 1) rows (omega arith) above
 own_above n uid (Some s) rows own le above = (omega (arith, own), subst (λ v. Above (v + 1) rows) (sym own) above)
 

@@ -29,7 +29,7 @@ few rows are =
 
 -- ---- the place of a UID
 
-apart : (rows : List Shown) → AreRising rows → (i j : ℕ) (d : Shown) → i < j → j < length rows → (get_or rows i d).uid < (get_or rows j d).uid
+pub apart : (rows : List Shown) → AreRising rows → (i j : ℕ) (d : Shown) → i < j → j < length rows → (get_or rows i d).uid < (get_or rows j d).uid
 apart rows are i j d less inside =
     let uids = map (λ (s : Shown). s.uid) rows in
     let long : length (map (λ (s : Shown). s.uid) rows) ≡ length rows = length-map rows (λ (s : Shown). s.uid) in

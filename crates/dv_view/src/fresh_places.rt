@@ -53,5 +53,6 @@ pub fn has_left(fresh: &[Fresh], uid: u32) -> bool
     if at >= fresh.len() {
         return false;
     }
-    fresh[at].uid == uid && fresh[at].row.is_none()
+    let f = &fresh[at];
+    f.uid == uid && f.row.is_none()
 }
