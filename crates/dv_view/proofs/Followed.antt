@@ -269,6 +269,25 @@ module _ (rows : List Shown) (b : ℕ) (fresh : List Fresh) (rise : Rise b rows)
           ∙ full_at u (at_uid u rows) refl (change_of u fresh) refl
           ∙ sym (patched_at 0 0 u rows fresh rise.above (omega arith) rises))
 
+-- by either step
+pub followed : (step : Step) (rows : List Shown) (b : ℕ) (fresh : List Fresh) → Rise b rows → Rises 0 fresh → AreKnown rows b fresh → (before after renewing adding : List Shown)
+    → before ≡ rows → renewing ≡ filter (λ s. nat_lt s.uid b) (given fresh) → adding ≡ filter (λ s. nat_le b s.uid) (given fresh)
+    → (step ≡ Held → after ≡ map (renewed renewing) before ++ adding)
+    → (step ≡ Full → after ≡ filter (λ s. not (has_left fresh s.uid)) (map (renewed renewing) before) ++ adding)
+    → after ≡ rows_after step rows fresh
+followed Held rows b fresh rise rises known before after renewing adding same renews adds held full =
+    held refl
+    ∙ ap (λ rs. map (renewed renewing) rs ++ adding) same
+    ∙ ap (λ xs. map (renewed xs) rows ++ adding) renews
+    ∙ ap (λ xs. map (renewed (filter (λ s. nat_lt s.uid b) (given fresh))) rows ++ xs) adds
+    ∙ followed_held rows b fresh rise rises known
+followed Full rows b fresh rise rises known before after renewing adding same renews adds held full =
+    full refl
+    ∙ ap (λ rs. filter (λ s. not (has_left fresh s.uid)) (map (renewed renewing) rs) ++ adding) same
+    ∙ ap (λ xs. filter (λ s. not (has_left fresh s.uid)) (map (renewed xs) rows) ++ adding) renews
+    ∙ ap (λ xs. filter (λ s. not (has_left fresh s.uid)) (map (renewed (filter (λ s. nat_lt s.uid b) (given fresh))) rows) ++ xs) adds
+    ∙ followed_full rows b fresh rise rises known
+
 -- ---- the mailbox to which the changes lead
 
 find_shown : (u : ℕ) (rows : List Row) → option_map shown (find (λ row. nat_eq row.uid u) rows) ≡ at_uid u (map shown rows)

@@ -8,3 +8,4 @@ mod Patching
 mod Placing
 mod Renewing
 pub mod Rising
+mod Passing

@@ -13,12 +13,13 @@ use Rattle.dv_model.specs.declared.types.Step.TheVariants.{Held, Full}
 use Rattle.dv_model.specs.Fresh.{patched}
 use Rattle.dv_model.specs.Views.{numbers}
 use Rattle.dv_model.proofs.Clients.{Above, IsOne, each_is_one, each_weaker, false_is_not_true, not_same, not_same_back, not_not, shows}
-use Rattle.dv_view.specs.Following.{has_left, left_number, rows_after, told_of}
+use Rattle.dv_view.specs.Following.{has_left, left_number, renewed, rows_after, told_of}
 use Rattle.dv_view.specs.Tells.{removals_of}
 use Rattle.dv_view.proofs.Finding.{any_by_place, any_is_found}
 use Rattle.dv_view.proofs.Followed.{has_none, left_is}
 use Rattle.dv_view.proofs.Patching.{Rises, at_uid, change_of, is_same, now, patched_at, same_is}
 use Rattle.dv_view.proofs.Placing.{left_none, rises_some}
+use Rattle.dv_view.proofs.Renewing.{renewed_uid}
 
 -- ---- each row of a list is shown
 
@@ -217,3 +218,36 @@ lost_last rows fresh at f o some inside is number =
     by_number : (o : Option ℕ) → expunges (lost rows (take (at - 1) fresh) ++ option_to_list o) ≡ map (λ n. reply.Expunge n) (option_to_list o) ++ expunges (lost rows (take (at - 1) fresh))
     by_number (Some n) = ap (map (λ n. reply.Expunge n)) (reverse-append (lost rows (take (at - 1) fresh)) (n ∷ []))
     by_number None = ap expunges (append-nil (lost rows (take (at - 1) fresh)))
+
+-- ---- where no row of the view has left
+
+pub none_left : (rows : List Shown) (u : ℕ) → shows rows u ≡ true → (fresh : List Fresh) → list_any (λ f. is_some (left_number rows f)) fresh ≡ false → has_left fresh u ≡ false
+none_left rows u here [] none = refl
+none_left rows u here (f ∷ fresh) none =
+    let parts = or_parts (is_some (left_number rows f)) (list_any (λ (g : Fresh). is_some (left_number rows g)) fresh) none in
+    by_row f.row refl (nat_eq f.uid u) refl parts.0 (none_left rows u here fresh parts.1)
+  where
+    or_parts : (a b : Bool) → (a || b) ≡ false → (a ≡ false) × (b ≡ false)
+    or_parts true b e = false_is_not_true (sym e)
+    or_parts false b e = (refl, e)
+
+    some_map : (o : Option ℕ) → is_some (option_map suc o) ≡ is_some o
+    some_map (Some i) = refl
+    some_map None = refl
+
+    by_row : (row : Option Shown) → f.row ≡ row → (c : Bool) → nat_eq f.uid u ≡ c → is_some (left_number rows f) ≡ false → has_left fresh u ≡ false → ((c && not (is_some row)) || has_left fresh u) ≡ false
+    by_row row is false e none rest = rest
+    by_row (Some s) is true e none rest = rest
+    by_row None is true e none rest =
+        let number : left_number rows f ≡ option_map suc (place f.uid rows) = rw is refl in
+        let same = same_is f.uid u e in
+        false_is_not_true (sym none ∙ ap is_some number ∙ some_map (place f.uid rows) ∙ sym (any_by_place (λ (s : Shown). nat_eq s.uid f.uid) rows (place f.uid rows) refl) ∙ ap (shows rows) same ∙ here)
+
+pub all_stay : (rows made : List Shown) (fresh : List Fresh) → list_any (λ f. is_some (left_number rows f)) fresh ≡ false → filter (λ s. not (has_left fresh s.uid)) (map (renewed made) rows) ≡ map (renewed made) rows
+all_stay rows made fresh none = by_rows rows (all_shown rows)
+  where
+    by_rows : (part : List Shown) → AllByRecursion (λ s. shows rows s.uid ≡ true) part → filter (λ s. not (has_left fresh s.uid)) (map (renewed made) part) ≡ map (renewed made) part
+    by_rows [] each = refl
+    by_rows (s ∷ part) each =
+        let stays : has_left fresh (renewed made s).uid ≡ false = ap (has_left fresh) (renewed_uid made s) ∙ none_left rows s.uid each.0 fresh none in
+        rw stays (ap (λ rs. renewed made s ∷ rs) (by_rows part each.1))

@@ -1,9 +1,10 @@
 -- How far the changes have been told.
-use Rattle.std.specs.Prelude.{◌≡◌, ℕ, ◌+◌, ◌≤◌, ◌<◌, ◌&&◌, not, List, [], ◌∷◌, ◌++◌, drop, length, nat_eq, if◌then◌else◌}
+use Rattle.std.specs.Prelude.{◌≡◌, ℕ, ◌+◌, ◌≤◌, ◌<◌, Bool, true, is_some, ◌&&◌, not, List, [], ◌∷◌, ◌++◌, drop, length, nat_eq, if◌then◌else◌}
 use Rattle.std.specs.List.Sorted.{IsPartitionPoint}
 use Rattle.dv_model.specs.declared.types.Fresh.{Fresh}
 use Rattle.dv_model.specs.declared.types.Shown.{Shown}
 use Rattle.dv_model.specs.declared.types.Step.{Step}
+use Rattle.dv_model.specs.declared.types.Step.TheVariants.{Held, Full}
 use Rattle.dv_view.specs.declared.telling.Telling.{Telling}
 use Rattle.dv_view.specs.Following.{rows_after}
 use Rattle.dv_view.specs.Tells.{changes_of, shows_all}
@@ -16,6 +17,11 @@ IsPlace rows uid at = (at ≤ length rows) × IsPartitionPoint (λ (s : Shown). 
 abbrev pub without : ℕ → List Shown → List Shown
 without uid [] = []
 without uid (s ∷ rows) = if nat_eq s.uid uid then rows else s ∷ rows
+
+-- a step tells of this change
+abbrev pub tells : Step → Fresh → Bool
+tells Held f = is_some f.row
+tells Full f = true
 
 -- what was told, where the old rows become the new ones and the last of these alone are left
 pub record GoesOn (names : List (List ℕ)) (old new rest : List Shown) (told : Telling) : Type 0 where

@@ -81,7 +81,10 @@ fn put(rows: &mut Vec<Shown>, copies: Copies, fresh: &[Fresh], step: Step)
             (map (renewed copies.changed.items) rows.old.items) ++ copies.added.items }
 {
     let Copies { changed, mut added } = copies;
-    let loses = step == Step::Full && loses_row(rows, fresh);
+    let loses = match step {
+        Step::Held => false,
+        Step::Full => loses_row(rows, fresh),
+    };
     renew_all(rows, changed);
     if loses {
         rows.retain(|s| !has_left(fresh, s.uid));

@@ -1,8 +1,8 @@
 ghost use Rattle.std.specs.Prelude.{◌≡◌, ◌∷◌, ◌++◌, ◌+◌, ◌-◌, ◌<◌, ◌≤◌, ◌^◌, IfOk, OnOk, List, drop, length, not};
 ghost use Rattle.dv_model.specs.declared.types.Shown.{Shown as Given};
-ghost use Rattle.dv_model.specs.declared.types.Step.TheVariants as step;
+ghost use Rattle.dv_model.specs.declared.types.Step.TheVariants.{Full};
 ghost use Rattle.dv_view.specs.Following.{AreGiven, rows_after};
-ghost use Rattle.dv_view.specs.Told.{GoesOn, IsPlace, IsToldTo, without};
+ghost use Rattle.dv_view.specs.Told.{GoesOn, IsPlace, IsToldTo, tells, without};
 ghost use Rattle.dv_view.specs.Orders.{AreRising};
 ghost use Rattle.dv_view.specs.Tells.{removals_of, said_of};
 
@@ -18,7 +18,7 @@ fn add_lost(rows: &[Shown], fresh: &[Fresh], said: &mut List<Reply>) -> Result<(
     requires rising { AreRising rows.now }
     requires given { AreGiven fresh.now }
     ensures { OnOk result (said.new
-        ≡ said.old ++ removals_of (rows_after step.Full rows.now fresh.now) rows.now) }
+        ≡ said.old ++ removals_of (rows_after Full rows.now fresh.now) rows.now) }
 {
     let mut at = fresh.len();
     while at > 0 {
@@ -28,6 +28,36 @@ fn add_lost(rows: &[Shown], fresh: &[Fresh], said: &mut List<Reply>) -> Result<(
         }
     }
     Ok(())
+}
+
+// The EXPUNGEs of a step.
+fn lost(
+    alloc: Global,
+    rows: &[Shown],
+    fresh: &[Fresh],
+    step: Step,
+) -> Result<List<Reply>, NoMemory>
+    requires rising { AreRising rows.now }
+    requires given { AreGiven fresh.now }
+    ensures { IfOk result (λ said.
+        said ≡ removals_of (rows_after step rows.now fresh.now) rows.now) }
+{
+    let mut said = List::new(alloc);
+    match step {
+        Step::Held => {}
+        Step::Full => add_lost(rows, fresh, &mut said)?,
+    }
+    Ok(said)
+}
+
+// Whether the step tells of this change.
+fn tells(step: Step, f: &Fresh) -> bool
+    ensures { result ≡ tells step f.now }
+{
+    match step {
+        Step::Held => f.row.is_some(),
+        Step::Full => true,
+    }
 }
 
 // What is told of the rows up to a place.
@@ -112,7 +142,7 @@ fn tell(
     ensures { OnOk result (IsToldTo names.now.names step rows.now fresh.now (at + 1) told.new) }
 {
     let f = &fresh[at];
-    if step == Step::Held && f.row.is_none() {
+    if !tells(step, f) {
         return Ok(());
     }
     pass(rows, f.uid, told);
@@ -162,10 +192,7 @@ pub fn said_by(
     ensures { IfOk result (λ replies. replies
         ≡ said_of names.now.names rows.now (rows_after step rows.now fresh.now)) }
 {
-    let mut said = List::new(alloc);
-    if step == Step::Full {
-        add_lost(rows, fresh, &mut said)?;
-    }
+    let mut said = lost(alloc, rows, fresh, step)?;
     let told = tell_all(alloc, names, rows, fresh, step)?;
     if told.grows {
         let count = told.number + (rows.len() - told.from) - 1;
