@@ -1,9 +1,11 @@
 -- The rows behind a step are those that the changes give: what the code makes, and what the mailbox shows.
-use Rattle.std.proofs.Common.{◌≡◌, ◌⊎◌, inl, inr, ℕ, zero, suc, ◌+◌, ◌-◌, ◌<◌, ◌≤◌, Bool, true, false, cond, not, ◌&&◌, ◌||◌, List, [], ◌∷◌, ◌++◌, length, Some, None, Option, refl, sym, ◌∙◌, ap, subst, arith}
+use Rattle.std.proofs.Common.{◌≡◌, ◌⊎◌, inl, inr, ℕ, zero, suc, ◌+◌, ◌-◌, ◌^◌, ◌<◌, ◌≤◌, Bool, true, false, cond, not, ◌&&◌, ◌||◌, List, [], ◌∷◌, ◌++◌, length, Some, None, Option, refl, sym, ◌∙◌, ap, subst, arith}
 use Rattle.std.specs.Prelude.{All, IfSome, IsSome, map, filter, find, is_some, nat_eq, nat_le, nat_lt, option_map, option_to_list, unwrap_or}
 use Rattle.std.specs.List.{AllByRecursion, list_any}
 use Rattle.std.specs.Option.{option_or}
 use Rattle.std.proofs.lemmas.Bool.Decides.{nat_tests}
+use Rattle.std.proofs.lemmas.List.{append-nil}
+use Rattle.std.proofs.lemmas.List.Elements.{All-weaker}
 use Rattle.std.proofs.lemmas.List.Folds.{find-append}
 use Rattle.dv_model.specs.declared.types.Fresh.{Fresh}
 use Rattle.dv_model.specs.declared.types.Mailbox.{Mailbox}
@@ -11,16 +13,17 @@ use Rattle.dv_model.specs.declared.types.Row.{Row}
 use Rattle.dv_model.specs.declared.types.Shown.{Shown}
 use Rattle.dv_model.specs.declared.types.Step.{Step}
 use Rattle.dv_model.specs.declared.types.Step.TheVariants.{Held, Full}
-use Rattle.dv_model.specs.Fresh.{patched}
+use Rattle.dv_model.specs.Fresh.{AreFresh, IsFreshRow, patched, with_fresh}
 use Rattle.dv_model.specs.Views.{View, moved, row_of, shown}
-use Rattle.dv_model.proofs.Clients.{Above, above_from, above_lower, above_of_rising, each_of_all, false_is_not_true, from_uid, held_row, held_uid, not_same, not_same_back, shows}
-use Rattle.dv_view.specs.Following.{AreKnown, IsPatched, given, has_left, renewed, rows_after, told_of}
+use Rattle.dv_model.proofs.Clients.{Above, above_from, above_lower, above_of_rising, each_of_all, each_weaker, false_is_not_true, from_uid, held_row, held_uid, not_same, not_same_back, shows}
+use Rattle.dv_view.specs.Following.{AreGiven, AreKnown, IsPatched, given, has_left, renewed, rows_after, told_of}
 use Rattle.dv_view.specs.Orders.{IsOrdered}
 use Rattle.dv_view.proofs.Finding.{any_is_found}
 use Rattle.dv_view.proofs.Moving.{Rise, moved_rise}
 use Rattle.dv_view.proofs.Patching.{Rises, at_below, at_uid, change_of, is_same, no_change, now, own_above, own_other, own_same, patched_above, patched_at, same_is, same_rows}
-use Rattle.dv_view.proofs.Placing.{left_none, rises_some}
+use Rattle.dv_view.proofs.Placing.{left_none, rises_some, rises_told}
 use Rattle.dv_view.proofs.Renewing.{renewed_above, renewed_uid}
+use Rattle.dv_view.proofs.Rising.{few_from}
 
 -- ---- the row of a UID among rows that were changed
 
@@ -356,3 +359,66 @@ module _ (view : View) (uid_next : ℕ) (table : List (List ℕ)) (fresh : List 
           ∙ ap (λ o. option_or (option_map (held_row m) (at_uid u view.rows)) o) (new_rows_at u)
           ∙ held_now u (at_uid u view.rows) refl (change_of u fresh) refl
           ∙ sym (patched_at 0 0 u view.rows (told_of Held fresh) rise.above (omega arith) (rises_some 0 fresh rises) ∙ ap (λ o. now o (at_uid u view.rows)) (some_at 0 u fresh rises)))
+
+  pub moved_whole : (step : Step) → moved step view m ≡ record { rows = rows_after step view.rows fresh; next_uid = uid_next }
+  moved_whole step = by_step step (moved_is_after step)
+    where
+      made : (rows : List Shown) (n : ℕ) → rows ≡ rows_after step view.rows fresh → n ≡ uid_next → ◌≡◌ {A = View} (record { rows = rows; next_uid = n }) (record { rows = rows_after step view.rows fresh; next_uid = uid_next })
+      made rows n e number = ap (λ rs. record { rows = rs; next_uid = n }) e ∙ ap (λ k. record { rows = rows_after step view.rows fresh; next_uid = k }) number
+
+      by_step : (s : Step) → (moved s view m).rows ≡ rows_after step view.rows fresh → moved s view m ≡ record { rows = rows_after step view.rows fresh; next_uid = uid_next }
+      by_step Held e = made (moved Held view m).rows m.next_uid e is.next_uid
+      by_step Full e = made (moved Full view m).rows m.next_uid e is.next_uid
+
+-- ---- the rows behind a step rise
+
+option_below : (n uid : ℕ) (row : Option Shown) (rows : List Shown) → IfSome row (λ s. s.uid ≡ uid) → uid < n → AllByRecursion (λ s. s.uid < n) rows → AllByRecursion (λ s. s.uid < n) (option_to_list row ++ rows)
+option_below n uid None rows own less each = each
+option_below n uid (Some s) rows own less each = (omega (arith, own, less), each)
+
+with_below : (n : ℕ) (rows : List Shown) (f : Fresh) → IfSome f.row (λ s. s.uid ≡ f.uid) → f.uid < n → AllByRecursion (λ s. s.uid < n) rows → AllByRecursion (λ s. s.uid < n) (with_fresh rows f)
+with_below n [] f own less each = subst (AllByRecursion (λ (s : Shown). s.uid < n)) (append-nil (option_to_list f.row)) (option_below n f.uid f.row [] own less tt)
+with_below n (s ∷ rows) f own less each = by_test (nat_lt s.uid f.uid) (nat_eq s.uid f.uid) (with_below n rows f own less each.1)
+  where
+    by_test : (b c : Bool) → AllByRecursion (λ s. s.uid < n) (with_fresh rows f)
+        → AllByRecursion (λ s. s.uid < n) (cond b (s ∷ with_fresh rows f) (cond c (option_to_list f.row ++ rows) (option_to_list f.row ++ s ∷ rows)))
+    by_test true c rest = (each.0, rest)
+    by_test false true rest = option_below n f.uid f.row rows own less each.1
+    by_test false false rest = option_below n f.uid f.row (s ∷ rows) own less (each.0, each.1)
+
+patched_below : (n m : ℕ) (rows : List Shown) (fresh : List Fresh) → Rises m fresh → AllByRecursion (λ f. f.uid < n) fresh → AllByRecursion (λ s. s.uid < n) rows → AllByRecursion (λ s. s.uid < n) (patched rows fresh)
+patched_below n m rows [] rises low each = each
+patched_below n m rows (f ∷ fresh) rises low each = patched_below n (f.uid + 1) (with_fresh rows f) fresh rises.2 low.1 (with_below n rows f rises.1 low.0 each)
+
+told_low : (step : Step) (n : ℕ) (fresh : List Fresh) → AllByRecursion (λ f. f.uid < n) fresh → AllByRecursion (λ f. f.uid < n) (told_of step fresh)
+told_low Full n fresh each = each
+told_low Held n [] each = tt
+told_low Held n (f ∷ fresh) each = by_test (is_some f.row) (told_low Held n fresh each.1)
+  where
+    by_test : (b : Bool) → AllByRecursion (λ f. f.uid < n) (filter (λ f. is_some f.row) fresh) → AllByRecursion (λ f. f.uid < n) (cond b (f ∷ filter (λ f. is_some f.row) fresh) (filter (λ f. is_some f.row) fresh))
+    by_test true rest = (each.0, rest)
+    by_test false rest = rest
+
+pub after_rise : (step : Step) (view : View) (uid_next names : ℕ) (fresh : List Fresh) → IsOrdered view → AreFresh view uid_next names fresh → Rises 0 fresh → Rise uid_next (rows_after step view.rows fresh)
+after_rise step view uid_next names fresh ordered are rises =
+    let old = rise_of_ordered view ordered in
+    let later = are.later in
+    record {
+      above = patched_above 0 view.rows (told_of step fresh) old.above (rises_told step 0 fresh rises);
+      below = patched_below uid_next 0 view.rows (told_of step fresh) (rises_told step 0 fresh rises)
+          (told_low step uid_next fresh (each_weaker (λ f. (1 ≤ f.uid) × (f.uid < uid_next)) (λ f. f.uid < uid_next) (λ f given. given.1) fresh (each_of_all (λ (f : Fresh). (1 ≤ f.uid) × (f.uid < uid_next)) fresh are.given)))
+          (each_weaker (λ s. s.uid < view.next_uid) (λ s. s.uid < uid_next) (λ s less. omega arith) view.rows old.below);
+    }
+
+pub after_few : (n : ℕ) (rows : List Shown) → Rise n rows → n < 2 ^ 32 → length rows < 2 ^ 32
+after_few n rows rise less = let most = few_from 0 n rows (omega arith) rise.above rise.below in omega (arith, most, less)
+
+pub given_of : (view : View) (uid_next names : ℕ) (fresh : List Fresh) → AreFresh view uid_next names fresh → AreGiven fresh
+given_of view uid_next names fresh are = record {
+  rising = are.rising;
+  own = All-weaker (λ (f : Fresh). IfSome f.row (IsFreshRow names f.uid)) (λ (f : Fresh). IfSome f.row (λ s. s.uid ≡ f.uid)) (λ f given. own f f.row given) fresh are.rows;
+}
+  where
+    own : (f : Fresh) (row : Option Shown) → IfSome row (IsFreshRow names f.uid) → IfSome row (λ s. s.uid ≡ f.uid)
+    own f (Some s) given = given.is
+    own f None given = tt

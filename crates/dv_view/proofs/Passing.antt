@@ -6,6 +6,8 @@ use Rattle.std.proofs.lemmas.Bool.Decides.{nat_tests}
 use Rattle.std.proofs.lemmas.List.{drop_more, length-take}
 use Rattle.std.proofs.lemmas.Slice.Eq.{bytes_eq-Decides}
 use Rattle.dv_model.specs.declared.types.Fresh.{Fresh}
+use Rattle.dv_model.specs.declared.types.Reply.{Reply}
+use Rattle.dv_model.specs.declared.types.Reply.TheVariants as reply
 use Rattle.dv_model.specs.declared.types.Shown.{Shown}
 use Rattle.dv_model.specs.declared.types.Step.{Step}
 use Rattle.dv_model.specs.declared.types.Step.TheVariants.{Held, Full}
@@ -138,3 +140,46 @@ finished names step rows fresh told is =
     and_true : (b : Bool) → (b && true) ≡ b
     and_true true = refl
     and_true false = refl
+
+drop_empty : {X : Type 0} (j : ℕ) → ◌≡◌ {A = List X} (drop j []) []
+drop_empty zero = refl
+drop_empty (suc j) = refl
+
+drop_plus : {X : Type 0} (n k : ℕ) (xs : List X) → drop k (drop n xs) ≡ drop (n + k) xs
+drop_plus zero k xs = let same : k ≡ 0 + k = omega arith in ap (λ j. drop j xs) same
+drop_plus {X = X} (suc n) k xs = let same : suc (n + k) ≡ suc n + k = omega arith in by_rows xs (drop_plus n k) ∙ ap (λ j. drop j xs) same
+  where
+    by_rows : (ys : List X) → ((zs : List X) → drop k (drop n zs) ≡ drop (n + k) zs) → drop k (drop (suc n) ys) ≡ drop (suc (n + k)) ys
+    by_rows [] rest = drop_empty k
+    by_rows (y ∷ ys) rest = rest ys
+
+-- the change was told, and its row is left behind
+pub one_told : (names : List (List ℕ)) (step : Step) (rows : List Shown) (fresh : List Fresh) (at : ℕ) (f : Fresh) (from k : ℕ) (told after : Telling)
+    → told.from ≡ from + k
+    → GoesOn names rows (rows_after step rows fresh) (patched (without f.uid (drop k (drop from rows))) (told_of step (drop (at + 1) fresh))) told
+    → drop after.from rows ≡ without f.uid (drop told.from rows)
+    → after ≡ record told { from = after.from }
+    → after.from ≤ length rows
+    → IsToldTo names step rows fresh (at + 1) after
+one_told names step rows fresh at f from k told after place goes behind is inside =
+    let same : without f.uid (drop k (drop from rows)) ≡ drop after.from rows =
+        ap (without f.uid) (drop_plus from k rows ∙ ap (λ n. drop n rows) (sym place)) ∙ sym behind in
+    record {
+      inside = inside;
+      rest = goes_left names rows (rows_after step rows fresh) (rows_after step (drop after.from rows) (drop (at + 1) fresh)) told after is
+          (subst (λ rs. GoesOn names rows (rows_after step rows fresh) (patched rs (told_of step (drop (at + 1) fresh))) told) same goes);
+    }
+
+-- ---- how many rows there are
+
+module _ (names : List (List ℕ)) (rows new : List Shown) (told : Telling) (is : IsFinished names rows new told) (removed : List Reply) where
+  pub grown : told.grows ≡ true → removed ++ reply.Exists (told.number + (length rows - told.from) - 1) ∷ [] ≡ removed ++ cond (shows_all rows new) [] (reply.Exists (length new) ∷ [])
+  grown e =
+      let count : told.number + (length rows - told.from) - 1 ≡ length new = omega (arith, is.count) in
+      let some : shows_all rows new ≡ false = sym is.growth ∙ ap not e in
+      ap (λ n. removed ++ reply.Exists n ∷ []) count ∙ ap (λ b. removed ++ cond b [] (reply.Exists (length new) ∷ [])) (sym some)
+
+  pub not_grown : told.grows ≡ false → removed ≡ removed ++ cond (shows_all rows new) [] (reply.Exists (length new) ∷ [])
+  not_grown e =
+      let none : shows_all rows new ≡ true = sym is.growth ∙ ap not e in
+      sym (append-nil removed) ∙ ap (λ b. removed ++ cond b [] (reply.Exists (length new) ∷ [])) (sym none)

@@ -14,7 +14,7 @@ use Rattle.dv_view.specs.Orders.{AreRising}
 
 -- ---- how many
 
-few_from : (n b : ℕ) (rows : List Shown) → n ≤ b → Above n rows → AllByRecursion (λ s. s.uid < b) rows → length rows + n ≤ b
+pub few_from : (n b : ℕ) (rows : List Shown) → n ≤ b → Above n rows → AllByRecursion (λ s. s.uid < b) rows → length rows + n ≤ b
 few_from n b [] le above below = omega arith
 few_from n b (s ∷ rows) le above below =
     let from : n ≤ s.uid = above.0 in

@@ -1,4 +1,5 @@
-ghost use Rattle.std.specs.Prelude.{◌≡◌, ◌∷◌, ◌++◌, ◌+◌, ◌-◌, ◌<◌, ◌≤◌, ◌^◌, IfOk, OnOk, List, drop, length, not};
+ghost use Rattle.std.specs.Prelude.{◌≡◌, ◌∷◌, ◌++◌, ◌+◌, ◌<◌, ◌≤◌, ◌^◌, IfOk, OnOk, List, drop, length, map, option_to_list};
+ghost use Rattle.dv_model.specs.declared.types.Reply.TheVariants as reply;
 ghost use Rattle.dv_model.specs.declared.types.Shown.{Shown as Given};
 ghost use Rattle.dv_model.specs.declared.types.Step.TheVariants.{Full};
 ghost use Rattle.dv_view.specs.Following.{AreGiven, rows_after};
@@ -13,6 +14,16 @@ use dv_keywords::Table;
 use dv_model::{Fresh, List, NoMemory, Reply, Shown, Step};
 use std::alloc::{AllocError, Global};
 
+fn add_expunge(number: Option<u32>, said: &mut List<Reply>) -> Result<(), AllocError>
+    ensures { OnOk result (said.new
+        ≡ said.old ++ map (λ n. reply.Expunge n) (option_to_list number)) }
+{
+    if let Some(number) = number {
+        said.push(Reply::Expunge(number))?;
+    }
+    Ok(())
+}
+
 // Adds one EXPUNGE for each row that has left, from the highest number down.
 fn add_lost(rows: &[Shown], fresh: &[Fresh], said: &mut List<Reply>) -> Result<(), AllocError>
     requires rising { AreRising rows.now }
@@ -23,9 +34,7 @@ fn add_lost(rows: &[Shown], fresh: &[Fresh], said: &mut List<Reply>) -> Result<(
     let mut at = fresh.len();
     while at > 0 {
         at -= 1;
-        if let Some(number) = left_number(rows, &fresh[at]) {
-            said.push(Reply::Expunge(number))?;
-        }
+        add_expunge(left_number(rows, &fresh[at]), said)?;
     }
     Ok(())
 }
