@@ -1,5 +1,5 @@
 -- The rows behind a step are those that the changes give: what the code makes, and what the mailbox shows.
-use Rattle.std.proofs.Common.{◌≡◌, ◌⊎◌, inl, inr, ℕ, zero, suc, ◌+◌, ◌-◌, ◌^◌, ◌<◌, ◌≤◌, Bool, true, false, cond, not, ◌&&◌, ◌||◌, List, [], ◌∷◌, ◌++◌, length, Some, None, Option, refl, sym, ◌∙◌, ap, subst, arith}
+use Rattle.std.proofs.Common.{◌≡◌, ◌⊎◌, inl, inr, ℕ, zero, suc, ◌+◌, ◌-◌, ◌^◌, ◌<◌, ◌≤◌, Bool, true, false, cond, not, ◌&&◌, ◌||◌, List, [], ◌∷◌, ◌++◌, length, Some, None, Option, refl, sym, ◌∙◌, ap, subst, arith, append_assoc}
 use Rattle.std.specs.Prelude.{All, IfSome, IsSome, map, filter, find, is_some, nat_eq, nat_le, nat_lt, option_map, option_to_list, unwrap_or}
 use Rattle.std.specs.List.{AllByRecursion, list_any}
 use Rattle.std.specs.Option.{option_or}
@@ -15,13 +15,14 @@ use Rattle.dv_model.specs.declared.types.Step.{Step}
 use Rattle.dv_model.specs.declared.types.Step.TheVariants.{Held, Full}
 use Rattle.dv_model.specs.Fresh.{AreFresh, IsFreshRow, patched, with_fresh}
 use Rattle.dv_model.specs.Views.{View, moved, row_of, shown}
-use Rattle.dv_model.proofs.Clients.{Above, above_from, above_lower, above_of_rising, each_of_all, each_weaker, false_is_not_true, from_uid, held_row, held_uid, not_same, not_same_back, shows}
+use Rattle.dv_model.proofs.Clients.{Above, above_from, above_lower, above_of_rising, all_shown_rise, each_append, each_of_all, each_weaker, false_is_not_true, from_uid, held_row, held_uid, not_same, not_same_back, shows}
 use Rattle.dv_view.specs.Following.{AreGiven, AreKnown, IsPatched, given, has_left, renewed, rows_after, told_of}
+use Rattle.dv_view.specs.Laws.{ChangesFollow}
 use Rattle.dv_view.specs.Orders.{IsOrdered}
 use Rattle.dv_view.proofs.Finding.{any_is_found}
-use Rattle.dv_view.proofs.Moving.{Rise, moved_rise}
+use Rattle.dv_view.proofs.Moving.{Rise, all_of_each, moved_rise}
 use Rattle.dv_view.proofs.Patching.{Rises, at_below, at_uid, change_of, is_same, no_change, now, own_above, own_other, own_same, patched_above, patched_at, same_is, same_rows}
-use Rattle.dv_view.proofs.Placing.{left_none, rises_some, rises_told}
+use Rattle.dv_view.proofs.Placing.{left_none, rises_of, rises_some, rises_told}
 use Rattle.dv_view.proofs.Renewing.{renewed_above, renewed_uid}
 use Rattle.dv_view.proofs.Rising.{few_from}
 
@@ -422,3 +423,54 @@ given_of view uid_next names fresh are = record {
     own : (f : Fresh) (row : Option Shown) → IfSome row (IsFreshRow names f.uid) → IfSome row (λ s. s.uid ≡ f.uid)
     own f (Some s) given = given.is
     own f None given = tt
+
+-- ---- the mailbox may follow
+
+row_known : (view : View) (fresh : List Fresh) → Rise view.next_uid view.rows → Rises 0 fresh → AreKnown view.rows view.next_uid fresh
+    → (u : ℕ) (s : Shown) → at_uid u (patched view.rows fresh) ≡ Some s → (shows view.rows u ≡ true) ⊎ (view.next_uid ≤ u)
+row_known view fresh rise rises known u s e =
+    by_row (at_uid u view.rows) refl (change_of u fresh) refl (sym (patched_at 0 0 u view.rows fresh rise.above (omega arith) rises) ∙ e)
+  where
+    by_row : (r : Option Shown) → at_uid u view.rows ≡ r → (o : Option Fresh) → change_of u fresh ≡ o → now (change_of u fresh) (at_uid u view.rows) ≡ Some s → (shows view.rows u ≡ true) ⊎ (view.next_uid ≤ u)
+    by_row (Some t) f o g is = inl (any_is_found (λ (t : Shown). nat_eq t.uid u) view.rows ∙ ap is_some f)
+    by_row None f None g is = let never : None ≡ Some s = sym (ap (λ p. now p (at_uid u view.rows)) g ∙ f) ∙ is in absurd cc
+    by_row None f (Some h) g is =
+        let row : h.row ≡ Some s = sym (ap (λ p. now p (at_uid u view.rows)) g) ∙ is in
+        inr (is_new view.rows view.next_uid fresh rise rises known u h g f (subst IsSome (sym row) refl))
+
+rows_known : (view : View) (fresh : List Fresh) → Rise view.next_uid view.rows → Rises 0 fresh → AreKnown view.rows view.next_uid fresh
+    → (n : ℕ) (front rows : List Shown) → Above n rows → front ++ rows ≡ patched view.rows fresh → AllByRecursion (λ s. s.uid < n) front → AllByRecursion (λ s. (shows view.rows s.uid ≡ true) ⊎ (view.next_uid ≤ s.uid)) rows
+rows_known view fresh rise rises known n front [] above is low = tt
+rows_known view fresh rise rises known n front (s ∷ rows) above is low =
+    let least = above.0 in
+    let at : at_uid s.uid (patched view.rows fresh) ≡ Some s =
+        ap (at_uid s.uid) (sym is) ∙ at_append s.uid front (s ∷ rows) ∙ ap (λ o. option_or o (at_uid s.uid (s ∷ rows))) (at_past n s.uid front low (omega arith))
+        ∙ ap (λ b. cond b (Some s) (at_uid s.uid rows)) (is_same s.uid s.uid refl) in
+    (
+      row_known view fresh rise rises known s.uid s at,
+      rows_known view fresh rise rises known (s.uid + 1) (front ++ s ∷ []) rows above.1 (append_assoc front (s ∷ []) rows ∙ is)
+          (each_append (λ (t : Shown). t.uid < s.uid + 1) front (s ∷ []) (each_weaker (λ t. t.uid < n) (λ t. t.uid < s.uid + 1) (λ t less. omega arith) front low) (omega arith, tt)),
+    )
+  where
+    at_past : (n u : ℕ) (front : List Shown) → AllByRecursion (λ t. t.uid < n) front → n ≤ u → at_uid u front ≡ None
+    at_past n u [] low le = refl
+    at_past n u (t ∷ front) low le = rw (not_same t.uid u (omega (arith, low.0, le))) (at_past n u front low.1 le)
+
+of_rows : (view : View) (rows : List Row) → AllByRecursion (λ s. (shows view.rows s.uid ≡ true) ⊎ (view.next_uid ≤ s.uid)) (map shown rows) → AllByRecursion (λ row. (shows view.rows row.uid ≡ true) ⊎ (view.next_uid ≤ row.uid)) rows
+of_rows view [] each = tt
+of_rows view (row ∷ rows) each = (each.0, of_rows view rows each.1)
+
+pub changes_follow : ChangesFollow
+changes_follow before m view uid_next table more fresh are is names ordered =
+    let rises = rises_of fresh (given_of view uid_next (length table) fresh are) in
+    let rise = rise_of_ordered view ordered in
+    let later = are.later in
+    let number = is.next_uid in
+    record {
+      valid = is.valid;
+      next_uid = omega (arith, later, number);
+      rows = all_of_each (λ (row : Row). (shows view.rows row.uid ≡ true) ⊎ (view.next_uid ≤ row.uid)) m.rows
+          (of_rows view m.rows (rows_known view fresh rise rises are.known 0 [] (map shown m.rows) (all_shown_rise m is.valid.rising) is.rows tt));
+      more = more;
+      names = is.names ∙ names;
+    }

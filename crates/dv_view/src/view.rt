@@ -2,7 +2,7 @@ ghost use Rattle.std.specs.Prelude.{◌≡◌, ◌≤◌, length, nat_eq, positi
 ghost use Rattle.dv_model.specs.Fresh.{AreFresh};
 ghost use Rattle.dv_model.specs.Views.{empty_view, moved, said};
 ghost use Rattle.dv_model.specs.declared.types.Mailbox.{Mailbox};
-ghost use Rattle.dv_view.specs.Following.{IsPatched};
+ghost use Rattle.dv_view.specs.Following.{IsPatched, rows_after};
 ghost use Rattle.dv_view.specs.Orders.{IsOrdered};
 
 use crate::following::follow;
@@ -105,6 +105,8 @@ impl View {
         step: Step,
     ) -> Result<List<Reply>, NoMemory>
         requires { AreFresh self.old next_uid (length names.now.names) fresh.now }
+        ensures rows { OnOk result (self.new ≡ record {
+            rows = rows_after step self.old.rows fresh.now; next_uid = next_uid }) }
         // To whatever mailbox the changes lead, the view moves by the step, and exactly that is said.
         ensures view { OnOk result ((m : Mailbox)
             → IsPatched self.old next_uid names.now.names fresh.now m

@@ -33,6 +33,9 @@ invariant_of-self-2 c =
     let rise = after_rise c.args.step view c.args.next_uid (length c.args.names.now.names) fresh ordered c.requires (rises_of fresh (given_of view c.args.next_uid (length c.args.names.now.names) fresh c.requires)) in
     ordered_of_rise c.args.next_uid c.from_vec.result c.ranges.next_uid.fits (subst (Rise c.args.next_uid) (sym (rows_are c)) rise)
 
+pub returns-clause-rows : goal.returns-clause-rows
+returns-clause-rows c = ap (λ (rs : List Shown). record { rows = rs; next_uid = c.args.next_uid }) (rows_are c)
+
 pub returns-clause-view : goal.returns-clause-view
 returns-clause-view c =
     let view = c.args.self.now in
