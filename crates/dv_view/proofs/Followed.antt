@@ -251,10 +251,10 @@ module _ (rows : List Shown) (b : ℕ) (fresh : List Fresh) (rise : Rise b rows)
       (above_append 0 b (map (renewed changed) rows) added (omega arith) (renewed_above 0 changed rows rise.above) renewed_low added_above)
       (patched_above 0 rows (told_of Held fresh) rise.above (rises_some 0 fresh rises))
       (λ u. at_append u (map (renewed changed) rows) added
-          ∙ ap (λ o. option_or o (at_uid u added)) (at_map (renewed changed) (renewed_uid changed) u rows)
-          ∙ ap (λ o. option_or (option_map (renewed changed) (at_uid u rows)) o) (added_at u)
-          ∙ held_at u (at_uid u rows) refl (change_of u fresh) refl
-          ∙ sym (patched_at 0 0 u rows (told_of Held fresh) rise.above (omega arith) (rises_some 0 fresh rises) ∙ ap (λ o. now o (at_uid u rows)) (some_at 0 u fresh rises)))
+      ∙ ap (λ o. option_or o (at_uid u added)) (at_map (renewed changed) (renewed_uid changed) u rows)
+      ∙ ap (λ o. option_or (option_map (renewed changed) (at_uid u rows)) o) (added_at u)
+      ∙ held_at u (at_uid u rows) refl (change_of u fresh) refl
+      ∙ sym (patched_at 0 0 u rows (told_of Held fresh) rise.above (omega arith) (rises_some 0 fresh rises) ∙ ap (λ o. now o (at_uid u rows)) (some_at 0 u fresh rises)))
 
   abbrev staying_rows : List Shown
   staying_rows = filter (λ s. not (has_left fresh s.uid)) (map (renewed changed) rows)
@@ -263,15 +263,15 @@ module _ (rows : List Shown) (b : ℕ) (fresh : List Fresh) (rise : Rise b rows)
   followed_full =
       same_rows 0 (staying_rows ++ added) (patched rows fresh)
       (above_append 0 b staying_rows added (omega arith)
-          (filter_above (λ (s : Shown). not (has_left fresh s.uid)) 0 (map (renewed changed) rows) (renewed_above 0 changed rows rise.above))
-          (filter_each (λ (s : Shown). s.uid < b) (λ (s : Shown). not (has_left fresh s.uid)) (map (renewed changed) rows) renewed_low) added_above)
+      (filter_above (λ (s : Shown). not (has_left fresh s.uid)) 0 (map (renewed changed) rows) (renewed_above 0 changed rows rise.above))
+      (filter_each (λ (s : Shown). s.uid < b) (λ (s : Shown). not (has_left fresh s.uid)) (map (renewed changed) rows) renewed_low) added_above)
       (patched_above 0 rows fresh rise.above rises)
       (λ u. at_append u staying_rows added
-          ∙ ap (λ o. option_or o (at_uid u added)) (at_filter (λ v. not (has_left fresh v)) u (map (renewed changed) rows) ∙ ap (λ o. cond (not (has_left fresh u)) o None) (at_map (renewed changed) (renewed_uid changed) u rows)
-              ∙ ap (λ c. cond (not c) (option_map (renewed changed) (at_uid u rows)) None) (left_is 0 u fresh rises))
-          ∙ ap (λ o. option_or (cond (not (has_none (change_of u fresh))) (option_map (renewed changed) (at_uid u rows)) None) o) (added_at u)
-          ∙ full_at u (at_uid u rows) refl (change_of u fresh) refl
-          ∙ sym (patched_at 0 0 u rows fresh rise.above (omega arith) rises))
+      ∙ ap (λ o. option_or o (at_uid u added)) (at_filter (λ v. not (has_left fresh v)) u (map (renewed changed) rows) ∙ ap (λ o. cond (not (has_left fresh u)) o None) (at_map (renewed changed) (renewed_uid changed) u rows)
+      ∙ ap (λ c. cond (not c) (option_map (renewed changed) (at_uid u rows)) None) (left_is 0 u fresh rises))
+      ∙ ap (λ o. option_or (cond (not (has_none (change_of u fresh))) (option_map (renewed changed) (at_uid u rows)) None) o) (added_at u)
+      ∙ full_at u (at_uid u rows) refl (change_of u fresh) refl
+      ∙ sym (patched_at 0 0 u rows fresh rise.above (omega arith) rises))
 
 -- by either step
 pub followed : (step : Step) (rows : List Shown) (b : ℕ) (fresh : List Fresh) → Rise b rows → Rises 0 fresh → AreKnown rows b fresh → (before after renewing adding : List Shown)
@@ -334,7 +334,7 @@ module _ (view : View) (uid_next : ℕ) (table : List (List ℕ)) (fresh : List 
   held_now u (Some s) e o f =
       let old = is_old view.rows view.next_uid fresh rise rises known u s e in
       let row : option_map shown (row_of m s.uid) ≡ now o (Some s) =
-          ap (λ v. option_map shown (row_of m v)) old.0 ∙ find_shown u m.rows ∙ shown_now u ∙ ap (λ p. now p (at_uid u view.rows)) f ∙ ap (now o) e in
+      ap (λ v. option_map shown (row_of m v)) old.0 ∙ find_shown u m.rows ∙ shown_now u ∙ ap (λ p. now p (at_uid u view.rows)) f ∙ ap (now o) e in
       ap (λ p. Some (unwrap_or p s)) row ∙ by_change o
     where
       by_row : (g : Fresh) (row : Option Shown) → g.row ≡ row → Some (unwrap_or row s) ≡ now (cond (is_some row) (Some g) None) (Some s)
@@ -356,10 +356,10 @@ module _ (view : View) (uid_next : ℕ) (table : List (List ℕ)) (fresh : List 
       (moved_rise Held m view ordered is.valid (subst (λ n. view.next_uid ≤ n) (sym is.next_uid) later)).above
       (patched_above 0 view.rows (told_of Held fresh) rise.above (rises_some 0 fresh rises))
       (λ u. at_append u (map (held_row m) view.rows) new_rows
-          ∙ ap (λ o. option_or o (at_uid u new_rows)) (at_map (held_row m) (held_uid m) u view.rows)
-          ∙ ap (λ o. option_or (option_map (held_row m) (at_uid u view.rows)) o) (new_rows_at u)
-          ∙ held_now u (at_uid u view.rows) refl (change_of u fresh) refl
-          ∙ sym (patched_at 0 0 u view.rows (told_of Held fresh) rise.above (omega arith) (rises_some 0 fresh rises) ∙ ap (λ o. now o (at_uid u view.rows)) (some_at 0 u fresh rises)))
+      ∙ ap (λ o. option_or o (at_uid u new_rows)) (at_map (held_row m) (held_uid m) u view.rows)
+      ∙ ap (λ o. option_or (option_map (held_row m) (at_uid u view.rows)) o) (new_rows_at u)
+      ∙ held_now u (at_uid u view.rows) refl (change_of u fresh) refl
+      ∙ sym (patched_at 0 0 u view.rows (told_of Held fresh) rise.above (omega arith) (rises_some 0 fresh rises) ∙ ap (λ o. now o (at_uid u view.rows)) (some_at 0 u fresh rises)))
 
   pub moved_whole : (step : Step) → moved step view m ≡ record { rows = rows_after step view.rows fresh; next_uid = uid_next }
   moved_whole step = by_step step (moved_is_after step)
@@ -444,9 +444,8 @@ rows_known view fresh rise rises known n front [] above is low = tt
 rows_known view fresh rise rises known n front (s ∷ rows) above is low =
     let least = above.0 in
     let at : at_uid s.uid (patched view.rows fresh) ≡ Some s =
-        ap (at_uid s.uid) (sym is) ∙ at_append s.uid front (s ∷ rows) ∙ ap (λ o. option_or o (at_uid s.uid (s ∷ rows))) (at_past n s.uid front low (omega arith))
-        ∙ ap (λ b. cond b (Some s) (at_uid s.uid rows)) (is_same s.uid s.uid refl) in
-    (
+    ap (at_uid s.uid) (sym is) ∙ at_append s.uid front (s ∷ rows) ∙ ap (λ o. option_or o (at_uid s.uid (s ∷ rows))) (at_past n s.uid front low (omega arith))
+    ∙ ap (λ b. cond b (Some s) (at_uid s.uid rows)) (is_same s.uid s.uid refl) in (
       row_known view fresh rise rises known s.uid s at,
       rows_known view fresh rise rises known (s.uid + 1) (front ++ s ∷ []) rows above.1 (append_assoc front (s ∷ []) rows ∙ is)
           (each_append (λ (t : Shown). t.uid < s.uid + 1) front (s ∷ []) (each_weaker (λ t. t.uid < n) (λ t. t.uid < s.uid + 1) (λ t less. omega arith) front low) (omega arith, tt)),

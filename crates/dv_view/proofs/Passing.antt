@@ -125,7 +125,7 @@ pub finished : (names : List (List ℕ)) (step : Step) (rows : List Shown) (fres
     → IsFinished names rows (rows_after step rows fresh) told
 finished names step rows fresh told is =
     let rest : rows_after step (drop told.from rows) (drop (length fresh) fresh) ≡ drop told.from rows =
-        ap (λ fs. patched (drop told.from rows) (told_of step fs)) (drop_end fresh) ∙ ap (patched (drop told.from rows)) (told_none step) in
+    ap (λ fs. patched (drop told.from rows) (told_of step fs)) (drop_end fresh) ∙ ap (patched (drop told.from rows)) (told_none step) in
     let goes = subst (λ rs. GoesOn names rows (rows_after step rows fresh) rs told) rest is.rest in
     let same : drop told.from rows ++ [] ≡ drop told.from rows = append-nil (drop told.from rows) in
     let long : length (drop told.from rows) ≡ length rows - told.from = length-drop told.from rows in
@@ -163,7 +163,7 @@ pub one_told : (names : List (List ℕ)) (step : Step) (rows : List Shown) (fres
     → IsToldTo names step rows fresh (at + 1) after
 one_told names step rows fresh at f from k told after place goes behind is inside =
     let same : without f.uid (drop k (drop from rows)) ≡ drop after.from rows =
-        ap (without f.uid) (drop_plus from k rows ∙ ap (λ n. drop n rows) (sym place)) ∙ sym behind in
+    ap (without f.uid) (drop_plus from k rows ∙ ap (λ n. drop n rows) (sym place)) ∙ sym behind in
     record {
       inside = inside;
       rest = goes_left names rows (rows_after step rows fresh) (rows_after step (drop after.from rows) (drop (at + 1) fresh)) told after is

@@ -170,8 +170,8 @@ pub patched_step : (rows : List Shown) (f : Fresh) (fresh : List Fresh) (n at : 
 patched_step rows f fresh n at rises place =
     let low : (k : ℕ) (d : Shown) → k < at → (get_or rows k d).uid < f.uid = λ k d less. place.1.0 k d (omega arith) less in
     let high : (d : Shown) → 0 < length (drop at rows) → f.uid ≤ (get_or (drop at rows) 0 d).uid =
-        λ d some. let long : length (drop at rows) ≡ length rows - at = length-drop at rows in
-            subst (λ (s : Shown). f.uid ≤ s.uid) (sym (get_or-drop at rows 0 d)) (place.1.1 (at + 0) d (omega arith) (omega (arith, some, long))) in
+    λ d some. let long : length (drop at rows) ≡ length rows - at = length-drop at rows in
+    subst (λ (s : Shown). f.uid ≤ s.uid) (sym (get_or-drop at rows 0 d)) (place.1.1 (at + 0) d (omega arith) (omega (arith, some, long))) in
     ap (λ rs. patched rs fresh) (with_from rows f at low place.0 ∙ ap (λ rs. take at rows ++ rs) (with_here (drop at rows) f high) ∙ sym (append_assoc (take at rows) (option_to_list f.row) (without f.uid (drop at rows))))
     ∙ patched_behind (f.uid + 1) (take at rows ++ option_to_list f.row) (without f.uid (drop at rows)) fresh (own_low f f.row (take at rows) rises.1 (low_take rows f.uid at low place.0)) rises.2
     ∙ append_assoc (take at rows) (option_to_list f.row) (patched (without f.uid (drop at rows)) fresh)

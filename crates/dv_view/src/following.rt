@@ -78,7 +78,7 @@ fn put(rows: &mut Vec<Shown>, copies: Copies, fresh: &[Fresh], step: Step)
         rows.new.items ≡ map (renewed copies.changed.items) rows.old.items ++ copies.added.items }
     ensures full { step ≡ Full →
         rows.new.items ≡ filter (λ s. not (has_left fresh.now s.uid))
-            (map (renewed copies.changed.items) rows.old.items) ++ copies.added.items }
+        (map (renewed copies.changed.items) rows.old.items) ++ copies.added.items }
 {
     let Copies { changed, mut added } = copies;
     let loses = match step {

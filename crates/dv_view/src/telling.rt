@@ -40,12 +40,7 @@ fn add_lost(rows: &[Shown], fresh: &[Fresh], said: &mut List<Reply>) -> Result<(
 }
 
 // The EXPUNGEs of a step.
-fn lost(
-    alloc: Global,
-    rows: &[Shown],
-    fresh: &[Fresh],
-    step: Step,
-) -> Result<List<Reply>, NoMemory>
+fn lost(alloc: Global, rows: &[Shown], fresh: &[Fresh], step: Step) -> Result<List<Reply>, NoMemory>
     requires rising { AreRising rows.now }
     requires given { AreGiven fresh.now }
     ensures { IfOk result (λ said.
@@ -113,7 +108,9 @@ fn pass(rows: &[Shown], uid: u32, told: &mut Telling) -> usize
     requires number { told.old.number ≤ 2 ^ 32 }
     ensures is { IsPlace (drop told.old.from rows.now) uid result }
     ensures told { told.new ≡ record told.old {
-        from = told.old.from + result; number = told.old.number + result } }
+      from = told.old.from + result;
+      number = told.old.number + result;
+    } }
 {
     let more = count_before(rows, told.from, uid);
     told.from += more;

@@ -106,7 +106,9 @@ impl View {
     ) -> Result<List<Reply>, NoMemory>
         requires { AreFresh self.old next_uid (length names.now.names) fresh.now }
         ensures rows { OnOk result (self.new ≡ record {
-            rows = rows_after step self.old.rows fresh.now; next_uid = next_uid }) }
+          rows = rows_after step self.old.rows fresh.now;
+          next_uid = next_uid;
+        }) }
         // To whatever mailbox the changes lead, the view moves by the step, and exactly that is said.
         ensures view { OnOk result ((m : Mailbox)
             → IsPatched self.old next_uid names.now.names fresh.now m

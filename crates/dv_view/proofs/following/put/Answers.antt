@@ -24,7 +24,7 @@ returns-clause-full c =
       | then-loses w ↦
           let made : c.if-loses.rows.items ≡ w.retain.new.self.items = search rules in
           let kept : w.retain.new.self.items ≡ filter (λ (s : Shown). not (has_left fresh s.uid)) (with_items c.args.rows.now c.renew_all.new.rows).items =
-              filter_same _ (λ (s : Shown). not (has_left fresh s.uid)) _ (λ x b f' k. search rules) _ _ w.retain.ensures.filtered in
+          filter_same _ (λ (s : Shown). not (has_left fresh s.uid)) _ (λ x b f' k. search rules) _ _ w.retain.ensures.filtered in
           made ∙ kept ∙ ap (filter (λ (s : Shown). not (has_left fresh s.uid))) (back ∙ renewed_rows)
       | else-loses w ↦
           let made : c.if-loses.rows.items ≡ (with_items c.args.rows.now c.renew_all.new.rows).items = search rules in
@@ -32,7 +32,7 @@ returns-clause-full c =
             | in-Held v ↦ let never : Held ≡ Full = sym v.in-Held.is ∙ full in absurd cc
             | in-Full v ↦
                 let none : list_any (λ (f : Fresh). is_some (left_number rows f)) fresh ≡ false =
-                    ap (λ rs. list_any (λ (f : Fresh). is_some (left_number rs f)) fresh) (sym v.deref.ensures.value) ∙ sym v.loses_row-loses.ensures ∙ sym v.loses-is ∙ w.if-loses.false in
+                ap (λ rs. list_any (λ (f : Fresh). is_some (left_number rs f)) fresh) (sym v.deref.ensures.value) ∙ sym v.loses_row-loses.ensures ∙ sym v.loses-is ∙ w.if-loses.false in
                 made ∙ back ∙ renewed_rows ∙ sym (all_stay rows c.args.copies.changed.items fresh none)
           ]
     ])

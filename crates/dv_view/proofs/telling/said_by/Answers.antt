@@ -19,11 +19,11 @@ returns c =
     let is = finished names step rows fresh told c.in_ok-told.ensures in
     let changes = changes_of names rows 1 new in
     let first : c.if-told.said ≡ removed ++ cond (shows_all rows new) [] (reply.Exists (length new) ∷ []) =
-        elim c.if-told.branch [
-          | then-told+in_ok-push w ↦
-              w.said-is ∙ w.in_ok-push.ensures.ok ∙ ap (λ (rs : List Reply). rs ++ reply.Exists (told.number + (length rows - told.from) - 1) ∷ []) c.in_ok-said.ensures ∙ grown names rows new told is removed w.if-told.true
-          | else-told w ↦ w.said-is ∙ c.in_ok-said.ensures ∙ not_grown names rows new told is removed w.if-told.false
-        ] in
+    elim c.if-told.branch [
+      | then-told+in_ok-push w ↦
+          w.said-is ∙ w.in_ok-push.ensures.ok ∙ ap (λ (rs : List Reply). rs ++ reply.Exists (told.number + (length rows - told.from) - 1) ∷ []) c.in_ok-said.ensures ∙ grown names rows new told is removed w.if-told.true
+      | else-told w ↦ w.said-is ∙ c.in_ok-said.ensures ∙ not_grown names rows new told is removed w.if-told.false
+    ] in
     c.from_vec.ensures ∙ c.in_ok-append.ensures.items
     ∙ ap (λ (rs : List Reply). rs ++ c.into_vec.result.items) (c.into_vec-said.ensures ∙ first)
     ∙ ap (λ (rs : List Reply). (removed ++ cond (shows_all rows new) [] (reply.Exists (length new) ∷ [])) ++ rs) (c.into_vec.ensures ∙ is.changes)

@@ -24,9 +24,9 @@ tell_row-requires-clause-number c =
     let next = next_told step fresh c.requires.given c.args.at f c.requires.at c.index-fresh-at.is (drop before.from rows) k e place in
     let front : length (take k (drop before.from rows)) ≡ k = length-take k (drop before.from rows) ∙ (let le = place.0 in omega arith) in
     let all : length (rows_after step (drop before.from rows) (drop c.args.at fresh)) ≡ k + (1 + length behind) =
-        ap length next ∙ length-append (take k (drop before.from rows)) (option_to_list f.row ++ behind)
-        ∙ ap (λ n. n + length (option_to_list f.row ++ behind)) front
-        ∙ ap (λ row. k + length (option_to_list row ++ behind)) c.in-Some.is ∙ omega arith in
+    ap length next ∙ length-append (take k (drop before.from rows)) (option_to_list f.row ++ behind)
+    ∙ ap (λ n. n + length (option_to_list f.row ++ behind)) front
+    ∙ ap (λ row. k + length (option_to_list row ++ behind)) c.in-Some.is ∙ omega arith in
     let number : c.pass.new.told.number ≡ before.number + k = ap (λ (t : Telling). t.number) c.pass.ensures.told in
     omega (arith, all, number, c.requires.told.rest.count, c.requires.count)
 
@@ -46,7 +46,7 @@ returns c =
     let next = next_told step fresh c.requires.given c.args.at f c.requires.at c.index-fresh-at.is (drop before.from rows) k e place in
     let goes = subst (λ rs. GoesOn names rows new rs before) next c.requires.told.rest in
     let over : GoesOn names rows new (option_to_list f.row ++ behind) c.pass.new.told =
-        subst (GoesOn names rows new (option_to_list f.row ++ behind)) (sym c.pass.ensures.told) (passed names rows new before.from k (option_to_list f.row ++ behind) before place.0 goes) in
+    subst (GoesOn names rows new (option_to_list f.row ++ behind)) (sym c.pass.ensures.told) (passed names rows new before.from k (option_to_list f.row ++ behind) before place.0 goes) in
     let from : c.pass.new.told.from ≡ before.from + k = ap (λ (t : Telling). t.from) c.pass.ensures.told in
     elim c.match-f.branch [
       | in-Some+in_ok-tell_row w ↦

@@ -44,8 +44,8 @@ returns-clause-view c =
     let ordered = subst IsOrdered c.self.view_is c.self.invariant in
     let rises = rises_of fresh (given_of view c.args.next_uid (length names) fresh c.requires) in
     λ m is.
-        ap (λ (rs : List Shown). record { rows = rs; next_uid = c.args.next_uid }) (rows_are c)
-        ∙ sym (moved_whole view c.args.next_uid names fresh m ordered c.requires.later rises c.requires.known is c.args.step)
+    ap (λ (rs : List Shown). record { rows = rs; next_uid = c.args.next_uid }) (rows_are c)
+    ∙ sym (moved_whole view c.args.next_uid names fresh m ordered c.requires.later rises c.requires.known is c.args.step)
 
 pub returns-clause-said : goal.returns-clause-said
 returns-clause-said c =
@@ -57,7 +57,7 @@ returns-clause-said c =
     let rises = rises_of fresh (given_of view c.args.next_uid (length names) fresh c.requires) in
     let rows = c.as_slice.ensures ∙ ap (λ (v : View). v.rows) c.self.view_is in
     λ m is.
-        said_is m view (moved step view m) c.in_ok-replies.replies names c.as_slice.result.now (rows_after step c.as_slice.result.now c.as_slice-fresh.result.now)
-        c.in_ok-replies.ensures (sym is.names) rows
-        (ap (λ rs. rows_after step rs c.as_slice-fresh.result.now) rows ∙ ap (rows_after step view.rows) c.as_slice-fresh.ensures
-            ∙ sym (moved_is_after view c.args.next_uid names fresh m ordered c.requires.later rises c.requires.known is step))
+    said_is m view (moved step view m) c.in_ok-replies.replies names c.as_slice.result.now (rows_after step c.as_slice.result.now c.as_slice-fresh.result.now)
+    c.in_ok-replies.ensures (sym is.names) rows
+    (ap (λ rs. rows_after step rs c.as_slice-fresh.result.now) rows ∙ ap (rows_after step view.rows) c.as_slice-fresh.ensures
+    ∙ sym (moved_is_after view c.args.next_uid names fresh m ordered c.requires.later rises c.requires.known is step))
