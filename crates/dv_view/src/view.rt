@@ -105,6 +105,7 @@ impl View {
         step: Step,
     ) -> Result<List<Reply>, NoMemory>
         requires { AreFresh self.old next_uid (length names.now.names) fresh.now }
+        // The rows are the old ones with the changes of which the step tells.
         ensures rows { OnOk result (self.new ≡ record {
           rows = rows_after step self.old.rows fresh.now;
           next_uid = next_uid;
