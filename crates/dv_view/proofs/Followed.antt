@@ -1,7 +1,7 @@
 -- The rows behind a step are those that the changes give: what the code makes, and what the mailbox shows.
-use Rattle.std.proofs.Common.{◌≡◌, ◌⊎◌, inl, inr, ℕ, zero, suc, ◌+◌, ◌-◌, ◌^◌, ◌<◌, ◌≤◌, Bool, true, false, cond, not, ◌&&◌, ◌||◌, List, [], ◌∷◌, ◌++◌, length, Some, None, Option, refl, sym, ◌∙◌, ap, subst, arith, append_assoc}
-use Rattle.std.specs.Prelude.{All, IfSome, IsSome, map, filter, find, is_some, nat_eq, nat_le, nat_lt, option_map, option_to_list, unwrap_or}
-use Rattle.std.specs.List.{AllByRecursion, list_any}
+use Rattle.std.proofs.Common.{◌≡◌, ◌⊎◌, inl, inr, ℕ, ◌+◌, ◌^◌, ◌<◌, ◌≤◌, Bool, true, false, cond, not, ◌&&◌, ◌||◌, List, [], ◌∷◌, ◌++◌, length, Some, None, Option, refl, sym, ◌∙◌, ap, subst, arith, append_assoc}
+use Rattle.std.specs.Prelude.{IfSome, IsSome, map, filter, find, is_some, nat_eq, nat_le, nat_lt, option_map, option_to_list, unwrap_or}
+use Rattle.std.specs.List.{AllByRecursion}
 use Rattle.std.specs.Option.{option_or}
 use Rattle.std.proofs.lemmas.Bool.Decides.{nat_tests}
 use Rattle.std.proofs.lemmas.List.{append-nil}
@@ -15,7 +15,7 @@ use Rattle.dv_model.specs.declared.types.Step.{Step}
 use Rattle.dv_model.specs.declared.types.Step.TheVariants.{Held, Full}
 use Rattle.dv_model.specs.Fresh.{AreFresh, IsFreshRow, patched, with_fresh}
 use Rattle.dv_model.specs.Views.{View, moved, row_of, shown}
-use Rattle.dv_model.proofs.Clients.{Above, above_from, above_lower, above_of_rising, all_shown_rise, each_append, each_of_all, each_weaker, false_is_not_true, from_uid, held_row, held_uid, not_same, not_same_back, shows}
+use Rattle.dv_model.proofs.Clients.{Above, above_from, above_lower, above_of_rising, all_shown_rise, each_append, each_of_all, each_weaker, false_is_not_true, from_uid, held_row, held_uid, not_same, shows}
 use Rattle.dv_view.specs.Following.{AreGiven, AreKnown, IsPatched, given, has_left, renewed, rows_after, told_of}
 use Rattle.dv_view.specs.Laws.{ChangesFollow}
 use Rattle.dv_view.specs.Orders.{IsOrdered}

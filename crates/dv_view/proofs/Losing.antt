@@ -1,18 +1,18 @@
 -- The numbers of the rows that have left, from the changes alone.
-use Rattle.std.proofs.Common.{◌≡◌, ◌⊎◌, inl, inr, ℕ, zero, suc, ◌+◌, ◌-◌, ◌<◌, ◌≤◌, Bool, true, false, cond, not, ◌&&◌, ◌||◌, List, [], ◌∷◌, ◌++◌, length, get_or, ltb, take, Some, None, Option, refl, sym, ◌∙◌, ap, subst, arith, append_assoc, append-nil}
-use Rattle.std.specs.Prelude.{All, IfSome, IsSome, map, filter, find, is_some, nat_eq, nat_le, nat_lt, option_map, option_to_list, position, reverse}
+use Rattle.std.proofs.Common.{◌≡◌, ◌⊎◌, inl, inr, ℕ, suc, ◌+◌, ◌-◌, ◌<◌, ◌≤◌, Bool, true, false, cond, not, ◌&&◌, ◌||◌, List, [], ◌∷◌, ◌++◌, length, get_or, ltb, take, Some, None, Option, refl, sym, ◌∙◌, ap, arith, append_assoc, append-nil}
+use Rattle.std.specs.Prelude.{map, filter, is_some, nat_eq, option_map, option_to_list, position, reverse}
 use Rattle.std.specs.List.{AllByRecursion, list_any, position_or_len}
 use Rattle.std.proofs.lemmas.Bool.{cases_lt, le-ltb, lt-ltb}
 use Rattle.std.proofs.lemmas.Bool.Decides.{nat_tests}
-use Rattle.std.proofs.lemmas.List.{map-append, reverse-append, take_all, take_more}
+use Rattle.std.proofs.lemmas.List.{map-append, reverse-append, take_more}
 use Rattle.dv_model.specs.declared.types.Fresh.{Fresh}
 use Rattle.dv_model.specs.declared.types.Reply.{Reply}
 use Rattle.dv_model.specs.declared.types.Reply.TheVariants as reply
 use Rattle.dv_model.specs.declared.types.Shown.{Shown}
-use Rattle.dv_model.specs.declared.types.Step.TheVariants.{Held, Full}
+use Rattle.dv_model.specs.declared.types.Step.TheVariants.{Held}
 use Rattle.dv_model.specs.Fresh.{patched}
 use Rattle.dv_model.specs.Views.{numbers}
-use Rattle.dv_model.proofs.Clients.{Above, IsOne, each_is_one, each_weaker, false_is_not_true, not_same, not_same_back, not_not, shows}
+use Rattle.dv_model.proofs.Clients.{Above, IsOne, each_is_one, each_weaker, false_is_not_true, not_same_back, shows}
 use Rattle.dv_view.specs.Following.{has_left, left_number, renewed, rows_after, told_of}
 use Rattle.dv_view.specs.Tells.{removals_of}
 use Rattle.dv_view.proofs.Finding.{any_by_place, any_is_found}

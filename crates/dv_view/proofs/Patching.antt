@@ -1,14 +1,13 @@
 -- Rows by rising UID and the one of a UID, also where changes are put among them.
-use Rattle.std.proofs.Common.{◌≡◌, ◌⊎◌, inl, inr, ℕ, zero, suc, ◌+◌, ◌-◌, ◌<◌, ◌≤◌, Bool, true, false, cond, not, ◌&&◌, ◌||◌, List, [], ◌∷◌, ◌++◌, length, Some, None, Option, refl, sym, ◌∙◌, ap, subst, arith}
-use Rattle.std.specs.Prelude.{All, IfSome, map, filter, find, fold, is_some, nat_eq, nat_le, nat_lt, option_map, option_to_list, unwrap_or}
-use Rattle.std.specs.List.{AllByRecursion}
+use Rattle.std.proofs.Common.{◌≡◌, ◌⊎◌, inl, inr, ℕ, ◌+◌, ◌<◌, ◌≤◌, Bool, true, false, cond, List, [], ◌∷◌, ◌++◌, Some, None, Option, refl, sym, ◌∙◌, ap, subst, arith}
+use Rattle.std.specs.Prelude.{IfSome, find, nat_eq, nat_lt, option_to_list}
 use Rattle.std.proofs.lemmas.Bool.{cases_lt}
 use Rattle.std.proofs.lemmas.Bool.Decides.{nat_tests}
 use Rattle.std.proofs.lemmas.List.{append-nil}
 use Rattle.dv_model.specs.declared.types.Fresh.{Fresh}
 use Rattle.dv_model.specs.declared.types.Shown.{Shown}
 use Rattle.dv_model.specs.Fresh.{patched, with_fresh}
-use Rattle.dv_model.proofs.Clients.{Above, above_lower, false_is_not_true, not_same, not_same_back}
+use Rattle.dv_model.proofs.Clients.{Above, above_lower, not_same_back}
 
 -- ---- the row of a UID
 

@@ -1,7 +1,7 @@
 -- Changes by rising UID: where one stands, and what it does to the rows from its place on.
-use Rattle.std.proofs.Common.{◌≡◌, ◌≢◌, ◌⊎◌, inl, inr, ℕ, zero, suc, ◌+◌, ◌-◌, ◌<◌, ◌≤◌, Bool, true, false, cond, not, ◌&&◌, ◌||◌, List, [], ◌∷◌, ◌++◌, length, get_or, ltb, take, drop, Some, None, Option, refl, sym, ◌∙◌, ap, subst, arith, append_assoc, length-drop}
-use Rattle.std.specs.Prelude.{All, IfSome, map, filter, find, is_some, nat_eq, nat_le, nat_lt, option_to_list, slice_index}
-use Rattle.std.specs.List.{AllByRecursion, AllWithin, list_any}
+use Rattle.std.proofs.Common.{◌≡◌, ◌⊎◌, inl, inr, ℕ, zero, suc, ◌+◌, ◌-◌, ◌<◌, ◌≤◌, Bool, true, false, cond, not, ◌&&◌, ◌||◌, List, [], ◌∷◌, ◌++◌, length, get_or, ltb, take, drop, Some, None, Option, refl, sym, ◌∙◌, ap, subst, arith, append_assoc, length-drop}
+use Rattle.std.specs.Prelude.{IfSome, map, filter, is_some, nat_eq, nat_lt, option_to_list}
+use Rattle.std.specs.List.{AllByRecursion}
 use Rattle.std.specs.List.Sorted.{IsStrictlyIncreasing, IsPartitionedBy, IsPartitionPoint}
 use Rattle.std.proofs.lemmas.Bool.{cases_lt, ltb-true, ltb-false}
 use Rattle.std.proofs.lemmas.Bool.Decides.{nat_tests}
@@ -12,11 +12,11 @@ use Rattle.dv_model.specs.declared.types.Shown.{Shown}
 use Rattle.dv_model.specs.declared.types.Step.{Step}
 use Rattle.dv_model.specs.declared.types.Step.TheVariants.{Held, Full}
 use Rattle.dv_model.specs.Fresh.{patched, with_fresh}
-use Rattle.dv_model.proofs.Clients.{Above, above_lower, each_of_all, false_is_not_true, not_same, not_same_back, rising_tail}
+use Rattle.dv_model.proofs.Clients.{each_of_all, not_same, not_same_back, rising_tail}
 use Rattle.dv_view.specs.Following.{AreGiven, has_left, told_of}
 use Rattle.dv_view.specs.Orders.{AreRising}
 use Rattle.dv_view.specs.Told.{IsPlace, without}
-use Rattle.dv_view.proofs.Patching.{Rises, rises_lower, same_is, is_same}
+use Rattle.dv_view.proofs.Patching.{Rises, rises_lower}
 use Rattle.dv_view.proofs.Rising.{apart}
 
 -- ---- rising changes

@@ -1,5 +1,5 @@
 -- How a view follows changes that are given by UID.
-use Rattle.std.specs.Prelude.{◌≡◌, ℕ, suc, Bool, true, false, not, ◌&&◌, List, [], ◌∷◌, ◌++◌, map, filter, find, position, Option, Some, None, is_some, ◌≤◌, ◌⊎◌, All, IfSome, IsSome, option_map, option_to_list, nat_eq, unwrap_or}
+use Rattle.std.specs.Prelude.{◌≡◌, ℕ, suc, Bool, true, not, ◌&&◌, List, [], ◌∷◌, ◌++◌, map, filter, find, position, Option, Some, None, is_some, ◌≤◌, ◌⊎◌, All, IfSome, IsSome, option_map, option_to_list, nat_eq, unwrap_or}
 use Rattle.std.specs.List.{list_any}
 use Rattle.std.specs.List.Sorted.{IsStrictlyIncreasing}
 use Rattle.dv_model.specs.declared.types.Fresh.{Fresh}

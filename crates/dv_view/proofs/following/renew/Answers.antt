@@ -1,4 +1,4 @@
-use Rattle.std.proofs.Common.{◌≡◌, ◌∙◌, nat_eq, ap, sym, arith, get_or}
+use Rattle.std.proofs.Common.{◌∙◌, nat_eq, sym, get_or}
 use Rattle.std.proofs.lemmas.List.Quantifiers.{position-Some}
 use Rattle.dv_model.specs.declared.types.Shown.{Shown}
 use Rattle.dv_model.proofs.Clients.{above_of_rising}

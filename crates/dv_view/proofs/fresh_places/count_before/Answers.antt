@@ -1,4 +1,4 @@
-use Rattle.std.proofs.Common.{drop, ltb, rules, ap, subst, sym}
+use Rattle.std.proofs.Common.{ltb, rules, subst, sym}
 use Rattle.std.specs.List.Sorted.{IsPartitionedBy}
 use Rattle.std.proofs.lemmas.List.Sorted.{IsPartitionPoint-from_clause}
 use Rattle.dv_model.specs.declared.types.Shown.{Shown}

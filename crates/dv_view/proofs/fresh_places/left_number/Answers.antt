@@ -1,4 +1,4 @@
-use Rattle.std.proofs.Common.{◌<◌, ◌^◌, length, arith, rules}
+use Rattle.std.proofs.Common.{◌<◌, ◌^◌, length, arith}
 use Rattle.dv_view.proofs.Rising.{few}
 use Rattle.dv_view.proofs.fresh_places.left_number.Goals as goal
 

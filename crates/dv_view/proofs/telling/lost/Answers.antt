@@ -1,4 +1,4 @@
-use Rattle.std.proofs.Common.{◌≡◌, ◌∙◌, ◌++◌, ap, sym}
+use Rattle.std.proofs.Common.{◌∙◌, ◌++◌, ap, sym}
 use Rattle.dv_model.specs.declared.types.Step.TheVariants.{Full}
 use Rattle.dv_model.proofs.Clients.{above_of_rising}
 use Rattle.dv_view.specs.Following.{rows_after}

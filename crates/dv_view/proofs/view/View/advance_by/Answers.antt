@@ -1,8 +1,7 @@
-use Rattle.std.proofs.Common.{◌≡◌, ◌<◌, ◌≤◌, ◌+◌, ◌^◌, ◌∙◌, List, ap, arith, length, subst, sym}
-use Rattle.dv_model.specs.declared.types.Fresh.{Fresh}
+use Rattle.std.proofs.Common.{◌≡◌, ◌<◌, ◌^◌, ◌∙◌, List, ap, length, subst, sym}
 use Rattle.dv_model.specs.declared.types.Shown.{Shown}
 use Rattle.dv_model.specs.Views.{View, moved}
-use Rattle.dv_view.specs.Following.{AreGiven, rows_after}
+use Rattle.dv_view.specs.Following.{rows_after}
 use Rattle.dv_view.specs.Orders.{IsOrdered}
 use Rattle.dv_view.proofs.Followed.{after_few, after_rise, given_of, moved_is_after, moved_whole}
 use Rattle.dv_view.proofs.Moving.{Rise, ordered_of_rise, said_is}
