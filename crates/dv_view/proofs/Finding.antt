@@ -39,7 +39,7 @@ module _ {X : Type 0} (p : X → Bool) where
   some_found x o true = refl
   some_found x o false = refl
 
-  any_is_found : (xs : List X) → list_any p xs ≡ is_some (find p xs)
+  pub any_is_found : (xs : List X) → list_any p xs ≡ is_some (find p xs)
   any_is_found [] = refl
   any_is_found (x ∷ xs) = ap (λ b. p x || b) (any_is_found xs) ∙ sym (some_found x (find p xs) (p x))
 

@@ -38,7 +38,7 @@ from_zero (row ∷ rows) = let low : nat_le 0 row.uid ≡ true = grind (arith, n
 
 -- ---- a view that moves stays in order
 
-rising_of : (n : ℕ) (rows : List Shown) → Above n rows → IsStrictlyIncreasing (map (λ s. s.uid) rows)
+pub rising_of : (n : ℕ) (rows : List Shown) → Above n rows → IsStrictlyIncreasing (map (λ s. s.uid) rows)
 rising_of n [] above k below = absurd (omega (arith, below))
 rising_of n (s ∷ []) above k below = absurd (omega (arith, below))
 rising_of n (s ∷ t ∷ rows) above zero below = omega (arith, above.1.0)
@@ -75,7 +75,7 @@ held_below m b (s ∷ rows) each = (subst (λ uid. uid < b) (sym (held_uid m s))
 uids_below : (m : Mailbox) → IsValid m → AllByRecursion (λ row. row.uid < m.next_uid) m.rows
 uids_below m valid = each_weaker (IsRowOf m) (λ row. row.uid < m.next_uid) (λ row is. is.uid.1) m.rows (each_of_all (IsRowOf m) m.rows valid.rows)
 
-moved_rise : (step : Step) (m : Mailbox) (view : View) → IsOrdered view → IsValid m → view.next_uid ≤ m.next_uid → Rise m.next_uid (moved step view m).rows
+pub moved_rise : (step : Step) (m : Mailbox) (view : View) → IsOrdered view → IsValid m → view.next_uid ≤ m.next_uid → Rise m.next_uid (moved step view m).rows
 moved_rise Full m view ordered valid later = record {
   above = all_shown_rise m valid.rising;
   below = shown_below m.next_uid m.rows (uids_below m valid);

@@ -14,7 +14,7 @@ use Rattle.dv_view.specs.Orders.{AreRising}
 
 -- ---- how many
 
-few_from : (n b : ℕ) (rows : List Shown) → n ≤ b → Above n rows → AllByRecursion (λ s. s.uid < b) rows → length rows + n ≤ b
+pub few_from : (n b : ℕ) (rows : List Shown) → n ≤ b → Above n rows → AllByRecursion (λ s. s.uid < b) rows → length rows + n ≤ b
 few_from n b [] le above below = omega arith
 few_from n b (s ∷ rows) le above below =
     let from : n ≤ s.uid = above.0 in
@@ -29,7 +29,7 @@ few rows are =
 
 -- ---- the place of a UID
 
-apart : (rows : List Shown) → AreRising rows → (i j : ℕ) (d : Shown) → i < j → j < length rows → (get_or rows i d).uid < (get_or rows j d).uid
+pub apart : (rows : List Shown) → AreRising rows → (i j : ℕ) (d : Shown) → i < j → j < length rows → (get_or rows i d).uid < (get_or rows j d).uid
 apart rows are i j d less inside =
     let uids = map (λ (s : Shown). s.uid) rows in
     let long : length (map (λ (s : Shown). s.uid) rows) ≡ length rows = length-map rows (λ (s : Shown). s.uid) in

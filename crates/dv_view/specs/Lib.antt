@@ -1,4 +1,6 @@
 pub mod Clients
+pub mod Following
 pub mod Laws
 pub mod Orders
 pub mod Tells
+pub mod Told

@@ -4,14 +4,17 @@
 
 mod client;
 mod copies;
+mod following;
+mod fresh_places;
 mod laws;
 mod moves;
 mod places;
 mod replies;
+mod telling;
 mod view;
 
 pub use client::Client;
-pub use laws::bare_client_has_view;
+pub use laws::{bare_client_has_view, changes_follow};
 pub use view::View;
 
 #[cfg(test)]

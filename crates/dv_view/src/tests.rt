@@ -1,6 +1,11 @@
+ghost use Rattle.std.specs.Prelude.{◌≡◌, [], IfOk, IsSomeAnd, true};
+ghost use Rattle.dv_model.specs.Fresh.{AreFresh};
+ghost use Rattle.dv_model.specs.Views.{View as Rows, empty_view, shows_uid};
+
 use super::*;
 use dv_apply::Live;
-use dv_model::{List, NoMemory, Reply, Step, Value};
+use dv_keywords::Table;
+use dv_model::{Fresh, List, NoMemory, Reply, Shown, Step, Value};
 use dv_records::decode;
 use std::alloc::Global;
 use std::test::*;
@@ -162,5 +167,89 @@ fn untold_row_keeps_its_number(rt: HostRuntime) -> Result<(), Fail> {
 #[test]
 fn row_never_heard_of_is_not_told(rt: HostRuntime) -> Result<(), Fail> {
     assert!(rt; are_right(rt.alloc(), &NEVER_HEARD_OF)?);
+    Ok(())
+}
+
+fn shown(alloc: Global, uid: u32, flags: u8) -> Shown
+    ensures uid { result.uid ≡ uid }
+    ensures keywords { result.keywords ≡ [] }
+{
+    Shown {
+        uid,
+        flags,
+        keywords: List::new(alloc),
+        modseq: 1,
+    }
+}
+
+fn given(alloc: Global, uid: u32, flags: u8) -> Fresh
+    ensures uid { result.uid ≡ uid }
+    ensures row { IsSomeAnd result.row (λ s. (s.uid ≡ uid) × (s.keywords ≡ [])) }
+{
+    Fresh {
+        uid,
+        row: Some(shown(alloc, uid, flags)),
+    }
+}
+
+// UIDs 1 and 2, without flags.
+fn first_changes(alloc: Global) -> Result<List<Fresh>, NoMemory>
+    ensures { IfOk result (λ fresh. AreFresh empty_view 3 0 fresh) }
+{
+    let mut fresh = List::new(alloc);
+    fresh.push(given(alloc, 1, 0))?;
+    fresh.push(given(alloc, 2, 0))?;
+    Ok(fresh)
+}
+
+// UID 1 has left, UID 2 is Seen, and UID 3 is new.
+fn next_changes(alloc: Global) -> Result<List<Fresh>, NoMemory>
+    ensures { IfOk result (λ fresh. (view : Rows) → view.next_uid ≡ 3 → shows_uid view 2 ≡ true
+        → AreFresh view 4 0 fresh) }
+{
+    let mut fresh = List::new(alloc);
+    fresh.push(Fresh { uid: 1, row: None })?;
+    fresh.push(given(alloc, 2, 8))?;
+    fresh.push(given(alloc, 3, 0))?;
+    Ok(fresh)
+}
+
+// Whether the second move says what is expected, and a client that hears both has the view.
+fn is_right(
+    alloc: Global,
+    step: Step,
+    expected: &[(char, u32, u32, u8)],
+) -> Result<bool, NoMemory> {
+    let names = Table::empty(alloc);
+    let mut client = Client {
+        rows: List::new(alloc),
+    };
+    let mut view = View::empty(alloc);
+    let said = view.advance_by(3, &first_changes(alloc)?, &names, Step::Full)?;
+    hear_all(alloc, &mut client, &said)?;
+    if view.next_uid() != 3 || view.position(2).is_none() {
+        return Ok(false);
+    }
+    let said = view.advance_by(4, &next_changes(alloc)?, &names, step)?;
+    hear_all(alloc, &mut client, &said)?;
+    Ok(is_said(&said, expected) && has_same_rows(&client, &view))
+}
+
+#[test]
+fn full_step_follows_changes(rt: HostRuntime) -> Result<(), Fail> {
+    let expected = [
+        ('X', 1, 0, 0),
+        ('E', 2, 0, 0),
+        ('F', 1, 2, 8),
+        ('F', 2, 3, 0),
+    ];
+    assert!(rt; is_right(rt.alloc(), Step::Full, &expected)?);
+    Ok(())
+}
+
+#[test]
+fn held_step_follows_changes(rt: HostRuntime) -> Result<(), Fail> {
+    let expected = [('E', 3, 0, 0), ('F', 2, 2, 8), ('F', 3, 3, 0)];
+    assert!(rt; is_right(rt.alloc(), Step::Held, &expected)?);
     Ok(())
 }

@@ -1,17 +1,21 @@
-ghost use Rattle.std.specs.Prelude.{◌≡◌, ◌≤◌, nat_eq, position, IfOk, OnErr, OnOk};
-ghost use Rattle.dv_model.specs.Laws.{IsReadIn, Follows};
-ghost use Rattle.dv_model.specs.Mailboxes.{IsValid};
-ghost use Rattle.dv_model.specs.Views.{all_heard, empty_view, known_of, moved, said};
+ghost use Rattle.std.specs.Prelude.{◌≡◌, ◌≤◌, length, nat_eq, position, IfOk, OnErr, OnOk};
+ghost use Rattle.dv_model.specs.Fresh.{AreFresh};
+ghost use Rattle.dv_model.specs.Views.{empty_view, moved, said};
 ghost use Rattle.dv_model.specs.declared.types.Mailbox.{Mailbox};
+ghost use Rattle.dv_view.specs.Following.{IsPatched, rows_after};
 ghost use Rattle.dv_view.specs.Orders.{IsOrdered};
 
+use crate::following::follow;
 use crate::moves::moved_rows;
 use crate::places::place_of;
 use crate::replies::said;
+use crate::telling::said_by;
 use dv_apply::Live;
-use dv_model::{List, NoMemory, Reply, Shown, Step};
+use dv_keywords::Table;
+use dv_model::{Fresh, List, NoMemory, Reply, Shown, Step};
 use std::alloc::Global;
 use std::marker::Model;
+use std::mem;
 
 /// The rows that a session was shown, by message number, and the UIDNEXT up to which it was told.
 #[derive(Drop)]
@@ -70,7 +74,6 @@ impl View {
     /// the only error, the view is as before. The time is in proportion to the rows of both.
     pub fn advance(&mut self, live: &Live, step: Step) -> Result<List<Reply>, NoMemory>
         // The mailbox isn't older than the view.
-        requires valid { IsValid live.now.mailbox }
         requires later { self.old.next_uid ≤ live.now.mailbox.next_uid }
         // The view moves by the step, and exactly that is said.
         ensures view { OnOk result (self.new ≡ moved step self.old live.now.mailbox) }
@@ -78,6 +81,7 @@ impl View {
             replies ≡ said live.now.mailbox self.old (moved step self.old live.now.mailbox)) }
         ensures err { OnErr result (self.new ≡ self.old) }
     {
+        let next_uid = live.next_uid();
         let rows = moved_rows(self.alloc, live, self.rows.as_slice(), self.next_uid, step)?;
         let replies = said(
             self.alloc,
@@ -86,7 +90,42 @@ impl View {
             rows.as_slice(),
         )?;
         self.rows = rows;
-        self.next_uid = live.next_uid();
+        self.next_uid = next_uid;
+        Ok(replies)
+    }
+
+    /// Moves on by changes that are given by UID, without a look at the mailbox, and gives what the
+    /// session is told of it. After `NoMemory`, which is the only error, the view is as before. The
+    /// time is in proportion to the changes; only where a row leaves are all rows gone through.
+    pub fn advance_by(
+        &mut self,
+        next_uid: u32,
+        fresh: &List<Fresh>,
+        names: &Table,
+        step: Step,
+    ) -> Result<List<Reply>, NoMemory>
+        requires { AreFresh self.old next_uid (length names.now.names) fresh.now }
+        // The rows are the old ones with the changes of which the step tells.
+        ensures rows { OnOk result (self.new ≡ record {
+          rows = rows_after step self.old.rows fresh.now;
+          next_uid = next_uid;
+        }) }
+        // To whatever mailbox the changes lead, the view moves by the step, and exactly that is said.
+        ensures view { OnOk result ((m : Mailbox)
+            → IsPatched self.old next_uid names.now.names fresh.now m
+            → self.new ≡ moved step self.old m) }
+        ensures said { IfOk result (λ replies. (m : Mailbox)
+            → IsPatched self.old next_uid names.now.names fresh.now m
+            → replies ≡ said m self.old (moved step self.old m)) }
+        ensures err { OnErr result (self.new ≡ self.old) }
+    {
+        let fresh = fresh.as_slice();
+        let replies = said_by(self.alloc, names, self.rows.as_slice(), fresh, step)?;
+        let mut rows = mem::replace(&mut self.rows, List::new(self.alloc)).into_vec();
+        let followed = follow(self.alloc, &mut rows, self.next_uid, fresh, step);
+        self.rows = List::from_vec(rows);
+        followed?;
+        self.next_uid = next_uid;
         Ok(replies)
     }
 }

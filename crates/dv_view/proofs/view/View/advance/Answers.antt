@@ -12,14 +12,14 @@ rows_are c =
 pub said-requires-clause-new_rows : goal.said-requires-clause-new_rows
 said-requires-clause-new_rows c =
     let ordered = subst IsOrdered c.self.view_is c.self.invariant in
-    rising_after c.args.step c.args.live.now.mailbox c.args.self.now c.as_slice-3.result.now (c.as_slice-3.ensures ∙ rows_are c) ordered c.requires.valid c.requires.later
+    rising_after c.args.step c.args.live.now.mailbox c.args.self.now c.as_slice-3.result.now (c.as_slice-3.ensures ∙ rows_are c) ordered c.next_uid-next_uid.ensures.valid c.requires.later
 
 pub invariant_of-self : goal.invariant_of-self
 invariant_of-self c =
     let ordered = subst IsOrdered c.self.view_is c.self.invariant in
     let rows = moved_is c.args.step c.args.live.now.mailbox c.args.self.now c.in_ok-rows.rows c.as_slice.result.now c.self.inside.next_uid
     c.in_ok-rows.ensures (c.as_slice.ensures ∙ ap (λ (v : View). v.rows) c.self.view_is) (ap (λ (v : View). v.next_uid) c.self.view_is) in
-    ordered_after c.args.step c.args.live.now.mailbox c.args.self.now c.in_ok-rows.rows c.next_uid-self-inside.result rows c.next_uid-self-inside.ensures.is ordered c.requires.valid c.requires.later
+    ordered_after c.args.step c.args.live.now.mailbox c.args.self.now c.in_ok-rows.rows c.next_uid-next_uid.result rows c.next_uid-next_uid.ensures.is ordered c.next_uid-next_uid.ensures.valid c.requires.later
 
 pub returns-clause-said : goal.returns-clause-said
 returns-clause-said c =
