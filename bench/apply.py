@@ -72,12 +72,12 @@ def messages(count):
     return log
 
 
-def run(program, first, others):
+def run(program, first, others, words=()):
     """The microseconds that the other records take behind the first."""
     text = b"".join(first + others)
     shortest = None
     for _ in range(RUNS):
-        done = subprocess.run([program, str(len(first))], input=text, stdout=subprocess.PIPE, check=False)
+        done = subprocess.run([program, str(len(first)), *words], input=text, stdout=subprocess.PIPE, check=False)
         answer = done.stdout.decode()
         if done.returncode != 0 or not answer.startswith(f"{len(first) + len(others)} records, "):
             sys.exit(f"status {done.returncode}: {answer!r}")
@@ -86,12 +86,12 @@ def run(program, first, others):
     return shortest
 
 
-def table(program, title, sizes, make):
+def table(program, title, sizes, make, words=()):
     """A line for each size, with its ratio to the line above."""
     print(title)
     before = None
     for size in sizes:
-        took = run(program, *make(size))
+        took = run(program, *make(size), words)
         ratio = f"  {took / before:6.1f} times the line above" if before else ""
         print(f"  {size:>8}  {took / 1000:>10.2f} ms{ratio}", flush=True)
         before = max(took, 1)
@@ -109,7 +109,9 @@ def main():
           lambda n: (appends(n), [keyword(b"k1", u) for u in range(1, n + 1)]))
     table(program, "n messages as a Dovecot server logs them", (1_000, 4_000, 10_000),
           lambda n: ([], messages(n)))
-    table(program, "n updates of one new keyword name each", (4_000, 16_000, 64_000),
+    table(program, "n updates of one new keyword name each, of one row each", (4_000, 16_000, 64_000),
+          lambda n: (appends(n), [keyword(name_of(k), k + 1) for k in range(n)]))
+    table(program, "n updates of one new keyword name each, all of one row", (4_000, 16_000),
           lambda n: (appends(1), [keyword(name_of(k), 1) for k in range(n)]))
     table(program, "one flag update of n falling ranges over n rows", (10_000, 40_000),
           lambda n: (appends(n), [flags([(u, u) for u in range(n, 0, -1)])]))
@@ -118,6 +120,10 @@ def main():
     names = [keyword(name_of(k), 1) for k in range(1_000)]
     table(program, "10,000 keyword updates of one row under 1,000 names, over so many rows", (100, 100_000),
           lambda n: (appends(n) + names, [keyword(name_of(k % 1_000), k % n + 1) for k in range(10_000)]))
+    table(program, "the same with the touched UIDs handed out: flags", (100, 100_000),
+          lambda n: (appends(n), [flags([(k % n + 1, k % n + 1)]) for k in range(10_000)]), ("touched",))
+    table(program, "the same with the touched UIDs handed out: keywords", (100, 100_000),
+          lambda n: (appends(n) + names, [keyword(name_of(k % 1_000), k % n + 1) for k in range(10_000)]), ("touched",))
     wide = 65_536
     table(program, "one flag update of 65,536 ranges in disorder, over so many rows", (100_000,),
           lambda n: (appends(n), [flags([(u * 40_503 % n + 1,) * 2 for u in range(wide)])]))

@@ -4,6 +4,7 @@ ghost use Rattle.dv_model.specs.Spelling.{IsRecord};
 use crate::fault::Fault;
 use dv_apply::Live;
 use dv_model::Record;
+use dv_touched::Touched;
 use std::time::Instant;
 
 /// How long the first records took, and the others, in microseconds.
@@ -24,14 +25,35 @@ fn apply_all(rt: HostRuntime, live: &mut Live, records: &[Record]) -> Result<u12
     Ok(start.elapsed(&rt)?.as_micros())
 }
 
+// Applies them in turn, each with the UIDs that it touches.
+fn touch_all(rt: HostRuntime, live: &mut Live, records: &[Record]) -> Result<u128, Fault>
+    requires { All IsRecord records.now }
+{
+    let start = Instant::now(&rt)?;
+    for record in records {
+        let mut touched = Touched::empty(rt.alloc());
+        live.apply_touched(record, &mut touched)?;
+    }
+    Ok(start.elapsed(&rt)?.as_micros())
+}
+
 /// Applies them all to a new mailbox; the first so many of them, where there are as many, are timed
-/// alone.
-pub fn time_records(rt: HostRuntime, records: &[Record], first: usize) -> Result<Times, Fault>
+/// alone. The others may be applied with the UIDs that they touch.
+pub fn time_records(
+    rt: HostRuntime,
+    records: &[Record],
+    first: usize,
+    touched: bool,
+) -> Result<Times, Fault>
     requires { All IsRecord records.now }
 {
     let mut live = Live::empty(rt.alloc(), 1);
     let (front, behind) = records.split_at(first.min(records.len()));
     let first = apply_all(rt, &mut live, front)?;
-    let others = apply_all(rt, &mut live, behind)?;
+    let others = if touched {
+        touch_all(rt, &mut live, behind)?
+    } else {
+        apply_all(rt, &mut live, behind)?
+    };
     Ok(Times { first, others })
 }
