@@ -110,7 +110,7 @@ impl View {
           rows = rows_after step self.old.rows fresh.now;
           next_uid = next_uid;
         }) }
-        // To whatever mailbox the changes lead, the view moves by the step, and exactly that is said.
+        // To whatever mailbox the changes lead, the view moves by the step, and just that is said.
         ensures view { OnOk result ((m : Mailbox)
             → IsPatched self.old next_uid names.now.names fresh.now m
             → self.new ≡ moved step self.old m) }
