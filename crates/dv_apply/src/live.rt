@@ -169,6 +169,9 @@ impl Live {
         ensures ok { OnOk result (after_record self.old.mailbox r.now ≡ Some self.new.mailbox) }
         ensures bad { OnBadAppend result (λ refused. refused_row self.old.mailbox r.now.body
             ≡ Some refused) }
+        ensures refused { (refused : Refused) →
+            refused_row self.old.mailbox r.now.body ≡ Some refused →
+            result ≡ Err (fault.BadAppend refused.uid refused.next_uid) }
         ensures err { OnErr result (shown_in self.new ≡ shown_in self.old) }
         ensures touched { OnOk result ((uid : ℕ) →
             Contains touched.new uid ↔ (Contains touched.old uid
