@@ -163,7 +163,8 @@ impl Live {
     }
 
     /// Applies a record as `apply` does, and adds the UIDs that it touches to others. It takes
-    /// memory. After a fault the mailbox, the spare rows and the UIDs are as before.
+    /// memory, but names a refused row without. After a fault the mailbox, the spare rows and the
+    /// UIDs are as before.
     pub fn apply_touched(&mut self, r: &Record, touched: &mut Touched) -> Result<(), ApplyFault>
         requires { IsRecord r.now }
         ensures ok { OnOk result (after_record self.old.mailbox r.now ≡ Some self.new.mailbox) }
