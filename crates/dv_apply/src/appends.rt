@@ -13,8 +13,8 @@ use crate::fault::ApplyFault;
 use crate::state::State;
 use dv_model::{NewRow, NoMemory};
 
-// Tests that each row has a UID that wasn't given out before.
-fn test_rows(rows: &[NewRow], next_uid: u32) -> Result<(), ApplyFault>
+/// Tests that each row has a UID that wasn't given out before.
+pub fn test_rows(rows: &[NewRow], next_uid: u32) -> Result<(), ApplyFault>
     requires { All (λ row. row.uid < 2 ^ 32 - 1) rows.now }
     ensures ok { OnOk result (first_refused next_uid rows.now ≡ None) }
     ensures bad { OnBadAppend result (λ refused. first_refused next_uid rows.now ≡ Some refused) }

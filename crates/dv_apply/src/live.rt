@@ -163,12 +163,16 @@ impl Live {
     }
 
     /// Applies a record as `apply` does, and adds the UIDs that it touches to others. It takes
-    /// memory. After a fault the mailbox, the spare rows and the UIDs are as before.
+    /// memory, but names a refused row without. After a fault the mailbox, the spare rows and the
+    /// UIDs are as before.
     pub fn apply_touched(&mut self, r: &Record, touched: &mut Touched) -> Result<(), ApplyFault>
         requires { IsRecord r.now }
         ensures ok { OnOk result (after_record self.old.mailbox r.now ≡ Some self.new.mailbox) }
         ensures bad { OnBadAppend result (λ refused. refused_row self.old.mailbox r.now.body
             ≡ Some refused) }
+        ensures refused { (refused : Refused) →
+            refused_row self.old.mailbox r.now.body ≡ Some refused →
+            result ≡ Err (fault.BadAppend refused.uid refused.next_uid) }
         ensures err { OnErr result (shown_in self.new ≡ shown_in self.old) }
         ensures touched { OnOk result ((uid : ℕ) →
             Contains touched.new uid ↔ (Contains touched.old uid

@@ -1,5 +1,6 @@
 use super::*;
 use dv_records::decode;
+use dv_touched::Touched;
 use std::alloc::Global;
 use std::test::*;
 
@@ -225,5 +226,38 @@ fn a_copy_changes_by_itself(rt: HostRuntime) -> Result<(), Fail> {
     assert!(rt; has_rows(&live, &[(1, 0, &[], 2), (2, 8, &[], 2)]));
     assert_eq!(rt; live.names().count(), 0);
     assert_eq!(rt; copy.uid_validity(), 1000);
+    Ok(())
+}
+
+// UID 2 gets Seen.
+const SEEN: &[u8] = b"\x80\x80\x80\x85\x04\0\0\0\x02\0\0\0\x02\0\0\0\x08\0\0\0";
+
+// UID 3.
+const THREE: &[u8] = b"\x80\x80\x80\x84\x02\0\0\0\x03\0\0\0\0\0\0\0";
+
+// A record, and the UIDs that it and those before it touch.
+const TOUCHES: [(&[u8], &[u32]); 4] = [
+    (SEEN, &[]),
+    (OLD, &[2]),
+    (THREE, &[2, 3]),
+    (NAMED, &[1, 2, 3]),
+];
+
+fn touches(alloc: Global, live: &mut Live, bytes: &[u8], touched: &mut Touched) -> bool {
+    match decode(alloc, bytes, 0) {
+        Ok((record, _)) => live.apply_touched(&record, touched).is_ok(),
+        Err(_) => false,
+    }
+}
+
+#[test]
+fn touched_uids_are_gathered(rt: HostRuntime) -> Result<(), Fail> {
+    let mut live = Live::empty(rt.alloc(), 1000);
+    let mut touched = Touched::empty(rt.alloc());
+    assert_eq!(rt; apply(rt.alloc(), &mut live, TWO), Ok(()));
+    for (bytes, uids) in TOUCHES {
+        assert!(rt; touches(rt.alloc(), &mut live, bytes, &mut touched));
+        assert_eq!(rt; touched.uids(), uids);
+    }
     Ok(())
 }

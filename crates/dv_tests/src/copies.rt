@@ -4,8 +4,8 @@ use dv_records::{decode, encode};
 use std::alloc::Global;
 use std::test::*;
 
-// A record of each kind, in its written spelling.
-const RECORDS: [&[u8]; 12] = [
+/// A record of each kind, in its written spelling.
+pub const RECORDS: [&[u8]; 12] = [
     // UIDVALIDITY 1000
     b"\x80\x80\x80\x84\x20\0\0\0\x18\0\x04\0\xe8\x03\0\0",
     // UID 1, and UID 2 with Seen

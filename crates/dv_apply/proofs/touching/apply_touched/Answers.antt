@@ -1,10 +1,14 @@
 use Rattle.std.specs.Prelude.{Contains}
 use Rattle.dv_model.specs.Effects.{applied}
 use Rattle.dv_model.specs.Fresh.{IsTouched}
+use Rattle.dv_apply.proofs.Keeping.{sound}
 use Rattle.dv_apply.proofs.Replacing.{either_touched, touched_one}
 use Rattle.dv_apply.specs.Preparing.{ready_of}
 use Rattle.dv_apply.specs.States.{held_of, mailbox_of}
 use Rattle.dv_apply.proofs.touching.apply_touched.Goals as goal
+
+pub test_body-requires : goal.test_body-requires
+test_body-requires c = sound c.args.r.now c.requires.record
 
 pub returns-in-Ok-with-clause-touched : goal.returns-in-Ok-with-clause-touched
 returns-in-Ok-with-clause-touched c = λ uid.
