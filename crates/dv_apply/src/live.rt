@@ -269,8 +269,10 @@ impl Live {
 
     /// The extensions, and the current one.
     pub fn extensions(&self) -> &Extensions
-        ensures { result.now
-            ≡ record { extensions = self.now.mailbox.extensions; current = self.now.mailbox.current } }
+        ensures { result.now ≡ record {
+          extensions = self.now.mailbox.extensions;
+          current = self.now.mailbox.current;
+        } }
     {
         &self.state.extensions
     }

@@ -18,7 +18,8 @@ use std::alloc::Global;
 
 // Adds the UIDs of all rows.
 fn name_all(rows: &Rows, uids: &mut Vec<u32>) -> Result<(), NoMemory>
-    ensures named { OnOk result ((uid : ℕ) → HasUid rows.now.rows uid → Contains uids.new.items uid) }
+    ensures named { OnOk result ((uid : ℕ) →
+        HasUid rows.now.rows uid → Contains uids.new.items uid) }
     ensures adds { Adds rows.now.rows uids.old.items uids.new.items }
 {
     if rows.count() == 0 {
