@@ -1,6 +1,7 @@
 -- A row behind a change of its keywords, with the modification sequence that it then has.
 use Rattle.std.proofs.Common.{◌≡◌, ◌≢◌, ℕ, ◌%◌, Bool, true, false, cond, ◌&&◌, List, refl, sym, ◌∙◌, ap}
 use Rattle.std.specs.Prelude.{bytes_eq, nat_eq}
+use Rattle.std.proofs.lemmas.Bool.{and_right}
 use Rattle.std.proofs.lemmas.Slice.Eq.{bytes_eq-Decides}
 use Rattle.dv_model.specs.declared.types.Pair.{Pair}
 use Rattle.dv_model.specs.declared.types.Row.{Row}
@@ -13,10 +14,6 @@ use Rattle.dv_rows.specs.Changed.{changed_keywords}
 pub itself : (n : ℕ) (row : Row) → restamped n row row ≡ row
 itself n row = ap (λ b. cond b row (record row { modseq = n })) (as_before_itself row)
 
-and_false : (a b : Bool) → b ≡ false → (a && b) ≡ false
-and_false true b e = e
-and_false false b e = refl
-
 differs_by : (b : Bool) (ks ls : List ℕ) → ks ≢ ls → bytes_eq ks ls ≡ b → b ≡ false
 differs_by false ks ls other e = refl
 differs_by true ks ls other e = absurd (other ((bytes_eq-Decides ks ls).0 e))
@@ -25,7 +22,7 @@ differs_by true ks ls other e = absurd (other ((bytes_eq-Decides ks ls).0 e))
 pub others : (n : ℕ) (row : Row) (places : List ℕ) → places ≢ row.keywords → record row { keywords = places; modseq = n } ≡ restamped n row (record row { keywords = places })
 others n row places other =
     sym (ap (λ b. cond b (record row { keywords = places }) (record row { keywords = places; modseq = n }))
-    (and_false (nat_eq row.uid row.uid && nat_eq (row.flags % 32) (row.flags % 32)) (bytes_eq places row.keywords) (differs_by (bytes_eq places row.keywords) places row.keywords other refl)))
+    (and_right (nat_eq row.uid row.uid && nat_eq (row.flags % 32) (row.flags % 32)) (bytes_eq places row.keywords) (differs_by (bytes_eq places row.keywords) places row.keywords other refl)))
 
 -- the same ones don't
 pub same_places : (n : ℕ) (row : Row) (places : List ℕ) → places ≡ row.keywords → row ≡ restamped n row (record row { keywords = places })

@@ -7,6 +7,7 @@ use Rattle.dv_model.specs.declared.types.Key.{Key, out-Key, roll-Key, roll-out-K
 use Rattle.dv_model.specs.declared.types.Key.TheOpen.{Key-F}
 use Rattle.dv_model.specs.declared.types.Key.TheVariants as key
 use Rattle.dv_formats.specs.Scripts.{AreKeys, AreSought, IsKey, IsWord, key_levels}
+use Rattle.dv_view.proofs.Passing.{and_true}
 use Rattle.dv_search.specs.Nesting.{level_step, levels_of, most_levels}
 
 max_least : (a b c : ℕ) → a ≤ c → b ≤ c → max a b ≤ c
@@ -81,10 +82,6 @@ max_within levels a b =
     same_tests (nat_le (max a b) levels) (nat_le a levels && nat_le b levels)
     (λ e. and_from (nat_le a levels) (nat_le b levels) (le-leb a levels (omega (arith, leb-true (max a b) levels e))) (le-leb b levels (omega (arith, leb-true (max a b) levels e))))
     (λ e. let both = and_parts (nat_le a levels) (nat_le b levels) e in le-leb (max a b) levels (max_least a b levels (leb-true a levels both.0) (leb-true b levels both.1)))
-
-and_true : (b : Bool) → (b && true) ≡ b
-and_true true = refl
-and_true false = refl
 
 and_grouped : (a b c : Bool) → ((a && b) && c) ≡ (a && (b && c))
 and_grouped true b c = refl

@@ -3,7 +3,7 @@ use Rattle.std.proofs.Common.{◌≡◌, ◌⊎◌, inl, inr, ℕ, zero, suc, �
 use Rattle.std.specs.Prelude.{All, filter, max, nat_le, nat_lt, ◌&&◌}
 use Rattle.std.specs.List.{range_with_len}
 use Rattle.std.specs.List.Sorted.{IsNonDecreasingBy}
-use Rattle.std.proofs.lemmas.Bool.{cases_lt, lt-ltb, le-ltb, le-leb, lt-leb}
+use Rattle.std.proofs.lemmas.Bool.{and_from, and_left, and_right, cases_lt, lt-ltb, le-ltb, le-leb, lt-leb}
 use Rattle.std.specs.List.Sorted.{IsPermutation}
 use Rattle.std.proofs.lemmas.List.Elements.{All-map}
 use Rattle.std.proofs.lemmas.Map.Views.{All-map-IsPermutation}
@@ -65,17 +65,10 @@ run test a b (suc n) e passes =
 
 -- ---- one interval more
 
-and_false : (b : Bool) → (b && false) ≡ false
-and_false true = refl
-and_false false = refl
-
-both : (a b : Bool) → a ≡ true → b ≡ true → (a && b) ≡ true
-both a b p q = rw (p, q)
-
 module _ (xs : List Interval) (rising : IsNonDecreasingBy (λ (i : Interval). i.from) xs) where
   outside : (k : ℕ) (i : Interval) → (k < i.from) ⊎ (i.to ≤ k) → is_within k i ≡ false
-  outside k i (inl less) = ap (λ (b : Bool). b && nat_lt k i.to) (lt-leb i.from k less)
-  outside k i (inr more) = ap (λ (b : Bool). nat_le i.from k && b) (le-ltb k i.to more) ∙ and_false (nat_le i.from k)
+  outside k i (inl less) = and_left _ (nat_lt k i.to) (lt-leb i.from k less)
+  outside k i (inr more) = and_right (nat_le i.from k) _ (le-ltb k i.to more)
 
   -- nothing behind the first intervals and before the next one is covered
   before : (j next : ℕ) (d : Interval) → j < length xs → All (λ (i : Interval). i.to ≤ next) (take j xs)
@@ -101,7 +94,7 @@ module _ (xs : List Interval) (rising : IsNonDecreasingBy (λ (i : Interval). i.
       within : (k : ℕ) → x.from ≤ k → k < x.to → is_covered xs k ≡ true
       within k le small =
           list_any_at (is_within k) xs j x less
-          (subst (λ (i : Interval). is_within k i ≡ true) is (both (nat_le x.from k) (nat_lt k x.to) (le-leb x.from k le) (lt-ltb k x.to small)))
+          (subst (λ (i : Interval). is_within k i ≡ true) is (and_from (nat_le x.from k) (nat_lt k x.to) (le-leb x.from k le) (lt-ltb k x.to small)))
 
       by : (max x.from next < x.to) ⊎ (x.to ≤ max x.from next)
           → numbers_where (is_covered xs) (max x.to next) ≡ numbers_where (is_covered xs) next ++ map (λ (k : ℕ). k + 1) (range_with_len (max x.from next) (x.to - max x.from next))

@@ -120,6 +120,10 @@ drop_end : {X : Type 0} (xs : List X) → drop (length xs) xs ≡ []
 drop_end [] = refl
 drop_end (x ∷ xs) = drop_end xs
 
+pub and_true : (b : Bool) → (b && true) ≡ b
+and_true true = refl
+and_true false = refl
+
 pub finished : (names : List (List ℕ)) (step : Step) (rows : List Shown) (fresh : List Fresh) (told : Telling) → IsToldTo names step rows fresh (length fresh) told
     → IsFinished names rows (rows_after step rows fresh) told
 finished names step rows fresh told is =
@@ -135,10 +139,6 @@ finished names step rows fresh told is =
       growth = sym (and_true (not told.grows)) ∙ ap (λ b. not told.grows && b) (sym (ap (shows_all rows) (sym same) ∙ shows_behind names rows (drop told.from rows) [] (each_drop (λ (s : Shown). shows rows s.uid ≡ true) told.from rows (all_shown rows)))) ∙ goes.growth;
       count = omega (arith, goes.count, long);
     }
-  where
-    and_true : (b : Bool) → (b && true) ≡ b
-    and_true true = refl
-    and_true false = refl
 
 drop_empty : {X : Type 0} (j : ℕ) → ◌≡◌ {A = List X} (drop j []) []
 drop_empty zero = refl
