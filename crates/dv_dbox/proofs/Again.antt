@@ -4,7 +4,7 @@ use Rattle.std.specs.Prelude.{slice_index}
 use Rattle.std.specs.List.{flat_map, list_all, position, position_or_len, slice_split}
 use Rattle.std.specs.Option.{option_map}
 use Rattle.std.specs.Str.Parse.{digits_value}
-use Rattle.std.proofs.lemmas.Bool.{and_parts, le-ltb, lt-ltb}
+use Rattle.std.proofs.lemmas.Bool.{and_parts, le-ltb, lt-ltb, not-true}
 use Rattle.std.proofs.lemmas.List.{append-nil, drop-drop, drop_at, get_or-append-add, get_or_append_left, get_or_at, length-append, take_at}
 use Rattle.std.proofs.lemmas.List.Folds.{list_all-append}
 use Rattle.std.proofs.lemmas.List.Splits.{slice_split_at, slice_split_none}
@@ -20,10 +20,6 @@ is_plain b = not (is_space b) && not (is_feed b)
 abbrev pub is_unended : ℕ → Bool
 is_unended b = not (is_feed b)
 
-not_true : (b : Bool) → not b ≡ true → b ≡ false
-not_true true e = absurd cc
-not_true false e = refl
-
 plain_parts : (text : List ℕ) → list_all is_plain text ≡ true
     → (list_all (λ b. not (is_space b)) text ≡ true) × (list_all is_unended text ≡ true)
 plain_parts [] e = (refl, refl)
@@ -35,7 +31,7 @@ plain_parts (b ∷ text) e =
 
 none_of : (p : ℕ → Bool) (text : List ℕ) → list_all (λ b. not (p b)) text ≡ true
     → All (λ b. p b ≡ false) text
-none_of p text e k d lt = not_true (p (get_or text k d)) (AllPass-from_list_all (λ b. not (p b)) text e k d lt)
+none_of p text e k d lt = not-true (p (get_or text k d)) (AllPass-from_list_all (λ b. not (p b)) text e k d lt)
 
 -- ---- what stands behind a front of known length
 

@@ -2,7 +2,7 @@
 use Rattle.std.proofs.Common.{◌≡◌, ◌≢◌, ℕ, ◌+◌, ◌<◌, ◌≤◌, ◌⊎◌, Bool, true, false, not, ◌&&◌, if◌then◌else◌, List, [], ◌∷◌, ◌++◌, Option, None, Some, length, get_or, slice_get, max, nat_le, nat_lt, nat_eq, position, sum_by, All, AllPairs, IfSome, IsSomeAnd, bytes_eq, codes, cond, refl, ap, sym, ◌∙◌, arith, subst, get_or-set_same, get_or-set_other, inl, inr}
 use Rattle.std.proofs.Math.ListN.{set, length-set}
 use Rattle.std.specs.List.{list_all, position_or_len}
-use Rattle.std.proofs.lemmas.Bool.{cases_eq, leb-true}
+use Rattle.std.proofs.lemmas.Bool.{cases_eq, leb-true, not-true}
 use Rattle.std.proofs.lemmas.Bool.Decides.{nat_tests}
 use Rattle.std.proofs.lemmas.List.{get_or_read, length_push}
 use Rattle.std.proofs.lemmas.List.Elements.{All-push, All-set}
@@ -140,10 +140,6 @@ added_by t intro is new name fits =
       current = some_and (slice_get (es ++ e ∷ []) (length es)) (λ x. intro.record_size ≤ x.record_size) e found (omega arith);
     }
 
-is_true_not : (b : Bool) → not b ≡ true → b ≡ false
-is_true_not true e = absurd cc
-is_true_not false e = refl
-
 may_tells : (intro : Intro) → may_be_added intro ≡ true → (nat_eq intro.ext_id no_id ≡ true) × (1 ≤ length intro.name) × (length intro.name ≤ 255) × (intro.name ≢ codes "keywords")
 may_tells intro may =
     let n : ℕ = length intro.name in
@@ -152,7 +148,7 @@ may_tells intro may =
     let c : Bool = nat_le n 255 in
     let d : Bool = bytes_eq intro.name (codes "keywords") in
     let three : (a && b && c) ≡ true = and_left (a && b && c) (not d) may in
-    let other : d ≡ false = is_true_not d (and_right (a && b && c) (not d) may) in
+    let other : d ≡ false = not-true d (and_right (a && b && c) (not d) may) in
     let two : (a && b) ≡ true = and_left (a && b) c three in
     (and_left a b two, leb-true 1 n (and_right a b two), leb-true n 255 (and_right (a && b) c three), other_name intro.name (codes "keywords") other)
 

@@ -1,5 +1,6 @@
 -- Rows that records may not change stay as they are.
 use Rattle.std.proofs.Common.{◌≡◌, ℕ, suc, ◌+◌, ◌%◌, ◌/◌, ◌≤◌, Bool, true, false, cond, not, ◌&&◌, List, [], ◌∷◌, ◌++◌, length, get_or, nat_eq, nat_le, nat_lt, Option, Some, None, refl, sym, ◌∙◌, ap, subst, arith}
+use Rattle.std.proofs.lemmas.Bool.{false_from_ne_true, not-false}
 use Rattle.std.specs.Prelude.{All, Contains, drop, filter, fold, map, option_and_then, option_map, slice_get, take}
 use Rattle.std.specs.Int.{w32, from_le_bytes}
 use Rattle.std.specs.List.{list_all, list_any}
@@ -37,12 +38,8 @@ use Rattle.dv_portion.specs.Portions.{AllSpare, HoldsNew, Spares, is_in_updates,
 
 -- ---- tests that fail
 
-no_by : (b : Bool) → (b ≡ true → ⊥) → b ≡ false
-no_by true h = absurd (h refl)
-no_by false h = refl
-
 all_off : {X : Type 0} (p : X → Bool) (xs : List X) → list_any p xs ≡ false → All (λ x. p x ≡ false) xs
-all_off p xs off k d h = no_by (p (get_or xs k d)) (λ passes. let found : list_any p xs ≡ true = list_any_at p xs k d h passes in absurd cc)
+all_off p xs off k d h = false_from_ne_true (p (get_or xs k d)) (λ passes. let found : list_any p xs ≡ true = list_any_at p xs k d h passes in absurd cc)
 
 -- what names none of the rows by all, names none by one
 each_off : {A : Type 0} (p : A → ℕ → Bool) (xs : List A) (rows : List Row) → All (λ row. list_any (λ a. p a row.uid) xs ≡ false) rows → All (λ a. All (λ row. p a row.uid ≡ false) rows) xs
@@ -153,10 +150,6 @@ intros_rows m (intro ∷ intros) valid quiet =
     let others : list_all (is_quiet m.extensions) intros ≡ true = second_of (is_quiet m.extensions intro) (list_all (is_quiet m.extensions) intros) quiet in
     intros_rows (with_intro m intro) intros (intros_valid m (intro ∷ []) valid) (subst (λ (es : List Extension). list_all (is_quiet es) intros ≡ true) (sym first.extensions) others) ∙ first.rows
 
-all_quiet : (b : Bool) → not b ≡ false → b ≡ true
-all_quiet true e = refl
-all_quiet false e = absurd cc
-
 -- ---- other records of extensions
 
 reset_by : (m : Mailbox) (zeroes kept : Mailbox) → kept.rows ≡ m.rows → (b : Bool) → b ≡ false → (cond b zeroes kept).rows ≡ m.rows
@@ -203,7 +196,7 @@ intros_by : (m : Mailbox) (intros : List Intro) → IsValid m → IsSpared m (Ex
 intros_by m intros valid off [] e = nobody m (fold with_intro m intros) (ExtIntro intros) (λ test. effect_acts test m (ExtIntro intros) tt) refl e ∙ sym e
 intros_by m intros valid off (row ∷ rows) e =
     let some : length m.rows ≡ suc (length rows) = ap length e in
-    intros_rows m intros valid (all_quiet (list_all (is_quiet m.extensions) intros) (off 0 row (omega arith)))
+    intros_rows m intros valid (not-false (list_all (is_quiet m.extensions) intros) (off 0 row (omega arith)))
 
 reset_rows : (m : Mailbox) (reset_id preserve : ℕ) → IsSpared m (ExtReset reset_id preserve) → (rows : List Row) → m.rows ≡ rows → (on_current m (with_reset reset_id preserve m)).rows ≡ m.rows
 reset_rows m reset_id preserve off [] e =

@@ -2,7 +2,7 @@
 use Rattle.std.proofs.Common.{◌≡◌, ℕ, ◌+◌, ◌-◌, ◌^◌, ◌<◌, ◌≤◌, Bool, true, false, cond, eqb, List, [], ◌∷◌, ◌++◌, length, get_or, take, refl, sym, ◌∙◌, ap, subst, arith}
 use Rattle.std.specs.Prelude.{◌&&◌, ◌||◌, All, Contains, filter, map, nat_eq, nat_le, not}
 use Rattle.std.specs.List.{list_any}
-use Rattle.std.proofs.lemmas.Bool.{eq-eqb, eqb-true}
+use Rattle.std.proofs.lemmas.Bool.{eq-eqb, eqb-true, lt-leb}
 use Rattle.std.proofs.lemmas.Bool.Decides.{nat_tests}
 use Rattle.std.proofs.lemmas.List.{append-nil, get_or-map, get_or-take, get_or_default, get_or_push, length-map, length-take-le, length_push, map_push, take-take, take_all, take_more}
 use Rattle.std.proofs.lemmas.List.Elements.{All-contains, All-filter, All-map, All-push, All-take, All-weaker, Contains-append_left, filter-append, filter_passes}
@@ -189,10 +189,10 @@ module _ (uids : List ℕ) (bound : ℕ) (part before : List Row) (is : IsPart u
         let u = (get_or rows k d).uid in
         let under : u < bound = All-filter (λ row. not (is_missing uids part row.uid)) (λ row. row.uid < bound) before is.below k d h in
         let stays = filter_passes (λ (row : Row). not (is_missing uids part row.uid)) before k d h in
-        cover_by (is_among uids u) (nat_le bound u) (is_among us u) (not_over bound u under) (subst (λ b. not (is_among uids u && not b) ≡ true) (there_among part u) stays) (in_part u);
+        cover_by (is_among uids u) (nat_le bound u) (is_among us u) (lt-leb bound u under) (subst (λ b. not (is_among uids u && not b) ≡ true) (there_among part u) stays) (in_part u);
     there = λ k d h under.
         let u = (get_or part k d).uid in
-        let named : is_among uids u ≡ true = or_by (is_among uids u) (nat_le bound u) (not_over bound u under) (is.parted k d h) in
+        let named : is_among uids u ≡ true = or_by (is_among uids u) (nat_le bound u) (lt-leb bound u under) (is.parted k d h) in
         let found : HasUid before u = All-contains (HasUid before) uids u is.named (Contains-from_any (λ x y. eqb-true x y) u uids named) in
         let kept : not (is_missing uids part u) ≡ true = there_by (is_among uids u) (list_any (λ r. nat_eq r.uid u) part) (list_any_at (λ (r : Row). nat_eq r.uid u) part k d h (eq-eqb (get_or part k d).uid u refl)) in
         subst (λ l. Contains l u) (sym (map_filter (λ (r : Row). r.uid) (λ uid. not (is_missing uids part uid)) before))
@@ -218,9 +218,6 @@ module _ (uids : List ℕ) (bound : ℕ) (part before : List Row) (is : IsPart u
       stays_by : (a n c : Bool) → not (a || n) ≡ true → not (a && not c) ≡ true
       stays_by true n c e = cc
       stays_by false n c e = refl
-
-      not_over : (b u : ℕ) → u < b → nat_le b u ≡ false
-      not_over b u less = grind (arith, nat_tests)
 
 pub put_ends : (uids : List ℕ) (bound : ℕ) (part before : List Row) (i : ℕ) (now : List Row) → IsPutTo uids bound part before i now → length part ≤ i → filter (λ row. is_parted uids bound row.uid) now ≡ part
 put_ends uids bound part before i now so_far end =

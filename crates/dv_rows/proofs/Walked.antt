@@ -82,14 +82,11 @@ and_between a false c p q = ap (λ x. x && false && c) p
 and_last : (a b c : Bool) → a ≡ true → b ≡ true → (a && b && c) ≡ c
 and_last a b c p q = ap (λ x. x && b && c) p ∙ ap (λ x. x && c) q
 
-same_number : (n : ℕ) → nat_eq n n ≡ true
-same_number n = eq-eqb n n refl
-
 same_bytes : (bs : List ℕ) → bytes_eq bs bs ≡ true
 same_bytes bs = (bytes_eq-Decides bs bs).1 refl
 
 before_by_flags : (row : Row) (flags : ℕ) → is_as_before (record row { flags = flags }) row ≡ nat_eq (flags % 32) (row.flags % 32)
-before_by_flags row flags = and_between (nat_eq row.uid row.uid) (nat_eq (flags % 32) (row.flags % 32)) (bytes_eq row.keywords row.keywords) (same_number row.uid) (same_bytes row.keywords)
+before_by_flags row flags = and_between (nat_eq row.uid row.uid) (nat_eq (flags % 32) (row.flags % 32)) (bytes_eq row.keywords row.keywords) (eq-eqb row.uid row.uid refl) (same_bytes row.keywords)
 
 stamped_by : (b : Bool) (n : ℕ) (row : Row) → record row { modseq = cond b row.modseq n } ≡ cond b row (record row { modseq = n })
 stamped_by true n row = refl
@@ -129,7 +126,7 @@ flags_walked n changes row =
     stamped_flags false n r = refl
 
     stamp_twice : (n : ℕ) (p : Noted) → flags_stamped n (flags_stamped n p) ≡ flags_stamped n p
-    stamp_twice n p = ap (λ b. record { row = record p.row { modseq = cond b (cond (nat_eq (p.row.flags % 32) (p.note % 32)) p.row.modseq n) n }; note = p.row.flags }) (same_number (p.row.flags % 32))
+    stamp_twice n p = ap (λ b. record { row = record p.row { modseq = cond b (cond (nat_eq (p.row.flags % 32) (p.note % 32)) p.row.modseq n) n }; note = p.row.flags }) (eq-eqb (p.row.flags % 32) (p.row.flags % 32) refl)
 
 -- ---- a keyword reset
 
@@ -139,7 +136,7 @@ clear_if true n row note =
     ap (λ r. with_note r note)
     (stamped_by (bytes_eq [] row.keywords) n (record row { keywords = [] })
     ∙ ap (λ b. cond b (record row { keywords = [] }) (record row { keywords = []; modseq = n }))
-    (sym (and_last (nat_eq row.uid row.uid) (nat_eq (row.flags % 32) (row.flags % 32)) (bytes_eq [] row.keywords) (same_number row.uid) (same_number (row.flags % 32)))))
+    (sym (and_last (nat_eq row.uid row.uid) (nat_eq (row.flags % 32) (row.flags % 32)) (bytes_eq [] row.keywords) (eq-eqb row.uid row.uid refl) (eq-eqb (row.flags % 32) (row.flags % 32) refl))))
 
 pub keywords_walked : (n : ℕ) (pairs : List Pair) (row : Row) (note : ℕ)
     → by_ranges (λ x. x.first) (λ x. x.last) (λ r. without_keywords n) pairs (with_note row note) ≡ with_note (restamped n row (changed_keywords pairs (λ places. []) row)) note
@@ -203,7 +200,7 @@ differ (suc k) = ap (λ b. nat_eq (cond b 1 0) (suc k)) (not_zero k) ∙ ne_eqb 
 rows_by : (b : Bool) (row : Row) (rest : List Noted) (rows : List Row) → map (λ p. p.row) (filter stays rest) ≡ rows
     → map (λ p. p.row) (filter stays (cond b (marked (with_note row row.flags)) (with_note row row.flags) ∷ rest)) ≡ cond (not b) (row ∷ rows) rows
 rows_by true row rest rows is = ap (λ b. map (λ p. p.row) (cond b (marked (with_note row row.flags) ∷ filter stays rest) (filter stays rest))) (differ row.flags) ∙ is
-rows_by false row rest rows is = ap (λ b. map (λ p. p.row) (cond b (with_note row row.flags ∷ filter stays rest) (filter stays rest))) (same_number row.flags) ∙ ap (λ l. row ∷ l) is
+rows_by false row rest rows is = ap (λ b. map (λ p. p.row) (cond b (with_note row row.flags ∷ filter stays rest) (filter stays rest))) (eq-eqb row.flags row.flags refl) ∙ ap (λ l. row ∷ l) is
 
 pub rows_stay : (test : ℕ → Bool) (rows : List Row) → map (λ p. p.row) (filter stays (map (marked_if test) rows)) ≡ filter (λ row. not (test row.uid)) rows
 rows_stay test [] = refl
@@ -215,7 +212,7 @@ notes_by true row rest is =
     let gone : filter stays (marked (with_note row row.flags) ∷ rest) ≡ filter stays rest = ap (λ b. cond b (marked (with_note row row.flags) ∷ filter stays rest) (filter stays rest)) (differ row.flags) in
     ap (map (λ p. p.note)) gone ∙ is ∙ sym (ap (map (λ p. p.row.flags)) gone)
 notes_by false row rest is =
-    let kept : filter stays (with_note row row.flags ∷ rest) ≡ with_note row row.flags ∷ filter stays rest = ap (λ b. cond b (with_note row row.flags ∷ filter stays rest) (filter stays rest)) (same_number row.flags) in
+    let kept : filter stays (with_note row row.flags ∷ rest) ≡ with_note row row.flags ∷ filter stays rest = ap (λ b. cond b (with_note row row.flags ∷ filter stays rest) (filter stays rest)) (eq-eqb row.flags row.flags refl) in
     ap (map (λ p. p.note)) kept ∙ ap (λ l. row.flags ∷ l) is ∙ sym (ap (map (λ p. p.row.flags)) kept)
 
 pub notes_stay : (test : ℕ → Bool) (rows : List Row) → map (λ p. p.note) (filter stays (map (marked_if test) rows)) ≡ map (λ p. p.row.flags) (filter stays (map (marked_if test) rows))
@@ -237,7 +234,7 @@ count_by_mark bit none one true row rest is =
     ∙ sym (ap (λ b. note_count bit (map (λ p. p.note) (cond b (marked (with_note row row.flags) ∷ filter stays rest) (filter stays rest)))) (differ row.flags))
 count_by_mark bit none one false row rest is =
     sum_by-cons (bit_number bit) row.flags (map (λ p. p.note) rest) ∙ ap (λ n. bit_number bit row.flags + n) is ∙ sym (sum_by-cons (bit_number bit) row.flags (map (λ p. p.note) (filter stays rest)))
-    ∙ sym (ap (λ b. note_count bit (map (λ p. p.note) (cond b (with_note row row.flags ∷ filter stays rest) (filter stays rest)))) (same_number row.flags))
+    ∙ sym (ap (λ b. note_count bit (map (λ p. p.note) (cond b (with_note row row.flags ∷ filter stays rest) (filter stays rest)))) (eq-eqb row.flags row.flags refl))
 
 -- marks count neither as Seen nor as Deleted
 pub count_stays : (bit : ℕ) → bit_number bit 0 ≡ 0 → bit_number bit 1 ≡ 0 → (test : ℕ → Bool) (rows : List Row)

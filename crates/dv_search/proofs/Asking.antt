@@ -1,5 +1,6 @@
 -- What is known of a message for a key is known for the keys inside it.
 use Rattle.std.proofs.Common.{◌≡◌, ℕ, ◌<◌, Bool, true, false, ◌||◌, List, [], ◌∷◌, length, get_or, map, Option, Some, None, refl, sym, ap, ◌∙◌}
+use Rattle.std.proofs.lemmas.Bool.{or_right}
 use Rattle.std.specs.Prelude.{bytes_eq}
 use Rattle.std.specs.List.{list_any}
 use Rattle.std.proofs.lemmas.List.Folds.{list_any_at}
@@ -18,10 +19,6 @@ use Rattle.dv_search.specs.Facts.{AreFacts, AreKnown, asks, asks_step}
 pub any_of_made : {X Y : Type 0} (p : Y → Bool) (f : X → Y) (xs : List X) → list_any p (map f xs) ≡ list_any (λ x. p (f x)) xs
 any_of_made p f [] = refl
 any_of_made p f (x ∷ xs) = ap (λ b. p (f x) || b) (any_of_made p f xs)
-
-or-true : (b : Bool) → (b || true) ≡ true
-or-true true = refl
-or-true false = refl
 
 -- one of them passes
 pub one_of : {X : Type 0} (p : X → Bool) (xs : List X) (i : ℕ) (d : X) → i < length xs → p (get_or xs i d) ≡ true → list_any (λ b. b) (map p xs) ≡ true
@@ -63,7 +60,7 @@ module _ (message : Option (List ℕ)) (facts : Option MailFacts) where
 
   pub known-second : (one other : Key) → AreKnown (key.Or one other) message facts → AreKnown other message facts
   known-second one other =
-      known_less (key.Or one other) other (λ reads. needs_mail-Or one other ∙ ap (λ b. needs_mail one || b) reads ∙ or-true (needs_mail one)) (λ name asked. asks-Or one other name ∙ ap (λ b. asks one name || b) asked ∙ or-true (asks one name))
+      known_less (key.Or one other) other (λ reads. needs_mail-Or one other ∙ ap (λ b. needs_mail one || b) reads ∙ or_right (needs_mail one) true refl) (λ name asked. asks-Or one other name ∙ ap (λ b. asks one name || b) asked ∙ or_right (asks one name) true refl)
 
   pub known-each : (keys : List Key) (i : ℕ) (d : Key) → i < length keys → AreKnown (key.And keys) message facts → AreKnown (get_or keys i d) message facts
   known-each keys i d less =

@@ -1,16 +1,12 @@
 -- A text is found where it is contained.
 use Rattle.std.proofs.Common.{◌≡◌, ℕ, zero, suc, ◌+◌, ◌≤◌, Bool, true, false, ◌||◌, List, [], ◌∷◌, length, take, Option, Some, None, refl, sym, ap, ◌∙◌, ◌⊎◌, inl, inr, arith}
 use Rattle.std.specs.Prelude.{is_some, bytes_eq, slice_index}
-use Rattle.std.proofs.lemmas.Bool.{and_parts, cases_Bool}
+use Rattle.std.proofs.lemmas.Bool.{and_parts, cases_Bool, or_right}
 use Rattle.memchr.specs.Find.{FindsNeedle, Nowhere, OccursAt}
 use Rattle.memchr.proofs.lemmas.MatchLemmas.{occurs_at-true, OccursAt-from_part}
 use Rattle.std.proofs.lemmas.List.{length-take}
 use Rattle.std.proofs.lemmas.Slice.Eq.{bytes_eq-Decides}
 use Rattle.dv_model.specs.Searches.{contains_text}
-
-or-true : (b : Bool) → (b || true) ≡ true
-or-true true = refl
-or-true false = refl
 
 module _ (text : List ℕ) where
   -- one byte further on
@@ -41,7 +37,7 @@ module _ (text : List ℕ) where
       empty [] fits = refl
       empty (x ∷ t) fits = absurd (omega (arith, fits))
   contained (b ∷ bytes) zero occurs = ap (λ t. t || contains_text bytes text) (at_front (b ∷ bytes) occurs)
-  contained (b ∷ bytes) (suc k) occurs = ap (λ t. bytes_eq (take (length text) (b ∷ bytes)) text || t) (contained bytes k (later b bytes k occurs)) ∙ or-true (bytes_eq (take (length text) (b ∷ bytes)) text)
+  contained (b ∷ bytes) (suc k) occurs = ap (λ t. bytes_eq (take (length text) (b ∷ bytes)) text || t) (contained bytes k (later b bytes k occurs)) ∙ or_right (bytes_eq (take (length text) (b ∷ bytes)) text) true refl
 
   not_contained : (bytes : List ℕ) → Nowhere (OccursAt bytes text) 0 (length bytes + 1) → contains_text bytes text ≡ false
   not_contained [] nowhere = filled text nowhere

@@ -1,5 +1,6 @@
 -- A record leaves alone what is shown of a row that it doesn't name.
 use Rattle.std.proofs.Common.{◌≡◌, ℕ, suc, ◌%◌, ◌/◌, Bool, true, false, cond, ◌&&◌, List, [], ◌∷◌, ◌++◌, length, get_or, nat_eq, nat_le, nat_lt, Option, Some, None, refl, sym, ◌∙◌, ap, arith}
+use Rattle.std.proofs.lemmas.Bool.{false_from_ne_true, eqb-true}
 use Rattle.std.specs.Prelude.{All, Contains, bytes_eq, drop, filter, find, fold, map, not, option_map, replicate, slice_get, take, if◌then◌else◌}
 use Rattle.std.specs.List.{list_any}
 use Rattle.std.specs.Int.{w32, from_le_bytes}
@@ -31,16 +32,9 @@ use Rattle.dv_touched.specs.Telling.{shown_in}
 
 -- ---- rows
 
-no_by : (b : Bool) → (b ≡ true → ⊥) → b ≡ false
-no_by true h = absurd (h refl)
-no_by false h = refl
-
-match : (a b : ℕ) → nat_eq a b ≡ true → a ≡ b
-match a b e = grind (arith, nat_tests)
-
 -- none of them passes
 all_off : {X : Type 0} (p : X → Bool) (xs : List X) → list_any p xs ≡ false → All (λ x. p x ≡ false) xs
-all_off p xs off k d h = no_by (p (get_or xs k d)) (λ passes. let found : list_any p xs ≡ true = list_any_at p xs k d h passes in absurd cc)
+all_off p xs off k d h = false_from_ne_true (p (get_or xs k d)) (λ passes. let found : list_any p xs ≡ true = list_any_at p xs k d h passes in absurd cc)
 
 -- what is shown of the row of this UID
 abbrev pub seen : ℕ → List Row → Option Shown
@@ -57,7 +51,7 @@ mapped_by : (u : ℕ) (f : Row → Row) (row : Row) (o p : Option Row) → (f ro
     → (b : Bool) → nat_eq row.uid u ≡ b → option_map shown (cond b (Some row) o) ≡ option_map shown (cond (nat_eq (f row).uid u) (Some (f row)) p)
 mapped_by u f row o p uid same rest true e =
     let found : nat_eq (f row).uid u ≡ true = ap (λ n. nat_eq n u) uid ∙ e in
-    ap Some (sym (same (match row.uid u e))) ∙ ap (λ (b : Bool). option_map shown (cond b (Some (f row)) p)) (sym found)
+    ap Some (sym (same (eqb-true row.uid u e))) ∙ ap (λ (b : Bool). option_map shown (cond b (Some (f row)) p)) (sym found)
 mapped_by u f row o p uid same rest false e =
     let other : nat_eq (f row).uid u ≡ false = ap (λ n. nat_eq n u) uid ∙ e in
     rest ∙ ap (λ (b : Bool). option_map shown (cond b (Some (f row)) p)) (sym other)
@@ -70,11 +64,11 @@ seen_mapped u f uid same (row ∷ rows) =
 kept_by : (u : ℕ) (row : Row) (rows kept : List Row) (b : Bool) → (nat_eq row.uid u ≡ true → b ≡ true) → seen u rows ≡ seen u kept → seen u (row ∷ rows) ≡ seen u (cond b (row ∷ kept) kept)
 kept_by u row rows kept true passes rest = beside row (find (λ row. nat_eq row.uid u) rows) (find (λ row. nat_eq row.uid u) kept) (nat_eq row.uid u) rest
 kept_by u row rows kept false passes rest =
-    passed u row (find (λ row. nat_eq row.uid u) rows) (no_by (nat_eq row.uid u) (λ found. let impossible : false ≡ true = passes found in absurd cc)) ∙ rest
+    passed u row (find (λ row. nat_eq row.uid u) rows) (false_from_ne_true (nat_eq row.uid u) (λ found. let impossible : false ≡ true = passes found in absurd cc)) ∙ rest
 
 pub seen_filtered : (u : ℕ) (p : Row → Bool) → ((row : Row) → row.uid ≡ u → p row ≡ true) → (rows : List Row) → seen u rows ≡ seen u (filter p rows)
 seen_filtered u p stays [] = refl
-seen_filtered u p stays (row ∷ rows) = kept_by u row rows (filter p rows) (p row) (λ found. stays row (match row.uid u found)) (seen_filtered u p stays rows)
+seen_filtered u p stays (row ∷ rows) = kept_by u row rows (filter p rows) (p row) (λ found. stays row (eqb-true row.uid u found)) (seen_filtered u p stays rows)
 
 seen_pushed : (u : ℕ) (rows : List Row) (new : Row) → nat_eq new.uid u ≡ false → seen u rows ≡ seen u (rows ++ new ∷ [])
 seen_pushed u [] new other = sym (passed u new None other)

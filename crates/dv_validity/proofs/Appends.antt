@@ -1,5 +1,6 @@
 -- What appends leave.
 use Rattle.std.proofs.Common.{◌≡◌, ℕ, ◌-◌, ◌^◌, ◌<◌, ◌≤◌, Bool, true, false, cond, List, [], ◌∷◌, length, nat_lt, Some, None, refl, sym, ◌∙◌, subst, arith}
+use Rattle.std.proofs.lemmas.Bool.{ltb-false}
 use Rattle.std.specs.Prelude.{All, map, replicate}
 use Rattle.std.specs.List.Sorted.{IsStrictlyIncreasing}
 use Rattle.std.proofs.lemmas.Bool.Decides.{nat_tests}
@@ -11,9 +12,6 @@ use Rattle.dv_model.specs.declared.types.Row.{Row}
 use Rattle.dv_model.specs.Effects.{fresh_row, with_row, with_rows}
 use Rattle.dv_model.specs.Mailboxes.{IsRowOf, IsValid}
 use Rattle.dv_validity.proofs.Rows.{IsWider, GoesOn, goes_on_again, goes_on_pushed, goes_on_same, map_map, map_same, rising_push, rows_in}
-
-not_below : (a b : ℕ) → nat_lt a b ≡ false → b ≤ a
-not_below a b e = grind (arith, nat_tests)
 
 -- ---- one row
 
@@ -54,7 +52,7 @@ IsSmall row = row.uid < 2 ^ 32 - 1
 rows_valid_by : (m n : Mailbox) (row : NewRow) (rows : List NewRow) → (m.next_uid ≤ row.uid → with_rows (with_row m row) rows ≡ Some n → IsValid n)
     → (b : Bool) → nat_lt row.uid m.next_uid ≡ b → cond b None (with_rows (with_row m row) rows) ≡ Some n → IsValid n
 rows_valid_by m n row rows later true e is = absurd cc
-rows_valid_by m n row rows later false e is = later (not_below row.uid m.next_uid e) is
+rows_valid_by m n row rows later false e is = later (ltb-false row.uid m.next_uid e) is
 
 pub rows_valid : (m n : Mailbox) (rows : List NewRow) → IsValid m → All IsSmall rows → with_rows m rows ≡ Some n → IsValid n
 rows_valid m n [] valid small is = let e : m ≡ n = cc in subst IsValid e valid
@@ -65,7 +63,7 @@ rows_valid m n (row ∷ rows) valid small is =
 rows_go_on_by : (m n : Mailbox) (row : NewRow) (rows : List NewRow) → (with_rows (with_row m row) rows ≡ Some n → GoesOn (with_row m row) n)
     → (b : Bool) → nat_lt row.uid m.next_uid ≡ b → cond b None (with_rows (with_row m row) rows) ≡ Some n → GoesOn m n
 rows_go_on_by m n row rows later true e is = absurd cc
-rows_go_on_by m n row rows later false e is = goes_on_again m (with_row m row) n (row_goes_on m row (not_below row.uid m.next_uid e)) (later is)
+rows_go_on_by m n row rows later false e is = goes_on_again m (with_row m row) n (row_goes_on m row (ltb-false row.uid m.next_uid e)) (later is)
 
 pub rows_go_on : (m n : Mailbox) (rows : List NewRow) → with_rows m rows ≡ Some n → GoesOn m n
 rows_go_on m n [] is =

@@ -3,7 +3,7 @@ use Rattle.std.proofs.Common.{◌≡◌, ◌≢◌, ◌⊎◌, inl, inr, ℕ, �
 use Rattle.std.specs.Prelude.{All, AllPairs, Contains, bytes_eq, filter, fold, map}
 use Rattle.std.specs.List.{list_any}
 use Rattle.std.specs.List.Sorted.{IsStrictlyIncreasing}
-use Rattle.std.proofs.lemmas.Bool.{and_from, and_left, and_parts, cases_lt, eq-eqb}
+use Rattle.std.proofs.lemmas.Bool.{and_from, and_left, and_parts, cases_lt, eq-eqb, false_from_ne_true, eqb-true, ne_eqb}
 use Rattle.std.proofs.lemmas.Bool.Decides.{nat_tests}
 use Rattle.std.proofs.lemmas.List.{get_or-map, get_or_default, length-map, map-append, map-id}
 use Rattle.std.proofs.lemmas.List.Elements.{All-contains_itself, All-filter, All-head, All-map, All-tail, All-weaker}
@@ -61,36 +61,26 @@ as_before_itself row =
     (and_from (nat_eq row.uid row.uid) (nat_eq (row.flags % 32) (row.flags % 32)) (eq-eqb row.uid row.uid refl) (eq-eqb (row.flags % 32) (row.flags % 32) refl))
     (bytes_eq_self row.keywords)
 
-equal_numbers : (a b : ℕ) → nat_eq a b ≡ true → a ≡ b
-equal_numbers a b e = grind (arith, nat_tests)
-
 pub as_before_uid : (row old : Row) → is_as_before row old ≡ true → row.uid ≡ old.uid
 as_before_uid row old e =
     let parts = and_parts (nat_eq row.uid old.uid && nat_eq (row.flags % 32) (old.flags % 32)) (bytes_eq row.keywords old.keywords) e in
     let numbers = and_parts (nat_eq row.uid old.uid) (nat_eq (row.flags % 32) (old.flags % 32)) parts.0 in
-    equal_numbers row.uid old.uid numbers.0
-
-other_numbers : (a b : ℕ) → a ≢ b → nat_eq a b ≡ false
-other_numbers a b h = grind (arith, nat_tests)
+    eqb-true row.uid old.uid numbers.0
 
 pub other_uid : (row old : Row) → row.uid ≢ old.uid → is_as_before row old ≡ false
 other_uid row old other =
     and_left (nat_eq row.uid old.uid && nat_eq (row.flags % 32) (old.flags % 32)) (bytes_eq row.keywords old.keywords)
-    (and_left (nat_eq row.uid old.uid) (nat_eq (row.flags % 32) (old.flags % 32)) (other_numbers row.uid old.uid other))
+    (and_left (nat_eq row.uid old.uid) (nat_eq (row.flags % 32) (old.flags % 32)) (ne_eqb row.uid old.uid other))
 
 any_contained : (p : Row → Bool) (rows : List Row) (old : Row) → Contains rows old → p old ≡ true → list_any p rows ≡ true
 any_contained p rows old (k, h, at) passes = list_any_at p rows k old h (ap p at ∙ passes)
-
-false_by : (b : Bool) → (b ≡ true → ⊥) → b ≡ false
-false_by true h = absurd (h refl)
-false_by false h = refl
 
 -- none of the others is as the row is
 none_before : (rows : List Row) → AreRising rows → (old row : Row) → Contains rows old → row.uid ≡ old.uid → is_as_before row old ≡ false → list_any (is_as_before row) rows ≡ false
 none_before rows rising old row in' same differs =
     list_any_none (is_as_before row) rows
     (All-weaker (Contains rows) (λ x. is_as_before row x ≡ false)
-    (λ x inside. false_by (is_as_before row x) (λ passes.
+    (λ x inside. false_from_ne_true (is_as_before row x) (λ passes.
     let one : x ≡ old = row_is_one rows rising x old inside in' (sym (as_before_uid row x passes) ∙ same) in
     let here : is_as_before row old ≡ true = ap (is_as_before row) (sym one) ∙ passes in
     absurd cc))

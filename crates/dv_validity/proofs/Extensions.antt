@@ -2,7 +2,7 @@
 use Rattle.std.proofs.Common.{◌≡◌, ◌≢◌, ℕ, ◌+◌, ◌-◌, ◌<◌, ◌≤◌, Bool, true, false, cond, not, ◌&&◌, List, [], ◌∷◌, ◌++◌, length, get_or, max, nat_eq, nat_le, nat_lt, position, replicate, Option, Some, None, refl, sym, ◌∙◌, ap, arith, length-append}
 use Rattle.std.specs.Prelude.{All, IfSome, IsSomeAnd, bytes_eq, codes, fold, map, slice_get, sum_by}
 use Rattle.std.specs.List.{list_all}
-use Rattle.std.proofs.lemmas.Bool.{and_parts}
+use Rattle.std.proofs.lemmas.Bool.{and_parts, eqb-true}
 use Rattle.std.proofs.lemmas.Bool.Decides.{nat_tests}
 use Rattle.std.proofs.lemmas.List.{get_or_push, length-replicate, map_push}
 use Rattle.std.proofs.lemmas.List.Elements.{All-map, All-push, All-weaker}
@@ -76,9 +76,6 @@ no_current_goes_on m = goes_on_same m (without_current m) (omega arith) refl ref
 
 at_most : (a b : ℕ) → nat_le a b ≡ true → a ≤ b
 at_most a b e = grind (arith, nat_tests)
-
-same_number : (a b : ℕ) → nat_eq a b ≡ true → a ≡ b
-same_number a b e = grind (arith, nat_tests)
 
 -- what a test of the limits says
 pub record AreFit (es : List Extension) : Type 0 where
@@ -183,7 +180,7 @@ new_says intro e =
     let middle = and_parts (nat_eq intro.ext_id no_id && nat_le 1 (length intro.name)) (nat_le (length intro.name) 255) last.0 in
     let first = and_parts (nat_eq intro.ext_id no_id) (nat_le 1 (length intro.name)) middle.0 in
     record {
-      by_name = same_number intro.ext_id no_id first.0;
+      by_name = eqb-true intro.ext_id no_id first.0;
       name = (at_most 1 (length intro.name) first.1, at_most (length intro.name) 255 middle.1, other_by (bytes_eq intro.name (codes "keywords")) (bytes_eq-Decides intro.name (codes "keywords")).1 last.1);
     }
   where

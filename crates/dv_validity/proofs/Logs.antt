@@ -1,7 +1,7 @@
 -- A log whose prefixes are valid mailboxes, and one that extends it.
 use Rattle.std.proofs.Common.{◌≡◌, ◌⊎◌, inl, inr, ℕ, zero, suc, ◌+◌, ◌-◌, ◌<◌, ◌≤◌, Bool, true, false, cond, List, [], ◌∷◌, ◌++◌, length, nat_eq, Option, Some, None, refl, sym, ◌∙◌, ap, subst, arith, length-append}
 use Rattle.std.specs.Prelude.{All, IsSome, drop, flat_map, option_and_then, slice_get, take}
-use Rattle.std.proofs.lemmas.Bool.{cases_lt}
+use Rattle.std.proofs.lemmas.Bool.{cases_lt, eq-eqb}
 use Rattle.std.proofs.lemmas.Bool.Decides.{nat_tests}
 use Rattle.std.proofs.lemmas.List.{append-nil, length_push}
 use Rattle.std.proofs.lemmas.List.Concat.{flat_map-append}
@@ -215,11 +215,8 @@ module _ (log : Log) (sound : IsSound log) (author : ℕ) (c : Command) (receive
   pub written_message : KeepsMessage longer c m
   written_message = by_command c
     where
-      same : (n : ℕ) → nat_eq n n ≡ true
-      same n = grind (arith, nat_tests)
-
       by_command : (d : Command) → KeepsMessage (with_written log author d received g m) d m
-      by_command (command.Append flags keywords message) = (rw (same m.next_uid) refl, (received, rw (same m.next_uid) refl))
+      by_command (command.Append flags keywords message) = (rw (eq-eqb m.next_uid m.next_uid refl) refl, (received, rw (eq-eqb m.next_uid m.next_uid refl) refl))
       by_command d = tt
 
   -- the group too is that of the longer log

@@ -1,5 +1,6 @@
 -- The numbers go on, and no UID comes back.
 use Rattle.std.proofs.Common.{◌≡◌, ◌≢◌, inl, inr, ℕ, ◌+◌, ◌<◌, ◌≤◌, Bool, true, false, cond, List, [], ◌∷◌, get_or, min, nat_eq, Option, Some, None, refl, sym, ◌∙◌, ap, subst, arith}
+use Rattle.std.proofs.lemmas.Bool.{ne_eqb}
 use Rattle.std.specs.Prelude.{All, Any, find}
 use Rattle.std.specs.List.{list_any}
 use Rattle.std.proofs.lemmas.Bool.Decides.{nat_tests}
@@ -30,13 +31,10 @@ lacks_of uid (row ∷ rows) e =
     let both = lacks_by uid row (find (λ row. nat_eq row.uid uid) rows) (nat_eq row.uid uid) refl e in
     All-cons (λ (row : Row). row.uid ≢ uid) row rows both.0 (lacks_of uid rows both.1)
 
-no_match : (a b : ℕ) → a ≢ b → nat_eq a b ≡ false
-no_match a b h = grind (arith, nat_tests)
-
 none_of : (uid : ℕ) (rows : List Row) → Lacks uid rows → find (λ row. nat_eq row.uid uid) rows ≡ None
 none_of uid [] lacks = refl
 none_of uid (row ∷ rows) lacks =
-    ap (λ (b : Bool). cond b (Some row) (find (λ row. nat_eq row.uid uid) rows)) (no_match row.uid uid (All-head (λ (row : Row). row.uid ≢ uid) row rows lacks))
+    ap (λ (b : Bool). cond b (Some row) (find (λ row. nat_eq row.uid uid) rows)) (ne_eqb row.uid uid (All-head (λ (row : Row). row.uid ≢ uid) row rows lacks))
     ∙ none_of uid rows (All-tail (λ (row : Row). row.uid ≢ uid) row rows lacks)
 
 uid_by : (b : Bool) (n : ℕ) (row : Row) → (cond b row (record row { modseq = n })).uid ≡ row.uid

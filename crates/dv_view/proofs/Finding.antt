@@ -2,7 +2,7 @@
 use Rattle.std.proofs.Common.{◌≡◌, ◌⊎◌, inl, inr, ℕ, zero, suc, ◌<◌, ◌≤◌, Bool, true, false, cond, ◌||◌, ltb, List, [], ◌∷◌, length, get_or, Option, Some, None, refl, sym, ◌∙◌, ap, subst, arith}
 use Rattle.std.specs.Prelude.{find, position, is_some, nat_eq, slice_get}
 use Rattle.std.specs.List.{list_any, position_or_len}
-use Rattle.std.proofs.lemmas.Bool.{cases_lt, lt-ltb, le-ltb}
+use Rattle.std.proofs.lemmas.Bool.{cases_lt, lt-ltb, le-ltb, or_right}
 use Rattle.std.proofs.lemmas.Bool.Decides.{nat_tests}
 use Rattle.std.proofs.lemmas.List.Folds.{find_at, list_any_at}
 use Rattle.std.proofs.lemmas.List.Quantifiers.{position-Some}
@@ -73,14 +73,10 @@ module _ (rows : List Shown) (s : Shown) where
           let found = found_one (same_row s) rows e in
           false_is_not_true (sym none ∙ any_one rows found.0 found.1 (same_uid s found.0 found.2))
         where
-          or_true : (b : Bool) → (b || true) ≡ true
-          or_true true = refl
-          or_true false = refl
-
           any_one : (rows : List Shown) (o : Shown) → IsOne o rows → nat_eq o.uid s.uid ≡ true → list_any (λ t. nat_eq t.uid s.uid) rows ≡ true
           any_one [] o one test = absurd one
           any_one (x ∷ rows) o (inl is) test = ap (λ (t : Shown). nat_eq t.uid s.uid || list_any (λ t. nat_eq t.uid s.uid) rows) (sym is) ∙ ap (λ b. b || list_any (λ t. nat_eq t.uid s.uid) rows) test
-          any_one (x ∷ rows) o (inr one) test = ap (λ b. nat_eq x.uid s.uid || b) (any_one rows o one test) ∙ or_true (nat_eq x.uid s.uid)
+          any_one (x ∷ rows) o (inr one) test = ap (λ b. nat_eq x.uid s.uid || b) (any_one rows o one test) ∙ or_right (nat_eq x.uid s.uid) true refl
 
   -- the row at this place has the UID: it alone can be the same
   pub same_at : AreRising rows → (k : ℕ) (o : Shown) → k < length rows → o ≡ get_or rows k o → o.uid ≡ s.uid → list_any (same_row s) rows ≡ same_row s o

@@ -1,5 +1,6 @@
 -- The rows behind a step are those that the changes give: what the code makes, and what the mailbox shows.
 use Rattle.std.proofs.Common.{◌≡◌, ◌⊎◌, inl, inr, ℕ, ◌+◌, ◌^◌, ◌<◌, ◌≤◌, Bool, true, false, cond, not, ◌&&◌, ◌||◌, List, [], ◌∷◌, ◌++◌, length, Some, None, Option, refl, sym, ◌∙◌, ap, subst, arith, append_assoc}
+use Rattle.std.proofs.lemmas.Bool.{eqb-true, eq-eqb}
 use Rattle.std.specs.Prelude.{IfSome, IsSome, map, filter, find, is_some, nat_eq, nat_le, nat_lt, option_map, option_to_list, unwrap_or}
 use Rattle.std.specs.List.{AllByRecursion}
 use Rattle.std.specs.Option.{option_or}
@@ -21,7 +22,7 @@ use Rattle.dv_view.specs.Laws.{ChangesFollow}
 use Rattle.dv_view.specs.Orders.{IsOrdered}
 use Rattle.dv_view.proofs.Finding.{any_is_found}
 use Rattle.dv_view.proofs.Moving.{Rise, all_of_each, moved_rise}
-use Rattle.dv_view.proofs.Patching.{Rises, at_below, at_uid, change_of, is_same, no_change, now, own_above, own_other, own_same, patched_above, patched_at, same_is, same_rows}
+use Rattle.dv_view.proofs.Patching.{Rises, at_below, at_uid, change_of, no_change, now, own_above, own_other, own_same, patched_above, patched_at, same_rows}
 use Rattle.dv_view.proofs.Placing.{left_none, rises_of, rises_some, rises_told}
 use Rattle.dv_view.proofs.Renewing.{renewed_above, renewed_uid}
 use Rattle.dv_view.proofs.Rising.{few_from}
@@ -49,9 +50,9 @@ at_filter p u (s ∷ rows) = by_test (p s.uid) refl (nat_eq s.uid u) refl (at_fi
   where
     by_test : (b : Bool) → p s.uid ≡ b → (c : Bool) → nat_eq s.uid u ≡ c → at_uid u (filter (λ t. p t.uid) rows) ≡ cond (p u) (at_uid u rows) None
         → at_uid u (cond b (s ∷ filter (λ t. p t.uid) rows) (filter (λ t. p t.uid) rows)) ≡ cond (p u) (cond c (Some s) (at_uid u rows)) None
-    by_test true e true f rest = let pass : p u ≡ true = ap p (sym (same_is s.uid u f)) ∙ e in rw (f, pass) refl
+    by_test true e true f rest = let pass : p u ≡ true = ap p (sym (eqb-true s.uid u f)) ∙ e in rw (f, pass) refl
     by_test true e false f rest = rw f rest
-    by_test false e true f rest = let fail : p u ≡ false = ap p (sym (same_is s.uid u f)) ∙ e in rest ∙ ap (λ c. cond c (at_uid u rows) None) fail ∙ sym (ap (λ c. cond c (Some s) None) fail)
+    by_test false e true f rest = let fail : p u ≡ false = ap p (sym (eqb-true s.uid u f)) ∙ e in rest ∙ ap (λ c. cond c (at_uid u rows) None) fail ∙ sym (ap (λ c. cond c (Some s) None) fail)
     by_test false e false f rest = rest
 
 find_each : {X : Type 0} (P : X → Type 0) (p : X → Bool) (xs : List X) → AllByRecursion P xs → (o : Option X) → find p xs ≡ o → IfSome o (λ x. P x × (p x ≡ true))
@@ -74,7 +75,7 @@ given_at n u [] rises = refl
 given_at n u (f ∷ fresh) rises = by_test (nat_eq f.uid u) refl (given_at (f.uid + 1) u fresh rises.2)
   where
     by_test : (b : Bool) → nat_eq f.uid u ≡ b → at_uid u (given fresh) ≡ now (change_of u fresh) None → at_uid u (option_to_list f.row ++ given fresh) ≡ now (cond b (Some f) (change_of u fresh)) None
-    by_test true e rest = let same = same_is f.uid u e in own_same u f.uid f.row (given fresh) rises.1 same (at_below (f.uid + 1) u (given fresh) (given_above (f.uid + 1) fresh rises.2) (omega (arith, same)))
+    by_test true e rest = let same = eqb-true f.uid u e in own_same u f.uid f.row (given fresh) rises.1 same (at_below (f.uid + 1) u (given fresh) (given_above (f.uid + 1) fresh rises.2) (omega (arith, same)))
     by_test false e rest = own_other u f.uid f.row (given fresh) rises.1 e ∙ rest
 
 abbrev kept : Option Fresh → Option Fresh
@@ -89,7 +90,7 @@ some_at n u (f ∷ fresh) rises = by_test (nat_eq f.uid u) refl (is_some f.row) 
         → change_of u (cond c (f ∷ filter (λ g. is_some g.row) fresh) (filter (λ g. is_some g.row) fresh)) ≡ kept (cond b (Some f) (change_of u fresh))
     by_test true e true t rest = rw (e, t) refl
     by_test true e false t rest =
-        let same = same_is f.uid u e in
+        let same = eqb-true f.uid u e in
         rest ∙ ap kept (no_change (f.uid + 1) u fresh rises.2 (omega (arith, same))) ∙ sym (ap (λ c. cond c (Some f) None) t)
     by_test false e true t rest = rw e rest
     by_test false e false t rest = rest
@@ -107,7 +108,7 @@ left_is n u (f ∷ fresh) rises = by_test (nat_eq f.uid u) refl (left_is (f.uid 
     or_false false = refl
 
     by_test : (b : Bool) → nat_eq f.uid u ≡ b → has_left fresh u ≡ has_none (change_of u fresh) → ((b && not (is_some f.row)) || has_left fresh u) ≡ has_none (cond b (Some f) (change_of u fresh))
-    by_test true e rest = let same = same_is f.uid u e in ap (λ c. not (is_some f.row) || c) (left_none (f.uid + 1) u fresh rises.2 (omega (arith, same))) ∙ or_false (not (is_some f.row))
+    by_test true e rest = let same = eqb-true f.uid u e in ap (λ c. not (is_some f.row) || c) (left_none (f.uid + 1) u fresh rises.2 (omega (arith, same))) ∙ or_false (not (is_some f.row))
     by_test false e rest = rest
 
 -- ---- rows of a view, and changes that it can follow
@@ -168,7 +169,7 @@ module _ (rows : List Shown) (b : ℕ) (fresh : List Fresh) (rise : Rise b rows)
     is_new : (f : Fresh) → change_of u fresh ≡ Some f → at_uid u rows ≡ None → IsSome f.row → b ≤ u
     is_new f e none some =
         let found = find_each (λ (f : Fresh). IsSome f.row → (shows rows f.uid ≡ true) ⊎ (b ≤ f.uid)) (λ (f : Fresh). nat_eq f.uid u) fresh (each_of_all (λ (f : Fresh). IsSome f.row → (shows rows f.uid ≡ true) ⊎ (b ≤ f.uid)) fresh known) (Some f) e in
-        let same : f.uid ≡ u = same_is f.uid u found.1 in
+        let same : f.uid ≡ u = eqb-true f.uid u found.1 in
         elim (found.0 some) [
           | inl shown_before ↦ false_is_not_true (sym (any_is_found (λ (s : Shown). nat_eq s.uid u) rows ∙ ap is_some none) ∙ ap (shows rows) (sym same) ∙ shown_before)
           | inr le ↦ omega arith
@@ -201,7 +202,7 @@ module _ (rows : List Shown) (b : ℕ) (fresh : List Fresh) (rise : Rise b rows)
     is_old : (s : Shown) → at_uid u rows ≡ Some s → (s.uid ≡ u) × (u < b)
     is_old s e =
         let found = find_each (λ (s : Shown). s.uid < b) (λ (s : Shown). nat_eq s.uid u) rows rise.below (Some s) e in
-        let same = same_is s.uid u found.1 in let low = found.0 in (same, omega (arith, same, low))
+        let same = eqb-true s.uid u found.1 in let low = found.0 in (same, omega (arith, same, low))
 
     renewed_at : (s : Shown) → at_uid u rows ≡ Some s → renewed changed s ≡ unwrap_or (now (change_of u fresh) None) s
     renewed_at s e =
@@ -445,7 +446,7 @@ rows_known view fresh rise rises known n front (s ∷ rows) above is low =
     let least = above.0 in
     let at : at_uid s.uid (patched view.rows fresh) ≡ Some s =
     ap (at_uid s.uid) (sym is) ∙ at_append s.uid front (s ∷ rows) ∙ ap (λ o. option_or o (at_uid s.uid (s ∷ rows))) (at_past n s.uid front low (omega arith))
-    ∙ ap (λ b. cond b (Some s) (at_uid s.uid rows)) (is_same s.uid s.uid refl) in (
+    ∙ ap (λ b. cond b (Some s) (at_uid s.uid rows)) (eq-eqb s.uid s.uid refl) in (
       row_known view fresh rise rises known s.uid s at,
       rows_known view fresh rise rises known (s.uid + 1) (front ++ s ∷ []) rows above.1 (append_assoc front (s ∷ []) rows ∙ is)
           (each_append (λ (t : Shown). t.uid < s.uid + 1) front (s ∷ []) (each_weaker (λ t. t.uid < n) (λ t. t.uid < s.uid + 1) (λ t less. omega arith) front low) (omega arith, tt)),

@@ -2,7 +2,7 @@
 use Rattle.std.proofs.Common.{◌≡◌, ◌⊎◌, inl, inr, ℕ, suc, ◌+◌, ◌-◌, ◌<◌, ◌≤◌, Bool, true, false, cond, not, ◌&&◌, ◌||◌, List, [], ◌∷◌, ◌++◌, length, get_or, ltb, take, Some, None, Option, refl, sym, ◌∙◌, ap, arith, append_assoc, append-nil}
 use Rattle.std.specs.Prelude.{map, filter, is_some, nat_eq, option_map, option_to_list, position, reverse}
 use Rattle.std.specs.List.{AllByRecursion, list_any, position_or_len}
-use Rattle.std.proofs.lemmas.Bool.{cases_lt, le-ltb, lt-ltb}
+use Rattle.std.proofs.lemmas.Bool.{cases_lt, le-ltb, lt-ltb, or_parts, eqb-true, eq-eqb, or_right}
 use Rattle.std.proofs.lemmas.Bool.Decides.{nat_tests}
 use Rattle.std.proofs.lemmas.List.{map-append, reverse-append, take_more}
 use Rattle.dv_model.specs.declared.types.Fresh.{Fresh}
@@ -17,7 +17,7 @@ use Rattle.dv_view.specs.Following.{has_left, left_number, renewed, rows_after, 
 use Rattle.dv_view.specs.Tells.{removals_of}
 use Rattle.dv_view.proofs.Finding.{any_by_place, any_is_found}
 use Rattle.dv_view.proofs.Followed.{has_none, left_is}
-use Rattle.dv_view.proofs.Patching.{Rises, at_uid, change_of, is_same, now, patched_at, same_is}
+use Rattle.dv_view.proofs.Patching.{Rises, at_uid, change_of, now, patched_at}
 use Rattle.dv_view.proofs.Placing.{left_none, rises_some}
 use Rattle.dv_view.proofs.Renewing.{renewed_uid}
 
@@ -25,12 +25,8 @@ use Rattle.dv_view.proofs.Renewing.{renewed_uid}
 
 one_shown : (rows : List Shown) (s : Shown) → IsOne s rows → shows rows s.uid ≡ true
 one_shown [] s one = absurd one
-one_shown (x ∷ rows) s (inl e) = ap (λ b. b || shows rows s.uid) (is_same x.uid s.uid (ap (λ (t : Shown). t.uid) (sym e)))
-one_shown (x ∷ rows) s (inr one) = ap (λ b. nat_eq x.uid s.uid || b) (one_shown rows s one) ∙ or_true (nat_eq x.uid s.uid)
-  where
-    or_true : (b : Bool) → (b || true) ≡ true
-    or_true true = refl
-    or_true false = refl
+one_shown (x ∷ rows) s (inl e) = ap (λ b. b || shows rows s.uid) (eq-eqb x.uid s.uid (ap (λ (t : Shown). t.uid) (sym e)))
+one_shown (x ∷ rows) s (inr one) = ap (λ b. nat_eq x.uid s.uid || b) (one_shown rows s one) ∙ or_right (nat_eq x.uid s.uid) true refl
 
 pub all_shown : (rows : List Shown) → AllByRecursion (λ s. shows rows s.uid ≡ true) rows
 all_shown rows = each_weaker (λ s. IsOne s rows) (λ s. shows rows s.uid ≡ true) (one_shown rows) rows (each_is_one rows rows (λ s one. one))
@@ -132,7 +128,7 @@ lost_more k n m s rows (f ∷ fresh) above rises =
         → left_from_by k (s ∷ rows) f.uid row ++ (cond b (k ∷ []) [] ++ lost_from (k + 1) rows fresh) ≡ cond (not (is_some row) || b) (k ∷ []) [] ++ (left_from_by (k + 1) rows f.uid row ++ lost_from (k + 1) rows fresh)
     by_same (Some t) e b none = refl
     by_same None e b none =
-        let same = same_is f.uid s.uid e in
+        let same = eqb-true f.uid s.uid e in
         let behind = place_none (s.uid + 1) f.uid rows above (omega (arith, same)) in
         let here = place_head f.uid s rows (swap f.uid s.uid true e) in
         let number : k + 0 ≡ k = omega arith in
@@ -142,7 +138,7 @@ lost_more k n m s rows (f ∷ fresh) above rises =
         → lost_from k (s ∷ rows) fresh ≡ cond (has_left fresh s.uid) (k ∷ []) [] ++ lost_from (k + 1) rows fresh
         → left_from_by k (s ∷ rows) f.uid row ++ lost_from k (s ∷ rows) fresh ≡ cond ((c && not (is_some row)) || has_left fresh s.uid) (k ∷ []) [] ++ (left_from_by (k + 1) rows f.uid row ++ lost_from (k + 1) rows fresh)
     by_row row true e o rest =
-        let same = same_is f.uid s.uid e in
+        let same = eqb-true f.uid s.uid e in
         ap (λ ns. left_from_by k (s ∷ rows) f.uid row ++ ns) rest ∙ by_same row e (has_left fresh s.uid) (left_none (f.uid + 1) s.uid fresh rises.2 (omega (arith, same)))
     by_row row false e o rest =
         ap (λ ns. left_from_by k (s ∷ rows) f.uid row ++ ns) rest ∙ by_other row e o (has_left fresh s.uid) (λ le. left_none (f.uid + 1) s.uid fresh rises.2 (omega arith))
@@ -227,10 +223,6 @@ none_left rows u here (f ∷ fresh) none =
     let parts = or_parts (is_some (left_number rows f)) (list_any (λ (g : Fresh). is_some (left_number rows g)) fresh) none in
     by_row f.row refl (nat_eq f.uid u) refl parts.0 (none_left rows u here fresh parts.1)
   where
-    or_parts : (a b : Bool) → (a || b) ≡ false → (a ≡ false) × (b ≡ false)
-    or_parts true b e = false_is_not_true (sym e)
-    or_parts false b e = (refl, e)
-
     some_map : (o : Option ℕ) → is_some (option_map suc o) ≡ is_some o
     some_map (Some i) = refl
     some_map None = refl
@@ -240,7 +232,7 @@ none_left rows u here (f ∷ fresh) none =
     by_row (Some s) is true e none rest = rest
     by_row None is true e none rest =
         let number : left_number rows f ≡ option_map suc (place f.uid rows) = rw is refl in
-        let same = same_is f.uid u e in
+        let same = eqb-true f.uid u e in
         false_is_not_true (sym none ∙ ap is_some number ∙ some_map (place f.uid rows) ∙ sym (any_by_place (λ (s : Shown). nat_eq s.uid f.uid) rows (place f.uid rows) refl) ∙ ap (shows rows) same ∙ here)
 
 pub all_stay : (rows made : List Shown) (fresh : List Fresh) → list_any (λ f. is_some (left_number rows f)) fresh ≡ false → filter (λ s. not (has_left fresh s.uid)) (map (renewed made) rows) ≡ map (renewed made) rows

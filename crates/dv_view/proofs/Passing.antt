@@ -1,5 +1,6 @@
 -- What is told of one change after another.
 use Rattle.std.proofs.Common.{◌≡◌, inl, inr, ℕ, zero, suc, ◌+◌, ◌-◌, ◌<◌, ◌≤◌, Bool, true, false, cond, not, ◌&&◌, ◌||◌, List, [], ◌∷◌, ◌++◌, length, get_or, take, drop, refl, sym, ◌∙◌, ap, subst, arith, append-nil, length-append, length-drop}
+use Rattle.std.proofs.lemmas.Bool.{eq-eqb, or_right}
 use Rattle.std.specs.Prelude.{option_to_list}
 use Rattle.std.specs.List.{AllByRecursion, list_any}
 use Rattle.std.proofs.lemmas.List.{drop_more, length-take}
@@ -18,7 +19,7 @@ use Rattle.dv_view.specs.Following.{AreGiven, rows_after, told_of}
 use Rattle.dv_view.specs.Tells.{changes_of, shows_all}
 use Rattle.dv_view.specs.Told.{GoesOn, IsPlace, IsToldTo, tells, without}
 use Rattle.dv_view.proofs.Losing.{all_shown}
-use Rattle.dv_view.proofs.Patching.{Rises, is_same}
+use Rattle.dv_view.proofs.Patching.{Rises}
 use Rattle.dv_view.proofs.Placing.{patched_step, rises_drop, rises_of, rises_told}
 
 each_take : {X : Type 0} (P : X → Type 0) (k : ℕ) (xs : List X) → AllByRecursion P xs → AllByRecursion P (take k xs)
@@ -35,19 +36,15 @@ each_drop P (suc k) (x ∷ xs) each = each_drop P k xs each.1
 
 row_same : (s : Shown) → same_row s s ≡ true
 row_same s =
-    let uid = is_same s.uid s.uid refl in
-    let flags = is_same s.flags s.flags refl in
+    let uid = eq-eqb s.uid s.uid refl in
+    let flags = eq-eqb s.flags s.flags refl in
     let keywords = (bytes_eq-Decides s.keywords s.keywords).1 refl in
     rw (uid, flags, keywords) refl
 
 one_same : (rows : List Shown) (s : Shown) → IsOne s rows → list_any (same_row s) rows ≡ true
 one_same [] s one = absurd one
 one_same (x ∷ rows) s (inl e) = ap (λ b. b || list_any (same_row s) rows) (ap (same_row s) (sym e) ∙ row_same s)
-one_same (x ∷ rows) s (inr one) = ap (λ b. same_row s x || b) (one_same rows s one) ∙ or_true (same_row s x)
-  where
-    or_true : (b : Bool) → (b || true) ≡ true
-    or_true true = refl
-    or_true false = refl
+one_same (x ∷ rows) s (inr one) = ap (λ b. same_row s x || b) (one_same rows s one) ∙ or_right (same_row s x) true refl
 
 all_same : (rows : List Shown) → AllByRecursion (λ s. list_any (same_row s) rows ≡ true) rows
 all_same rows = each_weaker (λ s. IsOne s rows) (λ s. list_any (same_row s) rows ≡ true) (one_same rows) rows (each_is_one rows rows (λ s one. one))
@@ -120,7 +117,7 @@ drop_end : {X : Type 0} (xs : List X) → drop (length xs) xs ≡ []
 drop_end [] = refl
 drop_end (x ∷ xs) = drop_end xs
 
-pub and_true : (b : Bool) → (b && true) ≡ b
+and_true : (b : Bool) → (b && true) ≡ b
 and_true true = refl
 and_true false = refl
 

@@ -1,7 +1,7 @@
 -- Rows by rising UID and the one of a UID, also where changes are put among them.
 use Rattle.std.proofs.Common.{◌≡◌, ◌⊎◌, inl, inr, ℕ, ◌+◌, ◌<◌, ◌≤◌, Bool, true, false, cond, List, [], ◌∷◌, ◌++◌, Some, None, Option, refl, sym, ◌∙◌, ap, subst, arith}
 use Rattle.std.specs.Prelude.{IfSome, find, nat_eq, nat_lt, option_to_list}
-use Rattle.std.proofs.lemmas.Bool.{cases_lt}
+use Rattle.std.proofs.lemmas.Bool.{cases_lt, eqb-true, eq-eqb}
 use Rattle.std.proofs.lemmas.Bool.Decides.{nat_tests}
 use Rattle.std.proofs.lemmas.List.{append-nil}
 use Rattle.dv_model.specs.declared.types.Fresh.{Fresh}
@@ -14,18 +14,12 @@ use Rattle.dv_model.proofs.Clients.{Above, above_lower, not_same_back}
 abbrev pub at_uid : ℕ → List Shown → Option Shown
 at_uid u rows = find (λ s. nat_eq s.uid u) rows
 
-pub is_same : (a b : ℕ) → a ≡ b → nat_eq a b ≡ true
-is_same a b e = grind (arith, nat_tests, e)
-
-pub same_is : (a b : ℕ) → nat_eq a b ≡ true → a ≡ b
-same_is a b e = grind (arith, nat_tests, e)
-
 pub at_below : (n u : ℕ) (rows : List Shown) → Above n rows → u < n → at_uid u rows ≡ None
 at_below n u [] above less = refl
 at_below n u (s ∷ rows) above less = rw (not_same_back s.uid u (omega (arith, above.0, less))) (at_below (s.uid + 1) u rows above.1 (omega (arith, above.0, less)))
 
 at_head : (s : Shown) (rows : List Shown) → at_uid s.uid (s ∷ rows) ≡ Some s
-at_head s rows = rw (is_same s.uid s.uid refl) refl
+at_head s rows = rw (eq-eqb s.uid s.uid refl) refl
 
 at_tail : (s : Shown) (rows : List Shown) (u : ℕ) → nat_eq s.uid u ≡ false → at_uid u (s ∷ rows) ≡ at_uid u rows
 at_tail s rows u e = rw e refl
@@ -48,7 +42,7 @@ same_rows n (x ∷ xs) (y ∷ ys) up down same = by_order (cases_lt x.uid y.uid)
       where
         by_test : (u : ℕ) (b : Bool) → nat_eq x.uid u ≡ b → x.uid ≡ y.uid → at_uid u xs ≡ at_uid u ys
         by_test u true e uid =
-            let at : x.uid ≡ u = same_is x.uid u e in
+            let at : x.uid ≡ u = eqb-true x.uid u e in
             at_below (x.uid + 1) u xs up.1 (omega arith) ∙ sym (at_below (y.uid + 1) u ys down.1 (omega arith))
         by_test u false e uid = sym (at_tail x xs u e) ∙ same u ∙ at_tail y ys u (ap (λ v. nat_eq v u) (sym uid) ∙ e)
 
@@ -59,7 +53,7 @@ Own uid row = IfSome row (λ s. s.uid ≡ uid)
 
 pub own_same : (u uid : ℕ) (row : Option Shown) (rows : List Shown) → Own uid row → uid ≡ u → at_uid u rows ≡ None → at_uid u (option_to_list row ++ rows) ≡ row
 own_same u uid None rows own same none = none
-own_same u uid (Some s) rows own same none = rw (is_same s.uid u (own ∙ same)) refl
+own_same u uid (Some s) rows own same none = rw (eq-eqb s.uid u (own ∙ same)) refl
 
 pub own_other : (u uid : ℕ) (row : Option Shown) (rows : List Shown) → Own uid row → nat_eq uid u ≡ false → at_uid u (option_to_list row ++ rows) ≡ at_uid u rows
 own_other u uid None rows own other = refl
@@ -80,23 +74,23 @@ module _ (uid : ℕ) (row : Option Shown) (own : Own uid row) where
       by_less : (b : Bool) → nat_lt s.uid uid ≡ b → (c : Bool) → nat_eq s.uid uid ≡ c → (s.uid + 1 ≤ uid → Above (s.uid + 1) (with_fresh rows (change uid row)))
           → Above n (cond b (s ∷ with_fresh rows (change uid row)) (cond c (option_to_list row ++ rows) (option_to_list row ++ s ∷ rows)))
       by_less true e c f rest = (above.0, rest (grind (arith, nat_tests, e)))
-      by_less false e true f rest = let same : s.uid ≡ uid = same_is s.uid uid f in own_above n uid row rows own le (subst (λ u. Above (u + 1) rows) same above.1)
+      by_less false e true f rest = let same : s.uid ≡ uid = eqb-true s.uid uid f in own_above n uid row rows own le (subst (λ u. Above (u + 1) rows) same above.1)
       by_less false e false f rest = own_above n uid row (s ∷ rows) own le (grind (arith, nat_tests, e, f), above.1)
 
   pub with_at : (n u : ℕ) (rows : List Shown) → Above n rows → at_uid u (with_fresh rows (change uid row)) ≡ cond (nat_eq uid u) row (at_uid u rows)
   with_at n u [] above = ap (at_uid u) (sym (append-nil (option_to_list row))) ∙ by_same (nat_eq uid u) refl
     where
       by_same : (b : Bool) → nat_eq uid u ≡ b → at_uid u (option_to_list row ++ []) ≡ cond b row None
-      by_same true e = own_same u uid row [] own (same_is uid u e) refl
+      by_same true e = own_same u uid row [] own (eqb-true uid u e) refl
       by_same false e = own_other u uid row [] own e
   with_at n u (s ∷ rows) above = by_less (nat_lt s.uid uid) refl (nat_eq s.uid uid) refl (with_at (s.uid + 1) u rows above.1)
     where
       by_head : (b : Bool) → nat_eq s.uid u ≡ b → s.uid < uid → cond b (Some s) (cond (nat_eq uid u) row (at_uid u rows)) ≡ cond (nat_eq uid u) row (cond b (Some s) (at_uid u rows))
-      by_head true e less = let at : s.uid ≡ u = same_is s.uid u e in sym (ap (λ c. cond c row (Some s)) (not_same_back uid u (omega arith)))
+      by_head true e less = let at : s.uid ≡ u = eqb-true s.uid u e in sym (ap (λ c. cond c row (Some s)) (not_same_back uid u (omega arith)))
       by_head false e less = refl
 
       by_same : (b : Bool) → nat_eq uid u ≡ b → (rest : List Shown) → Above (uid + 1) rest → at_uid u (option_to_list row ++ rest) ≡ cond b row (at_uid u rest)
-      by_same true e rest up = let at : uid ≡ u = same_is uid u e in own_same u uid row rest own at (at_below (uid + 1) u rest up (omega arith))
+      by_same true e rest up = let at : uid ≡ u = eqb-true uid u e in own_same u uid row rest own at (at_below (uid + 1) u rest up (omega arith))
       by_same false e rest up = own_other u uid row rest own e
 
       by_skip : (b : Bool) → nat_eq uid u ≡ b → s.uid ≡ uid → cond b row (at_uid u rows) ≡ cond b row (at_uid u (s ∷ rows))
@@ -106,7 +100,7 @@ module _ (uid : ℕ) (row : Option Shown) (own : Own uid row) where
       by_less : (b : Bool) → nat_lt s.uid uid ≡ b → (c : Bool) → nat_eq s.uid uid ≡ c → at_uid u (with_fresh rows (change uid row)) ≡ cond (nat_eq uid u) row (at_uid u rows)
           → at_uid u (cond b (s ∷ with_fresh rows (change uid row)) (cond c (option_to_list row ++ rows) (option_to_list row ++ s ∷ rows))) ≡ cond (nat_eq uid u) row (at_uid u (s ∷ rows))
       by_less true e c f rest = ap (λ o. cond (nat_eq s.uid u) (Some s) o) rest ∙ by_head (nat_eq s.uid u) refl (grind (arith, nat_tests, e))
-      by_less false e true f rest = let same : s.uid ≡ uid = same_is s.uid uid f in by_same (nat_eq uid u) refl rows (subst (λ v. Above (v + 1) rows) same above.1) ∙ by_skip (nat_eq uid u) refl same
+      by_less false e true f rest = let same : s.uid ≡ uid = eqb-true s.uid uid f in by_same (nat_eq uid u) refl rows (subst (λ v. Above (v + 1) rows) same above.1) ∙ by_skip (nat_eq uid u) refl same
       by_less false e false f rest = by_same (nat_eq uid u) refl (s ∷ rows) (grind (arith, nat_tests, e, f), above.1)
 
 -- ---- all changes
@@ -145,5 +139,5 @@ patched_at n m u rows (f ∷ fresh) above le rises =
     ∙ by_test (nat_eq f.uid u) refl
   where
     by_test : (b : Bool) → nat_eq f.uid u ≡ b → now (change_of u fresh) (cond b f.row (at_uid u rows)) ≡ now (cond b (Some f) (change_of u fresh)) (at_uid u rows)
-    by_test true e = let same : f.uid ≡ u = same_is f.uid u e in ap (λ o. now o f.row) (no_change (f.uid + 1) u fresh rises.2 (omega arith))
+    by_test true e = let same : f.uid ≡ u = eqb-true f.uid u e in ap (λ o. now o f.row) (no_change (f.uid + 1) u fresh rises.2 (omega arith))
     by_test false e = refl

@@ -1,5 +1,6 @@
 -- Rows that are given in place of others.
 use Rattle.std.proofs.Common.{◌≡◌, ℕ, zero, suc, ◌+◌, ◌-◌, ◌<◌, ◌≤◌, ◌^◌, Bool, true, false, cond, ◌||◌, List, [], ◌∷◌, ◌++◌, length, get_or, drop, Some, None, Option, refl, sym, ◌∙◌, ap, subst, arith, append_assoc}
+use Rattle.std.proofs.lemmas.Bool.{or_parts, eqb-true, eq-eqb}
 use Rattle.std.specs.Prelude.{map, filter, find, nat_eq, option_to_list, slice_set, unwrap_or}
 use Rattle.std.specs.List.{AllByRecursion}
 use Rattle.std.specs.Option.{option_or}
@@ -13,7 +14,6 @@ use Rattle.dv_model.proofs.Clients.{Above, above_of_rising, each_of_all, not_sam
 use Rattle.dv_view.specs.Following.{given, renewed}
 use Rattle.dv_view.specs.Orders.{AreRising}
 use Rattle.dv_view.proofs.Moving.{all_of_each, rising_of}
-use Rattle.dv_view.proofs.Patching.{is_same, same_is}
 
 -- one change more is copied
 pub copied_more : (p : Shown → Bool) (fresh : List Fresh) (i : ℕ) (f : Fresh) (items : List Shown) → i < length fresh → get_or fresh i f ≡ f
@@ -30,7 +30,7 @@ renewed_uid [] s = refl
 renewed_uid (t ∷ made) s = by_test (nat_eq t.uid s.uid) refl (renewed_uid made s)
   where
     by_test : (b : Bool) → nat_eq t.uid s.uid ≡ b → (renewed made s).uid ≡ s.uid → (unwrap_or (cond b (Some t) (find (λ r. nat_eq r.uid s.uid) made)) s).uid ≡ s.uid
-    by_test true e rest = same_is t.uid s.uid e
+    by_test true e rest = eqb-true t.uid s.uid e
     by_test false e rest = rest
 
 pub renewed_above : (n : ℕ) (made rows : List Shown) → Above n rows → Above n (map (renewed made) rows)
@@ -59,7 +59,7 @@ others_above n u (r ∷ rows) above less = (not_same u r.uid (omega (arith, abov
 pub set_is : (n : ℕ) (rows : List Shown) (at : ℕ) (s d : Shown) → Above n rows → at < length rows → (get_or rows at d).uid ≡ s.uid → slice_set rows at s ≡ map (renewed (s ∷ [])) rows
 set_is n [] at s d above less is = absurd (omega (arith, less))
 set_is n (r ∷ rows) zero s d above less is =
-    let same : nat_eq s.uid r.uid ≡ true = is_same s.uid r.uid (sym is) in
+    let same : nat_eq s.uid r.uid ≡ true = eq-eqb s.uid r.uid (sym is) in
     rw same (ap (λ rs. s ∷ rs) (sym (renewed_none s rows (others_above (r.uid + 1) s.uid rows above.1 (omega (arith, is))))))
 set_is n (r ∷ rows) (suc at) s d above less is =
     let low = past (r.uid + 1) rows at d above.1 (omega (arith, less)) in
@@ -75,10 +75,6 @@ set_none rows s none = sym (renewed_none s rows (each_other rows none))
   where
     swap : (a b : ℕ) → nat_eq a b ≡ false → nat_eq b a ≡ false
     swap a b e = grind (arith, nat_tests, e)
-
-    or_parts : (a b : Bool) → (a || b) ≡ false → (a ≡ false) × (b ≡ false)
-    or_parts true b e = absurd cc
-    or_parts false b e = (refl, e)
 
     each_other : (rows : List Shown) → shows rows s.uid ≡ false → AllByRecursion (λ r. nat_eq s.uid r.uid ≡ false) rows
     each_other [] none = tt
@@ -103,7 +99,7 @@ renewed_last made s r =
     by_test : (b : Bool) → nat_eq s.uid r.uid ≡ b
         → unwrap_or (option_or (find (λ t. nat_eq t.uid r.uid) made) (cond b (Some s) None)) r ≡ renewed made (unwrap_or (cond b (Some s) None) r)
     by_test true e =
-        let same : r.uid ≡ s.uid = sym (same_is s.uid r.uid e) in
+        let same : r.uid ≡ s.uid = sym (eqb-true s.uid r.uid e) in
         or_some (find (λ t. nat_eq t.uid r.uid) made) ∙ ap (λ u. unwrap_or (find (λ (t : Shown). nat_eq t.uid u) made) s) same
     by_test false e = or_none (find (λ t. nat_eq t.uid r.uid) made)
 

@@ -1,10 +1,9 @@
 use Rattle.std.proofs.Common.{◌≡◌, ◌≤◌, ◌&&◌, false, not, nat_eq, get_or, ltb, rules, sym, ◌∙◌, ap, arith}
 use Rattle.std.specs.Prelude.{is_some}
-use Rattle.std.proofs.lemmas.Bool.{ltb-true, ltb-false, ne_eqb}
+use Rattle.std.proofs.lemmas.Bool.{ltb-true, ltb-false, ne_eqb, eq-eqb}
 use Rattle.std.proofs.lemmas.List.Sorted.{IsPartitionPoint-from_clause}
 use Rattle.dv_model.specs.declared.types.Fresh.{Fresh}
 use Rattle.dv_model.proofs.Clients.{not_not}
-use Rattle.dv_view.proofs.Patching.{is_same}
 use Rattle.dv_view.proofs.Placing.{changes_split, left_at, left_past, rises_of}
 use Rattle.dv_view.proofs.fresh_places.has_left.Goals as goal
 
@@ -23,7 +22,7 @@ returns-then-f-uid c =
     let f = c.index-fresh-at.result in
     let place = IsPartitionPoint-from_clause (λ (f : Fresh). ltb f.uid uid) fresh at c.partition_point-at.ensures.partitioned (changes_split fresh uid c.requires) (λ a r f k. search rules) in
     let left = left_at fresh uid at f (rises_of fresh c.requires) (λ k d less. ltb-true (get_or fresh k d).uid uid (place.0 k d (omega arith) less)) c.if-at-fresh.false c.index-fresh-at.is (omega (arith, c.if-f-uid.true)) in
-    sym (left ∙ ap (λ b. b && not (is_some f.row)) (is_same f.uid uid c.if-f-uid.true) ∙ ap not c.is_none.ensures ∙ not_not c.is_none.result)
+    sym (left ∙ ap (λ b. b && not (is_some f.row)) (eq-eqb f.uid uid c.if-f-uid.true) ∙ ap not c.is_none.ensures ∙ not_not c.is_none.result)
 
 pub returns-else-f-uid : goal.returns-else-f-uid
 returns-else-f-uid c =

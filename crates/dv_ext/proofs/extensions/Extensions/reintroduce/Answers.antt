@@ -1,4 +1,5 @@
 use Rattle.std.proofs.Common.{◌≡◌, ℕ, true, nat_eq, nat_lt, List, Some, refl, ap, sym, ◌∙◌, subst, arith}
+use Rattle.std.proofs.lemmas.Bool.{eq-eqb}
 use Rattle.std.proofs.lemmas.Bool.Decides.{nat_tests}
 use Rattle.dv_model.specs.declared.types.Extension.{Extension}
 use Rattle.dv_model.specs.Effects.{fit, grown_extension, with_item}
@@ -8,9 +9,6 @@ use Rattle.dv_ext.proofs.Kept.{grown}
 use Rattle.dv_ext.proofs.Doing.{reintroduced_does}
 use Rattle.dv_ext.proofs.Validity.{grown_keeps}
 use Rattle.dv_ext.proofs.extensions.Extensions.reintroduce.Goals as goal
-
-same_numbers : (a b : ℕ) → a ≡ b → nat_eq a b ≡ true
-same_numbers a b e = grind (arith, nat_tests)
 
 pub invariant_of-self-2 : goal.invariant_of-self-2
 invariant_of-self-2 c =
@@ -23,7 +21,7 @@ returns-clause-ok c =
     let t : Table = record { extensions = c.self.inside.list; current = c.self.inside.current } in
     let e : Extension = c.get-known.result.now in
     let fits : fit (with_item c.args.place (grown_extension c.args.intro.now) c.self.inside.list) ≡ true = ap (λ (list : List Extension). fit (with_item c.args.place (grown_extension c.args.intro.now) list)) (sym c.as_slice.ensures) ∙ sym c.fits_grown.ensures ∙ c.if-not-fits_grown.false in
-    let same : nat_eq e.reset_id c.args.intro.now.reset_id ≡ true = same_numbers e.reset_id c.args.intro.now.reset_id c.if-known-intro.false in
+    let same : nat_eq e.reset_id c.args.intro.now.reset_id ≡ true = eq-eqb e.reset_id c.args.intro.now.reset_id c.if-known-intro.false in
     let made = c.in_ok-grow_at.ensures.ok in
     reintroduced_does t c.args.self.now c.args.place e c.args.intro.now c.grow_at.new.list (nat_lt e.record_size c.args.intro.now.record_size) c.grown.result c.self.view_is c.get-known.ensures same fits refl made c.grown.ensures
 

@@ -1,4 +1,5 @@
 use Rattle.std.proofs.Common.{◌≡◌, ◌∙◌, ◌+◌, ◌<◌, ◌≤◌, ◌++◌, [], ◌∷◌, List, ap, arith, cond, false, get_or, length, rules, subst, sym, take, true, vec_len, ℕ}
+use Rattle.std.proofs.lemmas.Bool.{lt-leb}
 use Rattle.std.specs.Prelude.{count_by, nat_le}
 use Rattle.std.proofs.lemmas.Bool.Decides.{nat_tests}
 use Rattle.std.proofs.lemmas.Iterator.Adapters.{YieldsList-from_vec}
@@ -12,9 +13,6 @@ use Rattle.dv_rows.proofs.rows.Rows.put_part.Goals as goal
 
 is_over : (b u : ℕ) → b ≤ u → nat_le b u ≡ true
 is_over b u h = grind (arith, nat_tests)
-
-is_under : (b u : ℕ) → u < b → nat_le b u ≡ false
-is_under b u h = grind (arith, nat_tests)
 
 -- so many of the part's rows are new
 abbrev counted : ℕ → List Row → ℕ
@@ -56,7 +54,7 @@ loop-row-preserved-then-row-bound c =
     let row : Row = c.in-Some.row in
     let next : length (c.loop-row.yielded ++ row ∷ []) ≡ i + 1 = length_push c.loop-row.yielded row in
     let same : counted c.args.bound (take (i + 1) c.args.part.rows) ≡ counted c.args.bound (take i c.args.part.rows) =
-    count_by_more_no (λ (r : Row). nat_le c.args.bound r.uid) c.args.part.rows i row turn.0 (ap (λ (r : Row). nat_le c.args.bound r.uid) (sym turn.1) ∙ is_under c.args.bound row.uid c.if-row-bound.true) in
+    count_by_more_no (λ (r : Row). nat_le c.args.bound r.uid) c.args.part.rows i row turn.0 (ap (λ (r : Row). nat_le c.args.bound r.uid) (sym turn.1) ∙ lt-leb c.args.bound row.uid c.if-row-bound.true) in
     let room : c.args.self.now.room ≡ c.loop-row.self.room + counted c.args.bound (take i c.args.part.rows) = c.loop-row.invariant.room in
     record {
       put = subst (λ n. IsPutTo c.args.uids.now c.args.bound c.args.part.rows c.args.self.now.rows n c.replace.new.self.rows) (sym next)
