@@ -6,11 +6,16 @@ use Rattle.std.proofs.lemmas.List.{map-id, length-append, length-drop}
 use Rattle.std.proofs.lemmas.List.Elements.{All-map, All-weaker}
 use Rattle.dv_model.specs.declared.types.Current.{Current}
 use Rattle.dv_model.specs.declared.types.Extension.{Extension}
+use Rattle.dv_model.specs.declared.types.Intro.{Intro}
 use Rattle.dv_model.specs.declared.types.Mailbox.{Mailbox}
 use Rattle.dv_model.specs.declared.types.Part.{Part}
 use Rattle.dv_model.specs.declared.types.Row.{Row}
-use Rattle.dv_model.specs.Effects.{is_as_before, on_current, stamped, with_header_parts, with_item, with_reset, with_row_parts, with_update, written_over, zeroed}
+use Rattle.dv_model.specs.Effects.{is_as_before, on_current, stamped, with_header_parts, with_intro, with_item, with_reset, with_row_parts, with_update, written_over, zeroed}
 use Rattle.dv_model.specs.Mailboxes.{IsRowOf, IsValid}
+use Rattle.dv_ext.proofs.Sizing.{intros_stay, only_those, rows_behind, sizes_same}
+use Rattle.dv_ext.specs.Changes.{HasTable}
+use Rattle.dv_ext.specs.Sizes.{extensions_behind, fitted, have_sizes, leave_parts, sizes_of}
+use Rattle.dv_ext.specs.Tables.{Table, with_table}
 use Rattle.dv_rows.specs.Changed.{written_at_front}
 use Rattle.dv_validity.proofs.Comparisons.{as_before_itself, stamped_alike}
 use Rattle.dv_validity.proofs.Items.{item_like, map_kept}
@@ -116,7 +121,43 @@ current_wide m c e valid =
     (λ row is. if_some (λ part. c.size ≤ length part) (slice_get row.parts c.extension) (item_like length (λ (e : Extension). e.record_size) (λ n. c.size ≤ n) c.extension row.parts m.extensions is.parts wide))
     m.rows valid.rows
 
+-- ---- introductions
+
+-- the table, and rows that are filled up or stay, tell the mailbox behind introductions
+pub introduced_all : (h : Mailbox) (after : Table) (intros : List Intro) (rows : List Row) → HasTable after (fold with_intro h intros) → rows ≡ (fold with_intro h intros).rows → fold with_intro h intros ≡ with_table after (record h { rows = rows })
+introduced_all h after intros rows has is =
+    let n : Mailbox = fold with_intro h intros in
+    let table : record { extensions = n.extensions; current = n.current } ≡ after = ap (λ (x : Mailbox). record { extensions = x.extensions; current = x.current }) (sym has.is) in
+    only_those h intros
+    ∙ ap (λ (rs : List Row). record h { rows = rs; extensions = n.extensions; current = n.current }) (sym is)
+    ∙ ap (λ (t : Table). with_table t (record h { rows = rows })) table
+
+sizes_behind : (after : Table) (n : Mailbox) → HasTable after n → sizes_of n.extensions ≡ sizes_of after.extensions
+sizes_behind after n has = ap (λ (x : Mailbox). sizes_of x.extensions) (sym has.is)
+
+pub fitted_rows : (h : Mailbox) (after : Table) (intros : List Intro) (rows : List Row) → IsValid h → HasTable after (fold with_intro h intros) → rows ≡ map (with_row_parts (fitted (sizes_of after.extensions))) h.rows
+    → rows ≡ (fold with_intro h intros).rows
+fitted_rows h after intros rows valid has is =
+    is ∙ ap (λ (ns : List ℕ). map (with_row_parts (fitted ns)) h.rows) (sym (sizes_behind after (fold with_intro h intros) has)) ∙ sym (rows_behind h intros valid)
+
+pub rows_left : (h : Mailbox) (after : Table) (intros : List Intro) → IsValid h → HasTable after (fold with_intro h intros) → have_sizes h.extensions after.extensions ≡ true → h.rows ≡ (fold with_intro h intros).rows
+rows_left h after intros valid has same =
+    sym (intros_stay h intros valid (sizes_behind after (fold with_intro h intros) has ∙ sym (sizes_same h.extensions after.extensions same)))
+
+-- what a call answers of copies of two lists
+pub sizes_are : (es fs copied other : List Extension) (result b : Bool) → copied ≡ es → other ≡ fs → result ≡ have_sizes copied other → result ≡ b → have_sizes es fs ≡ b
+sizes_are es fs copied other result b one two answer is = ap (λ (xs : List Extension). have_sizes xs fs) (sym one) ∙ ap (have_sizes copied) (sym two) ∙ sym answer ∙ is
+
+-- the sizes behind introductions are those of the table that they make
+pub parts_told : (t dup after : Table) (intros : List Intro) → dup ≡ t → after.extensions ≡ extensions_behind dup.extensions intros → leave_parts t.extensions intros ≡ have_sizes t.extensions after.extensions
+parts_told t dup after intros same is = ap (have_sizes t.extensions) (sym (is ∙ ap (λ (x : Table). extensions_behind x.extensions intros) same))
+
 -- ---- sizes stay
+
+-- extensions of one size each have one row's zero bytes
+pub sizes_blank : (es fs : List Extension) → have_sizes es fs ≡ true → blank_parts fs ≡ blank_parts es
+sizes_blank es fs same =
+    sym (map_map (λ (n : ℕ). replicate n 0) (λ (e : Extension). e.record_size) fs) ∙ ap (map (λ (n : ℕ). replicate n 0)) (sym (sizes_same es fs same)) ∙ map_map (λ (n : ℕ). replicate n 0) (λ (e : Extension). e.record_size) es
 
 sizes_kept : (f : Extension → Extension) → ((e : Extension) → (f e).record_size ≡ e.record_size) → (k : ℕ) (es : List Extension) → blank_parts (with_item k f es) ≡ blank_parts es
 sizes_kept f same k es = map_kept (λ (e : Extension). replicate e.record_size 0) f (λ e. ap (λ (n : ℕ). replicate n 0) (same e)) k es

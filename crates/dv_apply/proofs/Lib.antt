@@ -9,4 +9,3 @@ mod Extending
 pub mod Keeping
 mod Naming
 pub mod Refusing
-mod Surveying

@@ -29,7 +29,7 @@ use Rattle.dv_apply.proofs.Lending.{among_parted}
 use Rattle.dv_apply.specs.Bodies.{Refused, refused_row}
 use Rattle.dv_apply.specs.Preparing.{IsRefused, Makes, Ready, alone}
 use Rattle.dv_apply.specs.States.{Held}
-use Rattle.dv_apply.specs.Surveys.{AreAllNamed}
+use Rattle.dv_survey.specs.Surveys.{AreAllNamed}
 
 -- ---- answers
 

@@ -1,6 +1,6 @@
 -- What is made ready takes its place.
 use Rattle.std.proofs.Common.{◌≡◌, ◌↔◌, ◌⊎◌, inl, inr, Option, Some, None, ℕ, ◌+◌, ◌-◌, ◌≤◌, Bool, true, false, cond, List, [], ◌++◌, length, refl, sym, ◌∙◌, ap, subst, arith}
-use Rattle.std.specs.Prelude.{All, Contains, IsSomeAnd, filter, map, not, replicate, take}
+use Rattle.std.specs.Prelude.{All, Contains, IsSomeAnd, filter, not, take}
 use Rattle.std.proofs.lemmas.List.Elements.{All-nil, filter_passes}
 use Rattle.dv_model.specs.declared.types.Extension.{Extension}
 use Rattle.dv_model.specs.declared.types.Mailbox.{Mailbox}
@@ -9,7 +9,6 @@ use Rattle.dv_model.specs.Fresh.{IsTouched}
 use Rattle.dv_rows.proofs.TwoParts.{same_parts}
 use Rattle.dv_rows.specs.Kept.{AreRows}
 use Rattle.dv_rows.specs.Parted.{is_parted}
-use Rattle.dv_validity.proofs.Rows.{map_map}
 use Rattle.dv_apply.specs.Preparing.{Makes, Ready, alone}
 use Rattle.dv_apply.specs.States.{Held, blank_parts}
 
@@ -54,11 +53,6 @@ has_left false es fs items kept spare appended n room before blank many rooms sa
   blanks = omega arith;
   room = omega arith;
 }
-
--- extensions of one size each have one row's zero bytes
-pub sizes_blank : (es fs : List Extension) → map (λ e. e.record_size) fs ≡ map (λ e. e.record_size) es → blank_parts fs ≡ blank_parts es
-sizes_blank es fs same =
-    sym (map_map (λ (n : ℕ). replicate n 0) (λ (e : Extension). e.record_size) fs) ∙ ap (map (λ (n : ℕ). replicate n 0)) same ∙ map_map (λ (n : ℕ). replicate n 0) (λ (e : Extension). e.record_size) es
 
 -- ---- touched UIDs
 

@@ -9,6 +9,7 @@ use Rattle.dv_model.specs.Effects.{effect, stamped, with_higher}
 use Rattle.dv_model.specs.Names.{IsName}
 use Rattle.std.specs.List.{list_all}
 use Rattle.dv_ext.specs.Quiet.{is_quiet}
+use Rattle.dv_ext.specs.Sizes.{leave_parts}
 
 -- the mailbox after a record with this body, unless it is refused; an expunge is no mere request here
 abbrev pub after_body : Mailbox → Body → Option Mailbox
@@ -29,10 +30,10 @@ abbrev pub refused_row : Mailbox → Body → Option Refused
 refused_row m (Append rows) = first_refused m.next_uid rows
 refused_row m body = None
 
--- an append takes as many rows from the spare ones as it has; an introduction takes all, unless it leaves the extensions
+-- an append takes as many rows from the spare ones as it has; introductions take all, unless they leave the sizes of each row's parts
 abbrev pub spare_after : List Extension → ℕ → Body → ℕ
 spare_after es n (Append rows) = n - length rows
-spare_after es n (ExtIntro intros) = if list_all (is_quiet es) intros then n else 0
+spare_after es n (ExtIntro intros) = if leave_parts es intros then n else 0
 spare_after es n body = n
 
 -- what a record that can be written has: new UIDs are below the largest number, and a keyword is a name

@@ -2,5 +2,4 @@ pub mod Alike
 pub mod Answers
 pub mod Bodies
 pub mod States
-pub mod Surveys
 pub mod Preparing

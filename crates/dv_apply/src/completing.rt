@@ -1,28 +1,15 @@
-ghost use Rattle.std.specs.Prelude.{◌≡◌, ◌↔◌, ℕ, Contains, ◌-◌, ◌≤◌, [], true, if◌then◌else◌};
+ghost use Rattle.std.specs.Prelude.{◌≡◌, ◌↔◌, ℕ, Contains, ◌-◌, ◌≤◌, [], if◌then◌else◌};
 ghost use Rattle.dv_model.specs.declared.types.Mailbox.{Mailbox};
 ghost use Rattle.dv_model.specs.Fresh.{IsTouched};
 ghost use Rattle.dv_apply.specs.Preparing.{IsPrepared, Makes, ready_of};
-ghost use Rattle.dv_apply.specs.States.{IsKept, blank_parts, held_of, mailbox_of};
+ghost use Rattle.dv_ext.specs.Sizes.{have_sizes};
+ghost use Rattle.dv_apply.specs.States.{IsKept, held_of, mailbox_of};
 
 use crate::share::Made;
 use crate::state::State;
-use dv_model::{Bytes, Extension, List};
+use dv_ext::have_sizes;
+use dv_model::{Bytes, List};
 use dv_touched::Touched;
-
-// Whether a row has parts of the same sizes for these extensions as for those.
-fn have_sizes(old: &[Extension], new: &[Extension]) -> bool
-    ensures { result ≡ true → blank_parts new.now ≡ blank_parts old.now }
-{
-    if old.len() != new.len() {
-        return false;
-    }
-    for at in 0..old.len() {
-        if old[at].record_size != new[at].record_size {
-            return false;
-        }
-    }
-    true
-}
 
 // The spare rows that are left, and their zero bytes where these are the same.
 fn left(blanks: &mut Vec<List<Bytes>>, spare: u32, appended: u32, same: bool) -> u32
@@ -46,6 +33,9 @@ pub fn complete(state: &mut State, made: Made) -> Touched
         mailbox_of state.new ≡ after }
     ensures touched { (uid : ℕ) →
         Contains result uid ↔ IsTouched (mailbox_of state.old) (mailbox_of state.new) uid }
+    ensures spare { state.new.spare
+        ≡ (if have_sizes state.old.extensions.extensions state.new.extensions.extensions
+        then state.old.spare - made.appended else 0) }
 {
     let Made {
         uids,

@@ -1,4 +1,4 @@
-ghost use Rattle.std.specs.Prelude.{◌≡◌, Ok, OnErr, OnOk, fold, true, false};
+ghost use Rattle.std.specs.Prelude.{◌≡◌, Ok, OnErr, OnOk, fold, true};
 ghost use Rattle.std.specs.List.{list_all};
 ghost use Rattle.dv_ext.specs.Quiet.{is_quiet};
 ghost use Rattle.dv_ext.specs.Tables.{with_table};
@@ -9,9 +9,9 @@ ghost use Rattle.dv_model.specs.declared.types.Body.TheVariants.{ExtHeaderUpdate
 ghost use Rattle.dv_apply.specs.States.{Becomes, IsKept};
 
 use crate::changes::higher;
-use crate::parts::{copied, introduce, write_parts, zero_parts};
+use crate::parts::{write_parts, zero_parts};
 use crate::state::State;
-use dv_ext::{Extensions, RowUpdates};
+use dv_ext::{Extensions, RowUpdates, have_sizes};
 use dv_model::{Duplicate, Intro, List, NoMemory, Part};
 
 /// Whether the introductions leave the extensions, and so each row, as they are.
@@ -48,26 +48,32 @@ fn introduce_quietly(state: &mut State, intros: &[Intro])
     make_current(&mut state.extensions, intros);
 }
 
-// Introductions that change the extensions.
+// Introductions that change the extensions. No row is touched where each one's parts stay as they
+// are, else each of them once.
 fn introduce_new(state: &mut State, intros: &[Intro]) -> Result<(), NoMemory>
-    requires kept { IsKept state.old }
-    requires loud { list_all (is_quiet state.old.extensions.extensions) intros.now ≡ false }
+    requires { IsKept state.old }
     ensures ok { OnOk result (Becomes state.old (ExtIntro intros.now) state.new) }
     ensures err { OnErr result (state.new ≡ state.old) }
 {
     let mut extensions = state.extensions.duplicate(state.alloc)?;
-    let mut rows = copied(state.alloc, &state.rows)?;
-    introduce(&mut extensions, &mut rows, intros)?;
+    extensions.intro_all(intros)?;
+    let list = extensions.list().as_slice();
+    if have_sizes(state.extensions.list().as_slice(), list) {
+        state.highest = higher(state.highest);
+        state.extensions = extensions;
+        return Ok(());
+    }
+    state.rows.fit_parts(list)?;
     state.highest = higher(state.highest);
     state.extensions = extensions;
-    state.rows = rows;
     state.blanks.clear();
     state.spare = 0;
     Ok(())
 }
 
 /// Introduces extensions (Dovecot's `mail_transaction_ext_intro`). Where that leaves them as they
-/// are, it takes no memory; else no row is spare then. After `NoMemory` nothing has changed.
+/// are, it takes no memory; where it changes the parts of rows, no row is spare then. After
+/// `NoMemory` nothing has changed.
 pub fn introduce_all(state: &mut State, intros: &[Intro]) -> Result<(), NoMemory>
     requires { IsKept state.old }
     ensures ok { OnOk result (Becomes state.old (ExtIntro intros.now) state.new) }

@@ -21,7 +21,6 @@ mod raising;
 mod sends;
 mod share;
 mod state;
-mod survey;
 mod touching;
 
 pub use fault::ApplyFault;

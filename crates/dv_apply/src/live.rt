@@ -1,9 +1,10 @@
-ghost use Rattle.std.specs.Prelude.{◌≡◌, ◌↔◌, ◌⊎◌, ℕ, ◌<◌, ◌≤◌, [], All, Contains, IsSomeAnd, Err, IfOk, Ok, OnErr, OnOk, Some, length, max, nat_eq, position, slice_get};
+ghost use Rattle.std.specs.Prelude.{◌≡◌, ◌↔◌, ◌⊎◌, ℕ, ◌<◌, ◌≤◌, [], All, Contains, IsSomeAnd, Err, IfOk, Ok, OnErr, OnOk, Some, length, max, nat_eq, position, slice_get, ◌-◌, if◌then◌else◌};
 ghost use Rattle.dv_model.specs.Effects.{after_record, applied};
 ghost use Rattle.dv_model.specs.declared.types.Mailbox.{Mailbox};
 ghost use Rattle.dv_model.specs.Fresh.{IsTouched};
 ghost use Rattle.dv_model.specs.Mailboxes.{IsValid, empty_mailbox, last_modseq};
 ghost use Rattle.dv_model.specs.Spelling.{IsRecord};
+ghost use Rattle.dv_ext.specs.Sizes.{have_sizes};
 ghost use Rattle.dv_rows.specs.Kept.{flag_count};
 ghost use Rattle.dv_apply.specs.Answers.{OnBadAppend};
 ghost use Rattle.dv_apply.specs.Bodies.{Refused, TakesNone, refused_row, spare_after};
@@ -117,7 +118,7 @@ impl Live {
             result ≡ Err (fault.BadAppend refused.uid refused.next_uid) }
         // Nothing that is shown changes by an error.
         ensures err { OnErr result (shown_in self.new ≡ shown_in self.old) }
-        // Only appends use up spare rows, and introductions that change the extensions.
+        // Only appends use up spare rows, and introductions that change the parts of rows.
         ensures spare { OnOk result (self.new.spare
             ≡ spare_after self.old.mailbox.extensions self.old.spare r.now.body) }
         // Some records take no memory.
@@ -157,6 +158,10 @@ impl Live {
             self.new.mailbox ≡ after }
         ensures touched { (uid : ℕ) →
             Contains result uid ↔ IsTouched self.old.mailbox self.new.mailbox uid }
+        // New rows use up spare ones, and other sizes of rows' parts leave none.
+        ensures spare { self.new.spare
+            ≡ (if have_sizes self.old.mailbox.extensions self.new.mailbox.extensions
+            then self.old.spare - prepared.appended else 0) }
     {
         let Prepared { made } = prepared;
         complete(&mut self.state, made)

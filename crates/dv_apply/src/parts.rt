@@ -1,35 +1,14 @@
-ghost use Rattle.std.specs.Prelude.{◌≡◌, ◌<◌, All, IfOk, OnErr, OnOk, fold};
+ghost use Rattle.std.specs.Prelude.{◌≡◌, All, IfOk, fold};
 ghost use Rattle.dv_model.specs.declared.types.Mailbox.{Mailbox};
-ghost use Rattle.dv_model.specs.Effects.{with_intro, with_update};
-ghost use Rattle.dv_model.specs.Mailboxes.{IsValid};
+ghost use Rattle.dv_model.specs.Effects.{with_update};
 ghost use Rattle.dv_ext.specs.Changes.{Zeroes, rows_changed};
-ghost use Rattle.dv_ext.specs.Tables.{with_table};
 ghost use Rattle.dv_apply.specs.Alike.{IsAlike, IsWide};
 ghost use Rattle.dv_rows.specs.Kept.{AreRows};
 
-use dv_ext::{Extensions, PartsChange, RowUpdates};
-use dv_model::{Duplicate, Intro, List, NoMemory, Row};
+use dv_ext::{PartsChange, RowUpdates};
+use dv_model::{Duplicate, List, NoMemory, Row};
 use dv_rows::Rows;
 use std::alloc::Global;
-
-/// Changes the parts of each row. After `NoMemory` they are as before.
-pub fn change_parts(rows: &mut Rows, change: PartsChange) -> Result<(), NoMemory>
-    ensures ok { OnOk result ((m : Mailbox) → m.rows ≡ rows.old.rows →
-        rows_changed change m ≡ record m { rows = rows.new.rows }) }
-    ensures alike { OnOk result (IsAlike rows.old.rows rows.new.rows) }
-    ensures room { rows.new.room ≡ rows.old.room }
-    ensures err { OnErr result (rows.new ≡ rows.old) }
-{
-    match change {
-        PartsChange::Same => Ok(()),
-        PartsChange::Added { size } => rows.add_part(size),
-        PartsChange::Grown { place, size } => rows.grow_part(place, size),
-        PartsChange::Zeroed { place } => {
-            rows.clear_part(place);
-            Ok(())
-        }
-    }
-}
 
 /// Zeroes the parts of each row that a reset zeroes, without memory.
 pub fn zero_parts(rows: &mut Rows, change: PartsChange)
@@ -74,31 +53,4 @@ pub fn listed(alloc: Global, rows: &Rows) -> Result<List<Row>, NoMemory>
         list.push(row)?;
     }
     Ok(list)
-}
-
-/// Equal rows.
-pub fn copied(alloc: Global, rows: &Rows) -> Result<Rows, NoMemory>
-    ensures { IfOk result (λ made. made.rows ≡ rows.now.rows) }
-{
-    let list = listed(alloc, rows)?;
-    Rows::of(alloc, list)
-}
-
-/// Introduces extensions in turn. After `NoMemory` some may have been introduced.
-pub fn introduce(
-    extensions: &mut Extensions,
-    rows: &mut Rows,
-    intros: &[Intro],
-) -> Result<(), NoMemory>
-    ensures is { OnOk result ((m : Mailbox) → IsValid (with_table extensions.old m) →
-        m.rows ≡ rows.old.rows
-        → fold with_intro (with_table extensions.old m) intros.now
-        ≡ with_table extensions.new (record m { rows = rows.new.rows })) }
-    ensures alike { OnOk result (IsAlike rows.old.rows rows.new.rows) }
-{
-    for intro in intros {
-        let change = extensions.intro(intro)?;
-        change_parts(rows, change)?;
-    }
-    Ok(())
 }

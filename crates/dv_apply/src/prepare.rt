@@ -13,9 +13,9 @@ use crate::appends::reserve;
 use crate::fault::ApplyFault;
 use crate::share::Made;
 use crate::state::State;
-use crate::survey::named_rows;
 use dv_model::{Duplicate, NoMemory, Record, Row};
 use dv_rows::{Rows, sort_uids};
+use dv_survey::named_rows;
 use dv_touched::Touched;
 use std::alloc::Global;
 

@@ -7,3 +7,4 @@ pub mod Doing
 pub mod Validity
 pub mod Rows
 pub mod Quieting
+pub mod Sizing

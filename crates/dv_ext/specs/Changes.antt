@@ -28,3 +28,8 @@ Zeroes Same = Unit {0}
 Zeroes (Zeroed place) = Unit {0}
 Zeroes (Added size) = ⊥
 Zeroes (Grown place size) = ⊥
+
+-- a valid mailbox that has this table
+pub record HasTable (t : Table) (m : Mailbox) : Type 0 where
+  pub valid : IsValid m
+  pub is : with_table t m ≡ m

@@ -1,8 +1,11 @@
-ghost use Rattle.std.specs.Prelude.{◌≡◌, ◌<◌, ◌&&◌, true, IfOk, IsSomeAnd, None, OnErr, length, nat_le, slice_get, if◌then◌else◌};
+ghost use Rattle.std.specs.Prelude.{◌≡◌, ◌<◌, ◌&&◌, true, fold, IfOk, IsSomeAnd, None, OnErr, OnOk, length, nat_le, slice_get, if◌then◌else◌};
 ghost use Rattle.dv_model.specs.Effects.{added_extension, introduced, may_be_added, on_current, reintroduced, with_header_parts, with_intro, with_reset, without_current};
-ghost use Rattle.dv_ext.specs.Changes.{Does, Keeps, Zeroes};
+ghost use Rattle.dv_model.specs.declared.types.Mailbox.{Mailbox};
+ghost use Rattle.dv_model.specs.Mailboxes.{IsValid};
+ghost use Rattle.dv_ext.specs.Changes.{Does, HasTable, Keeps, Zeroes};
 ghost use Rattle.dv_ext.specs.Quiet.{is_quiet};
-ghost use Rattle.dv_ext.specs.Tables.{IsTable, empty_table};
+ghost use Rattle.dv_ext.specs.Sizes.{extensions_behind, leave_parts};
+ghost use Rattle.dv_ext.specs.Tables.{IsTable, empty_table, with_table};
 ghost use Rattle.dv_ext.specs.declared.change.PartsChange.TheVariants.{Grown, Same};
 
 use crate::change::PartsChange;
@@ -174,6 +177,27 @@ impl Extensions {
             Some(place) => self.reintroduce(place, intro),
             None => self.introduce(intro),
         }
+    }
+
+    /// Introduces extensions in turn. The answer is whether none of them changes the parts of rows.
+    /// After `NoMemory` some of them may have been introduced.
+    pub fn intro_all(&mut self, intros: &[Intro]) -> Result<bool, NoMemory>
+        ensures has { OnOk result ((m : Mailbox) → IsValid (with_table self.old m) →
+            HasTable self.new (fold with_intro (with_table self.old m) intros.now)) }
+        ensures behind { OnOk result (self.new.extensions
+            ≡ extensions_behind self.old.extensions intros.now) }
+        ensures parts { IfOk result (λ stay. stay ≡ true →
+            leave_parts self.old.extensions intros.now ≡ true) }
+    {
+        let _ = &self.alloc;
+        let mut stay = true;
+        for intro in intros {
+            match self.intro(intro)? {
+                PartsChange::Same => {}
+                _ => stay = false,
+            }
+        }
+        Ok(stay)
     }
 
     /// Gives the current extension another reset number, and zero bytes to its header and its

@@ -7,10 +7,12 @@ mod edits;
 mod extensions;
 mod limits;
 mod sends;
+mod sizes;
 mod updates;
 
 pub use change::PartsChange;
 pub use extensions::Extensions;
+pub use sizes::have_sizes;
 pub use updates::RowUpdates;
 
 #[cfg(test)]

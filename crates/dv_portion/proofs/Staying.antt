@@ -1,9 +1,9 @@
 -- Rows that records may not change stay as they are.
 use Rattle.std.proofs.Common.{◌≡◌, ℕ, suc, ◌+◌, ◌%◌, ◌/◌, ◌≤◌, Bool, true, false, cond, not, ◌&&◌, List, [], ◌∷◌, ◌++◌, length, get_or, nat_eq, nat_le, nat_lt, Option, Some, None, refl, sym, ◌∙◌, ap, subst, arith}
 use Rattle.std.proofs.lemmas.Bool.{false_from_ne_true, not-false}
-use Rattle.std.specs.Prelude.{All, Contains, drop, filter, fold, map, option_and_then, option_map, slice_get, take}
+use Rattle.std.specs.Prelude.{All, Contains, drop, filter, fold, map, option_and_then, option_map, take}
 use Rattle.std.specs.Int.{w32, from_le_bytes}
-use Rattle.std.specs.List.{list_all, list_any}
+use Rattle.std.specs.List.{list_any}
 use Rattle.std.proofs.lemmas.Bool.Decides.{nat_tests}
 use Rattle.std.proofs.lemmas.List.Elements.{All-contains_itself, All-filter, All-head, All-tail, All-weaker, filter-append}
 use Rattle.std.proofs.lemmas.List.Folds.{list_any_at, map_fixed}
@@ -13,7 +13,6 @@ use Rattle.dv_model.specs.declared.types.Body.{Body}
 use Rattle.dv_model.specs.declared.types.Body.TheVariants.{Expunge, Append, FlagUpdate, HeaderUpdate, ExtIntro, ExtReset, ExtHeaderUpdate, ExtRecordUpdate, KeywordUpdate, KeywordReset, ExpungeGuid, Carried}
 use Rattle.dv_model.specs.declared.types.Change.{Change}
 use Rattle.dv_model.specs.declared.types.Current.{Current}
-use Rattle.dv_model.specs.declared.types.Extension.{Extension}
 use Rattle.dv_model.specs.declared.types.How.{How}
 use Rattle.dv_model.specs.declared.types.How.TheVariants.{Add, Remove, Replace}
 use Rattle.dv_model.specs.declared.types.Intro.{Intro}
@@ -23,12 +22,11 @@ use Rattle.dv_model.specs.declared.types.Pair.{Pair}
 use Rattle.dv_model.specs.declared.types.Part.{Part}
 use Rattle.dv_model.specs.declared.types.Record.{Record}
 use Rattle.dv_model.specs.declared.types.Row.{Row}
-use Rattle.dv_model.specs.Effects.{after_record, applied, effect, fit, fresh_row, grown_extension, header_number, introduced, is_in_guid_rows, is_in_pairs, is_request, keywords_after, may_be_added, new_extension, on_current, place_of, stamped, stamped_row, update_rows, update_size, with_bits, with_change, with_changed, with_header_part, with_header_parts, with_higher, with_intro, with_item, with_keyword, with_named, with_next_uid, with_reset, with_row, with_rows, with_update, with_updates, with_validity, without_current, without_uids}
+use Rattle.dv_model.specs.Effects.{after_record, applied, effect, fresh_row, header_number, is_in_guid_rows, is_in_pairs, is_request, keywords_after, on_current, place_of, stamped, stamped_row, update_rows, update_size, with_bits, with_change, with_changed, with_header_part, with_header_parts, with_higher, with_intro, with_item, with_keyword, with_named, with_next_uid, with_reset, with_row, with_rows, with_update, with_updates, with_validity, without_uids}
 use Rattle.dv_model.specs.Mailboxes.{IsValid}
-use Rattle.dv_ext.proofs.Quieting.{quiet_does}
-use Rattle.dv_ext.specs.Quiet.{is_quiet}
+use Rattle.dv_ext.proofs.Sizing.{behind_all, intros_stay, sizes_same}
+use Rattle.dv_ext.specs.Sizes.{extensions_behind, leave_parts, sizes_of}
 use Rattle.dv_validity.proofs.Comparisons.{stamped_there}
-use Rattle.dv_validity.proofs.Extensions.{intros_valid}
 use Rattle.dv_validity.proofs.Records.{after_by, by_some, in_range_valid}
 use Rattle.dv_validity.proofs.Rows.{fold_keeps_any}
 use Rattle.dv_validity.proofs.Stamps.{higher_valid}
@@ -98,57 +96,11 @@ keyword_rows how name pairs m off =
     let same : n.rows ≡ m.rows = named_rows how name m in
     keyword_by how name pairs n (subst (All (λ (row : Row). is_in_pairs pairs row.uid ≡ false)) (sym same) off) (place_of n.keywords name) refl ∙ same
 
--- ---- introductions that leave the extensions
+-- ---- introductions that leave the sizes of parts
 
--- the same rows and extensions
-record IsBeside (m n : Mailbox) : Type 0 where
-  rows : n.rows ≡ m.rows
-  extensions : n.extensions ≡ m.extensions
-
-no_new_by : (m n : Mailbox) (a b : Bool) → not (a && b) ≡ true → IsBeside m (cond a (cond b n (without_current m)) (without_current m))
-no_new_by m n true true e = absurd cc
-no_new_by m n true false e = record { rows = refl; extensions = refl }
-no_new_by m n false b e = record { rows = refl; extensions = refl }
-
-none_by : (m n : Mailbox) (b : Bool) → b ≡ false → IsBeside m (cond b n (without_current m))
-none_by m n true e = absurd cc
-none_by m n false e = record { rows = refl; extensions = refl }
-
-known_by : (m : Mailbox) (k : ℕ) (e : Extension) (intro : Intro) → IsValid m → is_quiet m.extensions intro ≡ true → introduced m.extensions intro ≡ Some k → slice_get m.extensions k ≡ Some e
-    → (same : Bool) → nat_eq e.reset_id intro.reset_id ≡ same → (fits : Bool) → fit (with_item k (grown_extension intro) m.extensions) ≡ fits → IsBeside m (with_intro m intro)
-known_by m k e intro valid quiet place there true same true fits =
-    let does : with_intro m intro ≡ record m { extensions = m.extensions; current = Some (record { extension = k; size = intro.record_size }) } = quiet_does (table_of m) k e intro place there same fits quiet m valid in
-    record { rows = ap (λ (n : Mailbox). n.rows) does; extensions = ap (λ (n : Mailbox). n.extensions) does }
-known_by m k e intro valid quiet place there true same false fits = rw (place, there) (rw (same, fits) (record { rows = refl; extensions = refl }))
-known_by m k e intro valid quiet place there false same fits other = rw (place, there) (rw same (record { rows = refl; extensions = refl }))
-
-at_place : (m : Mailbox) (k : ℕ) (intro : Intro) → IsValid m → is_quiet m.extensions intro ≡ true → introduced m.extensions intro ≡ Some k → (o : Option Extension) → slice_get m.extensions k ≡ o → IsBeside m (with_intro m intro)
-at_place m k intro valid quiet place None there = rw (place, there) (record { rows = refl; extensions = refl })
-at_place m k intro valid quiet place (Some e) there =
-    known_by m k e intro valid quiet place there (nat_eq e.reset_id intro.reset_id) refl (fit (with_item k (grown_extension intro) m.extensions)) refl
-
-intro_by : (m : Mailbox) (intro : Intro) → IsValid m → is_quiet m.extensions intro ≡ true → (o : Option ℕ) → introduced m.extensions intro ≡ o → IsBeside m (with_intro m intro)
-intro_by m intro valid quiet None place =
-    rw place (no_new_by m _ (may_be_added intro) (fit (m.extensions ++ new_extension intro ∷ [])) (rw place at quiet))
-intro_by m intro valid quiet (Some k) place = at_place m k intro valid quiet place (slice_get m.extensions k) refl
-
-quiet_beside : (m : Mailbox) (intro : Intro) → IsValid m → is_quiet m.extensions intro ≡ true → IsBeside m (with_intro m intro)
-quiet_beside m intro valid quiet = intro_by m intro valid quiet (introduced m.extensions intro) refl
-
-first_of : (a b : Bool) → a && b ≡ true → a ≡ true
-first_of true b e = refl
-first_of false b e = absurd cc
-
-second_of : (a b : Bool) → a && b ≡ true → b ≡ true
-second_of true b e = e
-second_of false b e = absurd cc
-
-intros_rows : (m : Mailbox) (intros : List Intro) → IsValid m → list_all (is_quiet m.extensions) intros ≡ true → (fold with_intro m intros).rows ≡ m.rows
-intros_rows m [] valid quiet = refl
-intros_rows m (intro ∷ intros) valid quiet =
-    let first : IsBeside m (with_intro m intro) = quiet_beside m intro valid (first_of (is_quiet m.extensions intro) (list_all (is_quiet m.extensions) intros) quiet) in
-    let others : list_all (is_quiet m.extensions) intros ≡ true = second_of (is_quiet m.extensions intro) (list_all (is_quiet m.extensions) intros) quiet in
-    intros_rows (with_intro m intro) intros (intros_valid m (intro ∷ []) valid) (subst (λ (es : List Extension). list_all (is_quiet es) intros ≡ true) (sym first.extensions) others) ∙ first.rows
+intros_rows : (m : Mailbox) (intros : List Intro) → IsValid m → leave_parts m.extensions intros ≡ true → (fold with_intro m intros).rows ≡ m.rows
+intros_rows m intros valid same =
+    intros_stay m intros valid (ap sizes_of (sym (behind_all m intros)) ∙ sym (sizes_same m.extensions (extensions_behind m.extensions intros) same))
 
 -- ---- other records of extensions
 
@@ -196,7 +148,7 @@ intros_by : (m : Mailbox) (intros : List Intro) → IsValid m → IsSpared m (Ex
 intros_by m intros valid off [] e = nobody m (fold with_intro m intros) (ExtIntro intros) (λ test. effect_acts test m (ExtIntro intros) tt) refl e ∙ sym e
 intros_by m intros valid off (row ∷ rows) e =
     let some : length m.rows ≡ suc (length rows) = ap length e in
-    intros_rows m intros valid (not-false (list_all (is_quiet m.extensions) intros) (off 0 row (omega arith)))
+    intros_rows m intros valid (not-false (leave_parts m.extensions intros) (off 0 row (omega arith)))
 
 reset_rows : (m : Mailbox) (reset_id preserve : ℕ) → IsSpared m (ExtReset reset_id preserve) → (rows : List Row) → m.rows ≡ rows → (on_current m (with_reset reset_id preserve m)).rows ≡ m.rows
 reset_rows m reset_id preserve off [] e =

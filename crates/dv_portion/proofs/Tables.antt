@@ -1,5 +1,5 @@
 -- Records that leave a mailbox's table of extensions.
-use Rattle.std.proofs.Common.{◌≡◌, ℕ, ◌+◌, ◌%◌, ◌/◌, Bool, true, false, cond, ◌&&◌, List, [], ◌∷◌, length, nat_eq, nat_le, nat_lt, Option, Some, None, refl, sym, ◌∙◌, ap}
+use Rattle.std.proofs.Common.{◌≡◌, ℕ, ◌%◌, ◌/◌, Bool, true, false, cond, ◌&&◌, List, [], ◌∷◌, length, nat_eq, nat_lt, Option, Some, None, refl, ◌∙◌}
 use Rattle.std.specs.Prelude.{fold, option_map}
 use Rattle.dv_model.specs.declared.types.Body.{Body}
 use Rattle.dv_model.specs.declared.types.Body.TheVariants.{Expunge, Append, FlagUpdate, HeaderUpdate, ExtIntro, ExtReset, ExtHeaderUpdate, ExtRecordUpdate, KeywordUpdate, KeywordReset, ExpungeGuid, Carried}
@@ -9,11 +9,10 @@ use Rattle.dv_model.specs.declared.types.How.TheVariants.{Add, Remove, Replace}
 use Rattle.dv_model.specs.declared.types.Mailbox.{Mailbox}
 use Rattle.dv_model.specs.declared.types.NewRow.{NewRow}
 use Rattle.dv_model.specs.declared.types.Pair.{Pair}
-use Rattle.dv_model.specs.declared.types.Part.{Part}
 use Rattle.dv_model.specs.declared.types.Record.{Record}
-use Rattle.dv_model.specs.Effects.{after_record, effect, header_number, is_external, is_request, keywords_after, on_current, place_of, removes, stamped, update_rows, update_size, with_change, with_header_part, with_higher, with_keyword, with_keywords, with_named, with_next_uid, with_row, with_rows, with_update, with_updates, with_validity, without_uids}
+use Rattle.dv_model.specs.Effects.{after_record, effect, header_number, is_request, on_current, place_of, removes, stamped, update_rows, update_size, with_change, with_header_part, with_higher, with_keyword, with_named, with_next_uid, with_row, with_rows, with_update, with_updates, with_validity}
 use Rattle.dv_ext.specs.Tables.{Table}
-use Rattle.dv_validity.proofs.Records.{after_by, by_some}
+use Rattle.dv_validity.proofs.Records.{by_some}
 use Rattle.dv_validity.proofs.Rows.{fold_keeps_any}
 use Rattle.dv_portion.specs.Portions.{table_of}
 

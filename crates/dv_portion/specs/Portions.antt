@@ -1,7 +1,7 @@
 -- What records do to a portion of a mailbox's rows, and which rows a record may change.
 use Rattle.std.specs.Prelude.{◌≡◌, ℕ, ◌<◌, ◌≤◌, Bool, true, false, not, ◌&&◌, List, All, filter, get_or, length, Option, Some, None, nat_eq, nat_le, option_map, take}
 use Rattle.std.specs.Int.{w32, from_le_bytes}
-use Rattle.std.specs.List.{list_all, list_any}
+use Rattle.std.specs.List.{list_any}
 use Rattle.dv_model.specs.declared.types.Body.{Body}
 use Rattle.dv_model.specs.declared.types.Body.TheVariants.{Expunge, ExpungeGuid, ExtIntro, ExtRecordUpdate, ExtReset, FlagUpdate, KeywordReset, KeywordUpdate}
 use Rattle.dv_model.specs.declared.types.Current.{Current}
@@ -10,7 +10,7 @@ use Rattle.dv_model.specs.declared.types.Record.{Record}
 use Rattle.dv_model.specs.declared.types.Row.{Row}
 use Rattle.dv_model.specs.Effects.{applied, is_in_guid_rows, is_in_pairs}
 use Rattle.dv_model.specs.Mailboxes.{IsValid}
-use Rattle.dv_ext.specs.Quiet.{is_quiet}
+use Rattle.dv_ext.specs.Sizes.{leave_parts}
 use Rattle.dv_ext.specs.Tables.{Table}
 use Rattle.dv_ext.specs.Updates.{Updates, updates_of}
 use Rattle.dv_validity.specs.Laws.{IsInRange}
@@ -48,7 +48,7 @@ may_change t (ExpungeGuid rows) uid = is_in_guid_rows rows uid
 may_change t (FlagUpdate changes) uid = list_any (λ change. nat_le change.first uid && nat_le uid change.last) changes
 may_change t (KeywordUpdate how name pairs) uid = is_in_pairs pairs uid
 may_change t (KeywordReset pairs) uid = is_in_pairs pairs uid
-may_change t (ExtIntro intros) uid = not (list_all (is_quiet t.extensions) intros)
+may_change t (ExtIntro intros) uid = not (leave_parts t.extensions intros)
 may_change t (ExtReset reset_id preserve) uid = nat_eq preserve 0
 may_change t (ExtRecordUpdate bytes) uid = is_updated t.current bytes uid
 may_change t body uid = false

@@ -6,7 +6,7 @@ use Rattle.std.specs.List.Sorted.{IsPartitionedBy}
 use Rattle.std.proofs.lemmas.List.Sorted.{IsPartitionedBy-ltb}
 use Rattle.std.proofs.lemmas.Bool.{lt-ltb, le-ltb}
 use Rattle.std.proofs.lemmas.List.{get_or-drop, get_or-take, get_or_default, length-take}
-use Rattle.std.proofs.lemmas.Bool.{cases_lt, ltb-true, ltb-false}
+use Rattle.std.proofs.lemmas.Bool.{cases_lt}
 use Rattle.dv_model.specs.declared.types.Row.{Row}
 use Rattle.dv_rows.specs.Kept.{AreRows}
 use Rattle.dv_rows.specs.Places.{AreBounds, IsPlace}

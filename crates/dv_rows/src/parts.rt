@@ -1,20 +1,15 @@
-ghost use Rattle.std.specs.Prelude.{◌≡◌, ◌≤◌, [], ◌∷◌, ◌++◌, All, IfOk, IfSome, OnErr, OnOk, drop, length, map, nat_eq, replicate, slice_get, if◌then◌else◌, vec_capacity, vec_len};
+ghost use Rattle.std.specs.Prelude.{◌≡◌, ◌≤◌, [], All, IfOk, IfSome, OnErr, OnOk, get_or, length, map, nat_eq, slice_get, if◌then◌else◌, vec_capacity, vec_len};
 ghost use Rattle.std.specs.List.{AllZip};
+ghost use Rattle.dv_ext.specs.Sizes.{fitted, sizes_of};
 ghost use Rattle.dv_model.specs.Effects.{grown_to, with_item, with_row_parts, zeroed};
 ghost use Rattle.dv_rows.specs.Changed.{written_at_front};
 ghost use Rattle.dv_rows.specs.Kept.{AreRows};
 
 use crate::places::place_of;
 use crate::replacing::put_each;
-use dv_model::{Bytes, Duplicate, List, NoMemory, Row};
+use dv_model::{Bytes, Duplicate, Extension, List, NoMemory, Row};
 use std::alloc::Global;
 use std::mem;
-
-fn zeros(alloc: Global, size: u16) -> Result<Bytes, NoMemory>
-    ensures { IfOk result (λ made. made ≡ replicate size 0) }
-{
-    Ok(List::from_vec(vec![in alloc; 0; usize::from(size)]?))
-}
 
 // The list's vector, in whose place an empty list is left.
 fn taken<T: Drop>(alloc: Global, list: &mut List<T>) -> Vec<T>
@@ -24,42 +19,7 @@ fn taken<T: Drop>(alloc: Global, list: &mut List<T>) -> Vec<T>
     mem::replace(list, List::new(alloc)).into_vec()
 }
 
-// ---- one more part
-
-fn with_more(alloc: Global, parts: &List<Bytes>, size: u16) -> Result<List<Bytes>, NoMemory>
-    ensures { IfOk result (λ made. made ≡ parts.now ++ replicate size 0 ∷ []) }
-{
-    let mut made = parts.duplicate(alloc)?;
-    made.push(zeros(alloc, size)?)?;
-    Ok(made)
-}
-
-fn plan_more(alloc: Global, rows: &[Row], size: u16) -> Result<Vec<List<Bytes>>, NoMemory>
-    ensures { IfOk result
-        (λ plan. AllZip (λ row parts. parts
-        ≡ row.parts ++ replicate size 0 ∷ []) rows.now plan.items) }
-{
-    let mut plan = Vec::new(alloc);
-    for row in rows {
-        plan.push(with_more(alloc, &row.parts, size)?)?;
-    }
-    Ok(plan)
-}
-
-/// Gives each row one part more, of zero bytes. After `NoMemory` they are as before.
-pub fn add_part(alloc: Global, rows: &mut Vec<Row>, size: u16) -> Result<(), NoMemory>
-    ensures ok { OnOk result (rows.new.items
-        ≡ map (with_row_parts (λ parts. parts ++ replicate size 0 ∷ [])) rows.old.items) }
-    ensures err { OnErr result (rows.new.items ≡ rows.old.items) }
-    ensures len { vec_len rows.new ≡ vec_len rows.old }
-    ensures capacity { vec_capacity rows.new ≡ vec_capacity rows.old }
-{
-    let plan = plan_more(alloc, rows, size)?;
-    put_each(rows.as_mut_slice(), plan, 0);
-    Ok(())
-}
-
-// ---- a part that grows
+// ---- parts of other sizes
 
 fn grow(alloc: Global, part: &mut Bytes, size: u16) -> Result<(), NoMemory>
     ensures { OnOk result (part.new ≡ grown_to size part.old) }
@@ -70,55 +30,65 @@ fn grow(alloc: Global, part: &mut Bytes, size: u16) -> Result<(), NoMemory>
     Ok(())
 }
 
-fn grow_at(alloc: Global, parts: &mut [Bytes], place: usize, size: u16) -> Result<(), NoMemory>
-    ensures { OnOk result (parts.new ≡ with_item place (grown_to size) parts.old) }
+fn copied_part(alloc: Global, parts: &[Bytes], at: usize) -> Result<Bytes, NoMemory>
+    ensures { IfOk result (λ made. made ≡ get_or parts.now at []) }
 {
-    if place >= parts.len() {
-        return Ok(());
+    if at < parts.len() {
+        parts[at].duplicate(alloc)
+    } else {
+        Ok(List::new(alloc))
     }
-    grow(alloc, &mut parts[place], size)
 }
 
-fn with_grown(
-    alloc: Global,
-    parts: &List<Bytes>,
-    place: u32,
-    size: u16,
-) -> Result<List<Bytes>, NoMemory>
-    ensures { IfOk result (λ made. made ≡ with_item place (grown_to size) parts.now) }
+fn fitted_part(alloc: Global, parts: &[Bytes], at: usize, size: u16) -> Result<Bytes, NoMemory>
+    ensures { IfOk result (λ made. made ≡ grown_to size (get_or parts.now at [])) }
 {
-    let mut made = parts.duplicate(alloc)?.into_vec();
-    grow_at(alloc, &mut made, place as usize, size)?;
-    Ok(List::from_vec(made))
+    let mut part = copied_part(alloc, parts, at)?;
+    grow(alloc, &mut part, size)?;
+    Ok(part)
 }
 
-fn plan_grown(
+fn fitted(alloc: Global, parts: &[Bytes], extensions: &[Extension]) -> Result<List<Bytes>, NoMemory>
+    ensures { IfOk result (λ made. made ≡ fitted (sizes_of extensions.now) parts.now) }
+{
+    let mut made = List::new(alloc);
+    for at in 0..extensions.len() {
+        let part = fitted_part(alloc, parts, at, extensions[at].record_size)?;
+        made.push(part)?;
+    }
+    Ok(made)
+}
+
+fn plan_fitted(
     alloc: Global,
     rows: &[Row],
-    place: u32,
-    size: u16,
+    extensions: &[Extension],
 ) -> Result<Vec<List<Bytes>>, NoMemory>
     ensures { IfOk result
         (λ plan. AllZip (λ row parts. parts
-        ≡ with_item place (grown_to size) row.parts) rows.now plan.items) }
+        ≡ fitted (sizes_of extensions.now) row.parts) rows.now plan.items) }
 {
     let mut plan = Vec::new(alloc);
     for row in rows {
-        plan.push(with_grown(alloc, &row.parts, place, size)?)?;
+        plan.push(fitted(alloc, row.parts.as_slice(), extensions)?)?;
     }
     Ok(plan)
 }
 
-/// Fills the part at a place of each row up with zero bytes to this size. After `NoMemory` they are
-/// as before.
-pub fn grow_part(alloc: Global, rows: &mut Vec<Row>, place: u32, size: u16) -> Result<(), NoMemory>
+/// Gives each row a part for each extension, filled up with zero bytes to its size. After
+/// `NoMemory` they are as before.
+pub fn fit_parts(
+    alloc: Global,
+    rows: &mut Vec<Row>,
+    extensions: &[Extension],
+) -> Result<(), NoMemory>
     ensures ok { OnOk result (rows.new.items
-        ≡ map (with_row_parts (with_item place (grown_to size))) rows.old.items) }
+        ≡ map (with_row_parts (fitted (sizes_of extensions.now))) rows.old.items) }
     ensures err { OnErr result (rows.new.items ≡ rows.old.items) }
     ensures len { vec_len rows.new ≡ vec_len rows.old }
     ensures capacity { vec_capacity rows.new ≡ vec_capacity rows.old }
 {
-    let plan = plan_grown(alloc, rows, place, size)?;
+    let plan = plan_fitted(alloc, rows, extensions)?;
     put_each(rows.as_mut_slice(), plan, 0);
     Ok(())
 }

@@ -1,5 +1,6 @@
-ghost use Rattle.std.specs.Prelude.{◌≡◌, ◌↔◌, ◌⊎◌, ℕ, ◌+◌, ◌-◌, ◌^◌, ◌<◌, ◌≤◌, [], ◌∷◌, ◌++◌, All, filter, fold, length, map, not, position, nat_eq, replicate, IfOk, IfSome, IsTrue, OnOk, OnErr, Ok, Some, slice_get, if◌then◌else◌, true, Contains, count_by, nat_le};
-ghost use Rattle.dv_model.specs.Effects.{grown_to, is_in_pairs, is_in_guid_rows, keywords_after, with_item, with_row_parts, zeroed};
+ghost use Rattle.std.specs.Prelude.{◌≡◌, ◌↔◌, ◌⊎◌, ℕ, ◌+◌, ◌-◌, ◌^◌, ◌<◌, ◌≤◌, [], ◌∷◌, ◌++◌, All, filter, fold, length, map, not, position, nat_eq, IfOk, IfSome, IsTrue, OnOk, OnErr, Ok, Some, slice_get, if◌then◌else◌, true, Contains, count_by, nat_le};
+ghost use Rattle.dv_ext.specs.Sizes.{fitted, sizes_of};
+ghost use Rattle.dv_model.specs.Effects.{is_in_pairs, is_in_guid_rows, keywords_after, with_item, with_row_parts, zeroed};
 ghost use Rattle.dv_rows.specs.Changed.{changed_keywords, written_at_front};
 ghost use Rattle.dv_rows.specs.Kept.{AreRows, flag_count};
 ghost use Rattle.dv_rows.specs.Noted.{has};
@@ -13,12 +14,12 @@ use crate::flags::{ChangeFlags, StampFlags};
 use crate::keywords::{ClearKeywords, change_keywords};
 use crate::naming::name_ranges;
 use crate::parting::{MarkMissing, copies, first_missing};
-use crate::parts::{add_part, clear_part, grow_part, set_part};
+use crate::parts::{clear_part, fit_parts, set_part};
 use crate::places::{add_note, add_row, place_of};
 use crate::ranges::Range;
 use crate::uids::{Mark, first_place, remove_marked};
 use crate::walks::walk;
-use dv_model::{Bytes, Change, GuidRow, How, List, NoMemory, Pair, Row};
+use dv_model::{Bytes, Change, Extension, GuidRow, How, List, NoMemory, Pair, Row};
 use std::alloc::Global;
 use std::marker::Model;
 
@@ -344,26 +345,15 @@ impl Rows {
         );
     }
 
-    /// Gives each row one part more, of so many zero bytes. After `NoMemory` all is as before.
-    pub fn add_part(&mut self, size: u16) -> Result<(), NoMemory>
+    /// Gives each row a part for each extension: its own ones, filled up with zero bytes to the
+    /// extensions' sizes. After `NoMemory` all is as before.
+    pub fn fit_parts(&mut self, extensions: &[Extension]) -> Result<(), NoMemory>
         ensures ok { OnOk result (self.new.rows
-            ≡ map (with_row_parts (λ parts. parts ++ replicate size 0 ∷ [])) self.old.rows) }
+            ≡ map (with_row_parts (fitted (sizes_of extensions.now))) self.old.rows) }
         ensures room { self.new.room ≡ self.old.room }
         ensures err { OnErr result (self.new ≡ self.old) }
     {
-        add_part(self.alloc, &mut self.rows, size)?;
-        Ok(())
-    }
-
-    /// Fills the part at a place of each row, where it is shorter, up to this size with zero bytes.
-    /// After `NoMemory` all is as before.
-    pub fn grow_part(&mut self, place: u32, size: u16) -> Result<(), NoMemory>
-        ensures ok { OnOk result (self.new.rows
-            ≡ map (with_row_parts (with_item place (grown_to size))) self.old.rows) }
-        ensures room { self.new.room ≡ self.old.room }
-        ensures err { OnErr result (self.new ≡ self.old) }
-    {
-        grow_part(self.alloc, &mut self.rows, place, size)?;
+        fit_parts(self.alloc, &mut self.rows, extensions)?;
         Ok(())
     }
 

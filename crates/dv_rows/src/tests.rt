@@ -3,7 +3,7 @@ ghost use Rattle.std.specs.List.Sorted.{IsStrictlyIncreasing};
 ghost use Rattle.dv_rows.specs.Parted.{HasUid, is_parted};
 
 use super::*;
-use dv_model::{Bytes, Change, GuidRow, How, List, NoMemory, Pair, Row};
+use dv_model::{Bytes, Change, Extension, GuidRow, How, List, NoMemory, Pair, Row};
 use std::alloc::Global;
 use std::test::*;
 
@@ -218,6 +218,18 @@ fn keywords_change_in_ranges(rt: HostRuntime) -> Result<(), Fail> {
     Ok(())
 }
 
+// An extension with so many bytes of each row.
+fn extension(alloc: Global, record_size: u16) -> Result<Extension, Fail> {
+    Ok(Extension {
+        name: List::from_slice(alloc, b"abc")?,
+        reset_id: 0,
+        header: List::new(alloc),
+        record_size,
+        record_align: 1,
+        flags: 0,
+    })
+}
+
 // Whether the part at a place of each row, where it has one, has so many bytes.
 fn fit(rows: &[Row], place: u32, size: usize) -> bool
     ensures { IsTrue result →
@@ -239,10 +251,8 @@ fn set(rows: &mut Rows, uid: u32, place: u32, bytes: &[u8]) {
 #[test]
 fn parts_are_added_grown_set_and_cleared(rt: HostRuntime) -> Result<(), Fail> {
     let mut rows = five(rt.alloc())?;
-    assert_eq!(rt; rows.add_part(3), Ok(()));
-    assert_eq!(rt; rows.grow_part(0, 4), Ok(()));
-    assert_eq!(rt; rows.grow_part(1, 2), Ok(()));
-    assert_eq!(rt; rows.grow_part(2, 9), Ok(()));
+    let extensions = [extension(rt.alloc(), 4)?, extension(rt.alloc(), 3)?];
+    assert_eq!(rt; rows.fit_parts(&extensions), Ok(()));
     set(&mut rows, 9, 1, &[5, 6]);
     set(&mut rows, 3, 1, &[1, 1]);
     for k in 0..rows.count() {

@@ -1,4 +1,3 @@
-use Rattle.dv_portion.proofs.Tables.{record_table}
 use Rattle.dv_portion.proofs.Portioned.{records_portion, portion_valid}
 use Rattle.dv_portion.proofs.Staying.{rest_stays}
 use Rattle.dv_portion.proofs.law.records_act_on_portions.Goals as goal

@@ -1,13 +1,11 @@
-use Rattle.std.proofs.Common.{◌≡◌, ℕ, true, nat_eq, List, Some, refl, ap, sym, ◌∙◌, subst, arith, rules, slice_get, length, ◌<◌, get_or}
+use Rattle.std.proofs.Common.{◌≡◌, true, nat_eq, List, Some, ap, sym, ◌∙◌, subst, rules, slice_get, length, ◌<◌, get_or}
 use Rattle.std.proofs.lemmas.Bool.{eq-eqb}
 use Rattle.std.proofs.lemmas.Option.{slice_get-get_or}
 use Rattle.dv_model.specs.declared.types.Extension.{Extension}
-use Rattle.dv_model.specs.declared.types.Mailbox.{Mailbox}
-use Rattle.dv_model.specs.Mailboxes.{IsValid}
 use Rattle.dv_model.specs.Effects.{fit, grown_extension, introduced, with_intro, with_item}
 use Rattle.dv_ext.specs.declared.change.PartsChange.TheVariants.{Same}
 use Rattle.dv_ext.specs.Changes.{Does}
-use Rattle.dv_ext.specs.Tables.{Table, with_table}
+use Rattle.dv_ext.specs.Tables.{Table}
 use Rattle.dv_ext.proofs.Quieting.{quiet_does}
 use Rattle.dv_ext.proofs.extensions.Extensions.make_current.Goals as goal
 

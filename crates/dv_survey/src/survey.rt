@@ -1,0 +1,140 @@
+ghost use Rattle.std.specs.Prelude.{◌≡◌, ℕ, true, All, Contains, IfOk, OnOk, length};
+ghost use Rattle.std.specs.Int.{w32, from_le_bytes};
+ghost use Rattle.std.specs.List.{list_any};
+ghost use Rattle.dv_model.specs.declared.types.Body.TheVariants.{ExtRecordUpdate};
+ghost use Rattle.dv_model.specs.declared.types.Mailbox.{Mailbox};
+ghost use Rattle.dv_model.specs.Mailboxes.{IsValid};
+ghost use Rattle.dv_ext.specs.Tables.{Table};
+ghost use Rattle.dv_survey.specs.Surveys.{Adds, AreAllNamed, AreNamed, LeavesParts, MovesOn};
+ghost use Rattle.dv_portion.specs.Portions.{is_in_updates, table_of};
+ghost use Rattle.dv_rows.specs.Parted.{HasUid};
+ghost use Rattle.dv_validity.specs.Laws.{IsInRange};
+ghost use Rattle.std.specs.Prelude.{Some};
+
+use dv_ext::{Extensions, RowUpdates};
+use dv_model::{Body, Current, NoMemory, Pair, Record};
+use dv_rows::Rows;
+use std::alloc::Global;
+
+// Adds the UIDs of all rows.
+fn name_all(rows: &Rows, uids: &mut Vec<u32>) -> Result<(), NoMemory>
+    ensures named { OnOk result ((uid : ℕ) →
+        HasUid rows.now.rows uid → Contains uids.new.items uid) }
+    ensures adds { Adds rows.now.rows uids.old.items uids.new.items }
+{
+    if rows.count() == 0 {
+        return Ok(());
+    }
+    let all = [Pair {
+        first: 0,
+        last: u32::MAX,
+    }];
+    rows.name_uids(&all, uids)
+}
+
+// Adds the UIDs of the rows that an update of an extension's rows has.
+fn name_updates(rows: &Rows, updates: &RowUpdates, uids: &mut Vec<u32>) -> Result<(), NoMemory>
+    ensures named { OnOk result ((uid : ℕ) → HasUid rows.now.rows uid →
+        is_in_updates (Some updates.now) uid ≡ true → Contains uids.new.items uid) }
+    ensures adds { Adds rows.now.rows uids.old.items uids.new.items }
+{
+    for at in 0..updates.len() {
+        let (uid, _) = updates.get(at);
+        rows.name_uids(&[uid], uids)?;
+    }
+    Ok(())
+}
+
+// Adds those that a record update of the current extension has.
+fn name_updated(
+    rows: &Rows,
+    current: Option<Current>,
+    bytes: &[u8],
+    uids: &mut Vec<u32>,
+) -> Result<(), NoMemory>
+    ensures named { OnOk result ((t : Table) → t.current ≡ current →
+        AreNamed t (ExtRecordUpdate bytes.now) rows.now.rows uids.new.items) }
+    ensures adds { Adds rows.now.rows uids.old.items uids.new.items }
+{
+    let Some(current) = current else {
+        return Ok(());
+    };
+    let Some(updates) = RowUpdates::new(current.size, bytes) else {
+        return Ok(());
+    };
+    name_updates(rows, &updates, uids)
+}
+
+// Adds the UIDs of the rows that a record with this body may change, where this extension is
+// current before it, and it is known or not that introductions leave each row's parts.
+fn name_rows(
+    rows: &Rows,
+    current: Option<Current>,
+    stay: bool,
+    body: &Body,
+    uids: &mut Vec<u32>,
+) -> Result<(), NoMemory>
+    ensures named { OnOk result ((t : Table) → t.current ≡ current → LeavesParts stay t body.now →
+        AreNamed t body.now rows.now.rows uids.new.items) }
+    ensures adds { Adds rows.now.rows uids.old.items uids.new.items }
+{
+    match body {
+        Body::Expunge(pairs) => rows.name_uids(pairs.as_slice(), uids),
+        Body::ExpungeGuid(named) => rows.name_uids(named.as_slice(), uids),
+        Body::FlagUpdate(changes) => rows.name_uids(changes.as_slice(), uids),
+        Body::KeywordUpdate { pairs, .. } => rows.name_uids(pairs.as_slice(), uids),
+        Body::KeywordReset(pairs) => rows.name_uids(pairs.as_slice(), uids),
+        Body::ExtIntro(_) => {
+            if stay {
+                return Ok(());
+            }
+            name_all(rows, uids)
+        }
+        Body::ExtReset { preserve: 0, .. } => name_all(rows, uids),
+        Body::ExtRecordUpdate(bytes) => name_updated(rows, current, bytes.as_slice(), uids),
+        _ => Ok(()),
+    }
+}
+
+// Does to the extensions what a record with this body does. The answer is whether introductions
+// are known to leave each row's parts.
+fn move_on(extensions: &mut Extensions, body: &Body) -> Result<bool, NoMemory>
+    ensures moves { OnOk result (MovesOn extensions.old body.now extensions.new) }
+    ensures parts { IfOk result (λ stay. LeavesParts stay extensions.old body.now) }
+{
+    match body {
+        Body::ExtIntro(intros) => extensions.intro_all(intros.as_slice()),
+        Body::ExtReset { reset_id, preserve } => {
+            extensions.reset(*reset_id, *preserve);
+            Ok(true)
+        }
+        Body::ExtHeaderUpdate(parts) => {
+            extensions.header(parts);
+            Ok(true)
+        }
+        _ => Ok(true),
+    }
+}
+
+/// The UIDs of the rows that the records may change, in any order, where these are the extensions
+/// before them.
+pub fn named_rows(
+    alloc: Global,
+    rows: &Rows,
+    extensions: Extensions,
+    records: &[Record],
+) -> Result<Vec<u32>, NoMemory>
+    ensures named { IfOk result (λ uids. (m : Mailbox) → IsValid m →
+        All (λ r. IsInRange r.body) records.now → table_of m ≡ extensions →
+        AreAllNamed (length records.now) m records.now rows.now.rows uids.items) }
+    ensures only { IfOk result (λ uids. All (HasUid rows.now.rows) uids.items) }
+{
+    let mut extensions = extensions;
+    let mut uids = Vec::new(alloc);
+    for record in records {
+        let current = extensions.current();
+        let stay = move_on(&mut extensions, &record.body)?;
+        name_rows(rows, current, stay, &record.body, &mut uids)?;
+    }
+    Ok(uids)
+}
