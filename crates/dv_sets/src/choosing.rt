@@ -52,8 +52,9 @@ fn missing_of(span: Span, count: u32) -> Option<u32>
     None
 }
 
-// The first such end of these ranges.
-fn missing_end(set: &[Span], count: u32) -> Option<u32>
+/// The first end of the ranges that is no message number among so many: 0, or above their number,
+/// which is also what `*` is (RFC 3501, section 9, `seq-number`). Takes no memory.
+pub fn missing_end(set: &[Span], count: u32) -> Option<u32>
     ensures { (view : View) → length view.rows ≡ count → result ≡ missing_end set.now view }
 {
     for span in set {

@@ -14,6 +14,7 @@ mod telling;
 mod view;
 
 pub use client::Client;
+pub use copies::shown;
 pub use laws::{bare_client_has_view, changes_follow};
 pub use view::View;
 
