@@ -1,0 +1,12 @@
+//! The session rules over a live mailbox: what a command is refused, what it is answered, and what
+//! the session knows then (RFC 3501, sections 6 and 7).
+#![tactic(auto)]
+
+mod fresh;
+mod laws;
+mod refusing;
+mod sends;
+mod session;
+
+pub use laws::{refusal_goes_on, sessions_keep_up};
+pub use session::Session;
