@@ -7,7 +7,6 @@ use Rattle.dv_model.specs.declared.types.Key.{Key, out-Key, roll-Key, roll-out-K
 use Rattle.dv_model.specs.declared.types.Key.TheOpen.{Key-F}
 use Rattle.dv_model.specs.declared.types.Key.TheVariants as key
 use Rattle.dv_formats.specs.Scripts.{AreKeys, AreSought, IsKey, IsWord, key_levels}
-use Rattle.dv_view.proofs.Passing.{and_true}
 use Rattle.dv_search.specs.Nesting.{level_step, levels_of, most_levels}
 
 max_least : (a b c : ℕ) → a ≤ c → b ≤ c → max a b ≤ c
@@ -88,7 +87,7 @@ and_grouped true b c = refl
 and_grouped false b c = refl
 
 deepest_within : (levels n : ℕ) (keys : List Key) → nat_le (fold max n (map levels_of keys)) levels ≡ (nat_le n levels && list_all (λ key. nat_le (levels_of key) levels) keys)
-deepest_within levels n [] = sym (and_true (nat_le n levels))
+deepest_within levels n [] = same_tests (nat_le n levels) (nat_le n levels && true) (λ e. and_from (nat_le n levels) true e refl) (λ e. (and_parts (nat_le n levels) true e).0)
 deepest_within levels n (key ∷ keys) =
     deepest_within levels (max n (levels_of key)) keys ∙ ap (λ b. b && list_all (λ key. nat_le (levels_of key) levels) keys) (max_within levels n (levels_of key)) ∙ and_grouped (nat_le n levels) (nat_le (levels_of key) levels) (list_all (λ key. nat_le (levels_of key) levels) keys)
 

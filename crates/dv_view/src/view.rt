@@ -1,6 +1,8 @@
 ghost use Rattle.std.specs.Prelude.{◌≡◌, ◌≤◌, ℕ, List as Listed, length, nat_eq, position, IfOk, OnErr, OnOk};
 ghost use Rattle.dv_model.specs.Fresh.{AreFresh};
+ghost use Rattle.dv_model.specs.Mailboxes.{IsValid};
 ghost use Rattle.dv_model.specs.Views.{empty_view, moved, said};
+ghost use Rattle.dv_model.specs.declared.types.Step.TheVariants.{Full};
 ghost use Rattle.dv_model.specs.declared.types.Mailbox.{Mailbox};
 ghost use Rattle.dv_view.specs.Following.{IsPatched, rows_after};
 ghost use Rattle.dv_view.specs.Orders.{IsOrdered};
@@ -46,6 +48,21 @@ impl View {
             rows: List::new(alloc),
             next_uid: 1,
         }
+    }
+
+    /// What a session is shown of a whole mailbox. `NoMemory` is the only error. The time is in
+    /// proportion to the rows.
+    pub fn of(alloc: Global, live: &Live) -> Result<View, NoMemory>
+        ensures made { IfOk result (λ made. made ≡ moved Full empty_view live.now.mailbox) }
+        ensures valid { IsValid live.now.mailbox }
+    {
+        let next_uid = live.next_uid();
+        let rows = moved_rows(alloc, live, &[], 1, Step::Full)?;
+        Ok(View {
+            alloc,
+            rows,
+            next_uid,
+        })
     }
 
     /// The rows: the k-th has message number k, counted from 1.

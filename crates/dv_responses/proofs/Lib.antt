@@ -1,0 +1,6 @@
+mod Endings
+mod Having
+mod Items
+mod Naming
+mod Rows
+mod Searched

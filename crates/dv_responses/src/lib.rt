@@ -1,0 +1,24 @@
+//! The responses to a command of a session (RFC 3501, section 7): the data that it asked, and how
+//! it ended.
+#![tactic(auto)]
+
+mod asking;
+mod data;
+mod ending;
+mod facts;
+mod fetching;
+mod kinds;
+mod looking;
+mod meeting;
+mod rows;
+mod searching;
+mod selecting;
+
+pub use asking::{Asked, asked};
+pub use data::data_lines;
+pub use ending::ending;
+pub use facts::facts_from;
+pub use kinds::{is_append, is_select, is_write, reads_mail, step_of, word_of};
+pub use looking::uids_looked_at;
+pub use meeting::{Met, meet};
+pub use selecting::select_lines;
