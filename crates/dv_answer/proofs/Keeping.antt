@@ -1,31 +1,30 @@
 -- A session keeps up with a mailbox: behind SELECT, records and moves.
-use Rattle.std.proofs.Common.{◌≡◌, ◌≢◌, ◌⊎◌, inl, inr, ℕ, ◌+◌, ◌^◌, ◌<◌, ◌≤◌, Bool, true, false, cond, not, ◌&&◌, ◌||◌, List, [], ◌∷◌, Some, None, Option, refl, sym, ◌∙◌, ap, subst, arith}
-use Rattle.std.specs.Prelude.{◌↔◌, All, Contains, IfSome, IsSome, filter, is_some, map, nat_eq, option_map}
-use Rattle.std.specs.List.{list_any}
+use Rattle.std.proofs.Common.{◌≡◌, ◌⊎◌, inl, inr, ℕ, ◌<◌, ◌≤◌, Bool, true, false, cond, not, ◌&&◌, ◌||◌, List, [], ◌∷◌, length, Some, None, Option, refl, sym, ◌∙◌, ap, subst, arith}
+use Rattle.std.specs.Prelude.{All, Contains, IsSome, filter, is_some, map, nat_eq, option_map}
 use Rattle.std.specs.List.Sorted.{IsStrictlyIncreasing}
 use Rattle.std.proofs.lemmas.Bool.{cases_lt}
 use Rattle.std.proofs.lemmas.List.Elements.{All-contains, All-filter, All-nil, All-weaker}
 use Rattle.std.proofs.lemmas.List.Kept.{IsStrictlyIncreasing-filter}
+use Rattle.dv_model.specs.declared.types.Fresh.{Fresh}
 use Rattle.dv_model.specs.declared.types.Mailbox.{Mailbox}
-use Rattle.dv_model.specs.declared.types.Record.{Record}
 use Rattle.dv_model.specs.declared.types.Row.{Row}
 use Rattle.dv_model.specs.declared.types.Shown.{Shown}
 use Rattle.dv_model.specs.declared.types.Step.{Step}
 use Rattle.dv_model.specs.declared.types.Step.TheVariants.{Held, Full}
-use Rattle.dv_model.specs.Effects.{applied}
-use Rattle.dv_model.specs.Fresh.{IsTouched, shown_of}
+use Rattle.dv_model.specs.Fresh.{AreFresh, IsTouched, shown_of}
 use Rattle.dv_model.specs.Mailboxes.{IsRowOf, IsValid}
 use Rattle.dv_model.specs.Views.{View, empty_view, moved, row_of, shown, shows_uid}
 use Rattle.dv_model.proofs.Clients.{false_is_not_true}
 use Rattle.dv_validity.proofs.Numbers.{none_returns_in_turn, records_never_fall}
+use Rattle.dv_view.specs.Following.{IsPatched}
 use Rattle.dv_view.specs.Orders.{IsOrdered}
 use Rattle.dv_view.proofs.Finding.{any_is_found}
 use Rattle.dv_view.proofs.Followed.{find_shown}
 use Rattle.dv_view.proofs.Moving.{ordered_after}
 use Rattle.dv_view.proofs.Patching.{at_uid, same_is}
-use Rattle.dv_answer.specs.Following.{Leads, Tracks, untold}
+use Rattle.dv_answer.specs.Following.{Tracks, fresh_of, is_untold, untold}
 use Rattle.dv_answer.specs.Laws.{FullTellsAll, MoveTracks, RecordsLead, SelectTracks, StayLeads, TouchTracks}
-use Rattle.dv_answer.proofs.Tracking.{all_by_contains, each_row, is_in, is_in_same, moved_none, moved_some, not_in, row_found, row_passes, rows_by_uid, same_by, same_is_in, untouched_same}
+use Rattle.dv_answer.proofs.Tracking.{all_by_contains, each_row, is_in, is_in_same, moved_none, moved_some, not_in, row_found, row_passes, rows_by_uid, same_by, same_is_in, tracked_fresh, tracked_patched, untouched_same}
 
 -- ---- a row that the view shows
 
@@ -142,8 +141,8 @@ records_lead first old new rs before all valid now_valid leads is both =
     by_in u differs true e = same_is_in u all e
     by_in u differs false e =
         absurd (differs (
-          same_by (shown_of first u) (shown_of old u) (λ other. false_is_not_true (sym e ∙ is_in_same u all ((both u).1 (inl (leads.all u other)))))
-          ∙ same_by (shown_of old u) (shown_of new u) (λ other. false_is_not_true (sym e ∙ is_in_same u all ((both u).1 (inr other))))))
+        same_by (shown_of first u) (shown_of old u) (λ other. false_is_not_true (sym e ∙ is_in_same u all ((both u).1 (inl (leads.all u other)))))
+        ∙ same_by (shown_of old u) (shown_of new u) (λ other. false_is_not_true (sym e ∙ is_in_same u all ((both u).1 (inr other))))))
 
     by_rows : (u : ℕ) → IsTouched old new u → (o p : Option Row) → row_of old u ≡ o → row_of new u ≡ p → (1 ≤ u) × (u < new.next_uid)
     by_rows u differs o (Some row) e f =
@@ -191,9 +190,6 @@ moved_next : (step : Step) (m : Mailbox) (view : View) → (moved step view m).n
 moved_next Held m view = omega arith
 moved_next Full m view = omega arith
 
-abbrev gone : Mailbox → View → ℕ → Bool
-gone m behind u = shows_uid behind u && not (is_some (row_of m u))
-
 and_true : (b : Bool) → b ≡ (b && true)
 and_true true = refl
 and_true false = refl
@@ -205,11 +201,11 @@ module _ (step : Step) (m : Mailbox) (view : View) (touched : List ℕ) (valid :
   by_touched : (u : ℕ) → is_in u (untold m behind touched) ≡ false → row_of m u ≡ None → (b : Bool) → is_in u touched ≡ b → at_uid u behind.rows ≡ None
   by_touched u out none false t = moved_none m view touched tracks valid step u t (ap (option_map shown) none)
   by_touched u out none true t = none_shown behind u (
-    and_true (shows_uid behind u)
-    ∙ ap (λ (o : Option Row). shows_uid behind u && not (is_some o)) (sym none)
-    ∙ ap (λ b. b && gone m behind u) (sym t)
-    ∙ sym (in_filter (gone m behind) u touched)
-    ∙ out)
+      and_true (shows_uid behind u)
+      ∙ ap (λ (o : Option Row). shows_uid behind u && not (is_some o)) (sym none)
+      ∙ ap (λ b. b && is_untold m behind u) (sym t)
+      ∙ sym (in_filter (is_untold m behind) u touched)
+      ∙ out)
 
   by_row : (u : ℕ) → is_in u (untold m behind touched) ≡ false → (o : Option Row) → row_of m u ≡ o → at_uid u behind.rows ≡ shown_of m u
   by_row u out (Some row) e =
@@ -219,11 +215,11 @@ module _ (step : Step) (m : Mailbox) (view : View) (touched : List ℕ) (valid :
   moved_tracks : Tracks m behind (untold m behind touched)
   moved_tracks =
       let ordered = moved_ordered step m view tracks.ordered valid tracks.next_uid in
-      let rising = IsStrictlyIncreasing-filter (gone m behind) touched tracks.rising in
+      let rising = IsStrictlyIncreasing-filter (is_untold m behind) touched tracks.rising in
       record {
         ordered = ordered;
         rising = rising;
-        given = All-filter (gone m behind) (λ (u : ℕ). (1 ≤ u) × (u < m.next_uid)) touched tracks.given;
+        given = All-filter (is_untold m behind) (λ (u : ℕ). (1 ≤ u) × (u < m.next_uid)) touched tracks.given;
         next_uid = moved_next step m view;
         known = shown_known behind m (moved_some m view touched tracks valid step);
         rows = rows_by_uid m behind (untold m behind touched) ordered rising valid (λ u out. by_row u out (row_of m u) refl);
@@ -237,10 +233,28 @@ all_fail q fails [] = refl
 all_fail q fails (u ∷ uids) = ap (λ b. cond b (u ∷ filter q uids) (filter q uids)) (fails u) ∙ all_fail q fails uids
 
 pub full_tells_all : FullTellsAll
-full_tells_all m view touched = all_fail (gone m (moved Full view m)) (λ u. by_row u (row_of m u) refl) touched
+full_tells_all m view touched = all_fail (is_untold m (moved Full view m)) (λ u. by_row u (row_of m u) refl) touched
   where
     by_row : (u : ℕ) (o : Option Row) → row_of m u ≡ o → (shows_uid (moved Full view m) u && not (is_some (row_of m u))) ≡ false
     by_row u (Some row) e = ap (λ o. shows_uid (moved Full view m) u && not (is_some o)) e ∙ and_false (shows_uid (moved Full view m) u)
     by_row u None e =
         let none : shows_uid (moved Full view m) u ≡ false = any_is_found (λ (t : Shown). nat_eq t.uid u) (map shown m.rows) ∙ ap is_some (sym (find_shown u m.rows) ∙ ap (option_map shown) e) in
         ap (λ b. b && not (is_some (row_of m u))) none
+
+-- ---- what a view follows, where it is at hand under other names
+
+module _ (m : Mailbox) (view : View) (touched uids : List ℕ) (n : ℕ) (names : List (List ℕ)) (fresh : List Fresh) (changes : fresh ≡ fresh_of m uids) (same : uids ≡ touched) (number : n ≡ m.next_uid) (table : names ≡ m.keywords) where
+  given_here : fresh ≡ fresh_of m touched
+  given_here = changes ∙ ap (fresh_of m) same
+
+  pub fresh_here : IsValid m → Tracks m view touched → AreFresh view n (length names) fresh
+  fresh_here valid tracks =
+      subst (λ k. AreFresh view k (length names) fresh) (sym number)
+      (subst (λ (ns : List (List ℕ)). AreFresh view m.next_uid (length ns) fresh) (sym table)
+      (subst (λ fs. AreFresh view m.next_uid (length m.keywords) fs) (sym given_here) (tracked_fresh m view touched tracks valid)))
+
+  pub patched_here : IsValid m → Tracks m view touched → IsPatched view n names fresh m
+  patched_here valid tracks =
+      subst (λ k. IsPatched view k names fresh m) (sym number)
+      (subst (λ (ns : List (List ℕ)). IsPatched view m.next_uid ns fresh m) (sym table)
+      (subst (λ fs. IsPatched view m.next_uid m.keywords fs m) (sym given_here) (tracked_patched m view touched tracks valid)))

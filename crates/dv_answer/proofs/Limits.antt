@@ -1,9 +1,6 @@
 -- A refusal is the session's own, or else a limit.
 use Rattle.std.proofs.Common.{◌≡◌, ℕ, Bool, true, false, cond, not, ◌&&◌, Some, None, Option, refl}
-use Rattle.dv_model.specs.declared.types.Command.{Command}
-use Rattle.dv_model.specs.declared.types.Mailbox.{Mailbox}
-use Rattle.dv_model.specs.declared.types.Mark.{Mark}
-use Rattle.dv_model.specs.Sessions.{State, group_of, is_select, is_write, limit_of, missing_number, refusal_of}
+use Rattle.dv_model.specs.Sessions.{group_of, is_select, is_write, limit_of, missing_number, refusal_of}
 use Rattle.std.specs.Option.{option_or}
 use Rattle.dv_answer.specs.Refusing.{own_refusal}
 use Rattle.dv_answer.specs.Laws.{RefusalGoesOn}

@@ -1,11 +1,10 @@
 -- A session keeps up with a mailbox: by the row of each UID.
-use Rattle.std.proofs.Common.{◌≡◌, ◌≢◌, ◌⊎◌, inl, inr, ℕ, ◌+◌, ◌^◌, ◌<◌, ◌≤◌, Bool, true, false, cond, not, ◌&&◌, ◌||◌, List, [], ◌∷◌, length, get_or, zero, suc, Some, None, Option, refl, sym, ◌∙◌, ap, subst, arith}
-use Rattle.std.specs.Prelude.{◌↔◌, All, Contains, IfSome, IsSome, bytes_eq, filter, find, is_some, map, nat_eq, option_map}
+use Rattle.std.proofs.Common.{◌≡◌, ◌≢◌, ◌⊎◌, inl, inr, ℕ, ◌<◌, ◌≤◌, Bool, true, false, cond, ◌&&◌, ◌||◌, List, [], ◌∷◌, length, get_or, suc, Some, None, Option, refl, sym, ◌∙◌, ap, subst, arith}
+use Rattle.std.specs.Prelude.{All, Contains, IfSome, IsSome, bytes_eq, is_some, map, nat_eq, option_map}
 use Rattle.std.specs.List.{AllByRecursion, list_any}
 use Rattle.std.specs.Option.{option_or}
 use Rattle.std.specs.List.Sorted.{IsStrictlyIncreasing}
 use Rattle.std.proofs.lemmas.Bool.{and_parts}
-use Rattle.std.proofs.lemmas.Bool.Decides.{nat_tests}
 use Rattle.std.proofs.lemmas.List.Elements.{All-contains_itself, All-weaker}
 use Rattle.std.proofs.lemmas.List.Folds.{list_any_at}
 use Rattle.std.proofs.lemmas.Slice.Eq.{bytes_eq-Decides}
@@ -15,18 +14,18 @@ use Rattle.dv_model.specs.declared.types.Row.{Row}
 use Rattle.dv_model.specs.declared.types.Shown.{Shown}
 use Rattle.dv_model.specs.declared.types.Step.{Step}
 use Rattle.dv_model.specs.declared.types.Step.TheVariants.{Held, Full}
-use Rattle.dv_model.specs.Fresh.{AreFresh, IsFreshRow, IsTouched, patched, shown_of}
+use Rattle.dv_model.specs.Fresh.{AreFresh, IsFreshRow, patched, shown_of}
 use Rattle.dv_model.specs.Mailboxes.{IsRowOf, IsValid}
-use Rattle.dv_model.specs.Views.{View, empty_view, moved, row_of, shown, shows_uid}
+use Rattle.dv_model.specs.Views.{View, moved, row_of, shown, shows_uid}
 use Rattle.dv_model.proofs.Clients.{all_shown_rise, each_of_all, false_is_not_true}
-use Rattle.dv_view.specs.Following.{AreGiven, IsPatched, rows_after, told_of}
+use Rattle.dv_view.specs.Following.{AreGiven, IsPatched, told_of}
 use Rattle.dv_view.specs.Orders.{IsOrdered}
 use Rattle.dv_view.proofs.Finding.{any_is_found}
 use Rattle.dv_view.proofs.Followed.{find_each, find_shown, kept, moved_is_after, rise_of_ordered, some_at}
-use Rattle.dv_view.proofs.Moving.{all_of_each, ordered_after}
+use Rattle.dv_view.proofs.Moving.{all_of_each}
 use Rattle.dv_view.proofs.Patching.{Rises, at_uid, change_of, is_same, now, patched_above, patched_at, same_is, same_rows}
 use Rattle.dv_view.proofs.Placing.{rises_of, rises_told}
-use Rattle.dv_answer.specs.Following.{Leads, Tracks, fresh_of, untold}
+use Rattle.dv_answer.specs.Following.{Tracks, fresh_of}
 
 -- ---- UIDs of a list
 

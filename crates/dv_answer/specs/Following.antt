@@ -1,5 +1,5 @@
 -- A session that follows a mailbox by the UIDs that are touched.
-use Rattle.std.specs.Prelude.{◌≡◌, ◌↔◌, ◌⊎◌, ℕ, ◌≤◌, ◌<◌, true, ◌&&◌, not, List, [], map, filter, All, Contains, IsSome, is_some}
+use Rattle.std.specs.Prelude.{◌≡◌, ◌⊎◌, ℕ, ◌≤◌, ◌<◌, Bool, true, ◌&&◌, not, List, [], map, filter, All, Contains, IsSome, is_some}
 use Rattle.std.specs.List.Sorted.{IsStrictlyIncreasing}
 use Rattle.dv_model.specs.declared.types.Fresh.{Fresh}
 use Rattle.dv_model.specs.declared.types.Mailbox.{Mailbox}
@@ -36,9 +36,13 @@ pub record Tracks (m : Mailbox) (view : View) (touched : List ℕ) : Type 0 wher
 abbrev pub IsAbreast : Mailbox → Follower → Type 0
 IsAbreast m f = f.state.selected ≡ true → Tracks m f.state.view f.touched
 
--- the touched UIDs that the view shows and the mailbox lacks: their rows have left, and that wasn't told
+-- a row that the view shows has left the mailbox, and that wasn't told
+abbrev pub is_untold : Mailbox → View → ℕ → Bool
+is_untold m view uid = shows_uid view uid && not (is_some (row_of m uid))
+
+-- those of the touched UIDs
 abbrev pub untold : Mailbox → View → List ℕ → List ℕ
-untold m view touched = filter (λ uid. shows_uid view uid && not (is_some (row_of m uid))) touched
+untold m view touched = filter (is_untold m view) touched
 
 -- One mailbox became the other, and each UID whose row is then shown in another way is among these, which were given out.
 pub record Leads (old new : Mailbox) (touched : List ℕ) : Type 0 where

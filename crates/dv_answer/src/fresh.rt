@@ -1,6 +1,6 @@
 ghost use Rattle.std.specs.Prelude.{◌≡◌, IfOk};
 ghost use Rattle.dv_model.specs.Fresh.{shown_of};
-ghost use Rattle.dv_answer.specs.Following.{fresh_of, untold};
+ghost use Rattle.dv_answer.specs.Following.{fresh_of, is_untold, untold};
 
 use dv_apply::Live;
 use dv_model::{Fresh, List, NoMemory, Shown};
@@ -31,9 +31,16 @@ pub fn fresh_of(alloc: Global, live: &Live, uids: &[u32]) -> Result<List<Fresh>,
     Ok(fresh)
 }
 
+// Whether the view shows the row of a UID that the mailbox lacks.
+fn is_untold(view: &View, live: &Live, uid: u32) -> bool
+    ensures { result ≡ is_untold live.now.mailbox view.now uid }
+{
+    view.position(uid).is_some() && live.position(uid).is_none()
+}
+
 /// Leaves of the UIDs those that the view shows and the mailbox lacks.
 pub fn retain_untold(uids: &mut Vec<u32>, view: &View, live: &Live)
     ensures { uids.new.items ≡ untold live.now.mailbox view.now uids.old.items }
 {
-    uids.retain(|uid| view.position(*uid).is_some() && live.position(*uid).is_none());
+    uids.retain(|uid| is_untold(view, live, *uid));
 }

@@ -4,6 +4,7 @@
 
 mod fresh;
 mod laws;
+mod lines;
 mod refusing;
 mod sends;
 mod session;

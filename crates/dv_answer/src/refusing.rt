@@ -22,10 +22,14 @@ pub fn missing_number(c: &Command, view: &View) -> Option<u32>
     let count = view.rows().len() as u32;
     match c {
         Command::Fetch {
-            by_uid: false, set, ..
+            by_uid: false,
+            set,
+            ..
         } => missing_end(set.as_slice(), count),
         Command::Store {
-            by_uid: false, set, ..
+            by_uid: false,
+            set,
+            ..
         } => missing_end(set.as_slice(), count),
         _ => None,
     }

@@ -1,10 +1,11 @@
-ghost use Rattle.std.specs.Prelude.{◌≡◌, ◌↔◌, ◌⊎◌, ℕ, Contains, IfOk, Ok, OnErr, OnOk, false, true};
+ghost use Rattle.std.specs.Prelude.{◌≡◌, ◌↔◌, ◌⊎◌, ◌∷◌, ◌++◌, [], ℕ, Contains, IfOk, Ok, OnErr, OnOk, false, true};
 ghost use Rattle.dv_model.specs.declared.types.Mailbox.{Mailbox};
 ghost use Rattle.dv_model.specs.Views.{moved, said};
 ghost use Rattle.dv_answer.specs.Following.{IsAbreast, Leads, Tracks, new_follower, untold};
 ghost use Rattle.dv_answer.specs.Refusing.{own_refusal};
 
 use crate::fresh::{fresh_of, retain_untold};
+use crate::lines::joined;
 use crate::refusing::{is_select, missing_number};
 use dv_apply::Live;
 use dv_model::{Command, List, NoMemory, Reply, Step};
@@ -107,18 +108,26 @@ impl Session {
         }
     }
 
-    /// Moves the view on to the mailbox, behind so many entries of the log, and gives what is told
-    /// of that. After `NoMemory`, which is the only error, the session is as before. The time is
-    /// that of the touched UIDs; only where rows leave are all gone through.
-    pub fn move_on(&mut self, live: &Live, step: Step, told: u64) -> Result<List<Reply>, NoMemory>
+    /// Moves the view on to the mailbox, behind so many entries of the log, and gives these lines,
+    /// then what is told of the move, and then this last line. After `NoMemory`, which is the only
+    /// error, the session is as before. The time is that of the touched UIDs and of the lines; only
+    /// where rows leave are all gone through.
+    pub fn move_on(
+        &mut self,
+        live: &Live,
+        step: Step,
+        told: u64,
+        before: List<Reply>,
+        last: Reply,
+    ) -> Result<List<Reply>, NoMemory>
         requires { Tracks live.now.mailbox self.old.state.view self.old.touched }
         ensures state { OnOk result (self.new.state ≡ record {
           selected = true;
           view = moved step self.old.state.view live.now.mailbox;
           told = told;
         }) }
-        ensures said { IfOk result (λ replies. replies ≡ said live.now.mailbox
-            self.old.state.view (moved step self.old.state.view live.now.mailbox)) }
+        ensures said { IfOk result (λ replies. replies ≡ before ++ said live.now.mailbox
+            self.old.state.view (moved step self.old.state.view live.now.mailbox) ++ last ∷ []) }
         // Rows that have left and aren't told stay touched, and no others.
         ensures touched { OnOk result (self.new.touched
             ≡ untold live.now.mailbox self.new.state.view self.old.touched) }
@@ -126,8 +135,10 @@ impl Session {
         ensures err { OnErr result (self.new ≡ self.old) }
     {
         let fresh = fresh_of(self.alloc, live, self.touched.uids())?;
-        let replies = self.view.said_by(live.next_uid(), &fresh, live.names(), step)?;
-        self.view.follow(live.next_uid(), &fresh, step)?;
+        let next_uid = live.next_uid();
+        let said = self.view.said_by(next_uid, &fresh, live.names(), step)?;
+        let replies = joined(before, said, last)?;
+        self.view.follow(next_uid, &fresh, step)?;
         let mut uids = mem::replace(&mut self.touched, Touched::empty(self.alloc)).into_uids();
         retain_untold(&mut uids, &self.view, live);
         self.touched = Touched::of(uids);

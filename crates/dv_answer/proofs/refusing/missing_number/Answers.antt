@@ -1,4 +1,4 @@
-use Rattle.std.proofs.Common.{◌≡◌, ◌<◌, ◌^◌, ◌∙◌, length, ap, subst, sym}
+use Rattle.std.proofs.Common.{◌≡◌, ◌∙◌, length, ap, rules}
 use Rattle.dv_view.proofs.Followed.{after_few, rise_of_ordered}
 use Rattle.dv_answer.proofs.refusing.missing_number.Goals as goal
 
@@ -6,4 +6,5 @@ pub overflow_cast-count : goal.overflow_cast-count
 overflow_cast-count c =
     let view = c.args.view.now in
     let few = after_few view.next_uid view.rows (rise_of_ordered view c.rows.ensures.ordered) c.rows.ensures.ordered.next_uid in
-    subst (λ n. n < 2 ^ 32) (sym (c.len-count.ensures ∙ ap length c.rows.ensures.is)) few
+    let count : c.len-count.result ≡ length view.rows = c.len-count.ensures ∙ ap length c.rows.ensures.is in
+    search (rules, few, count)
