@@ -2,10 +2,10 @@
 //! the session knows then (RFC 3501, sections 6 and 7).
 #![tactic(auto)]
 
+mod commands;
 mod fresh;
 mod laws;
 mod lines;
-mod refusing;
 mod sends;
 mod session;
 

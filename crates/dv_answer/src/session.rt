@@ -1,14 +1,23 @@
-ghost use Rattle.std.specs.Prelude.{◌≡◌, ◌↔◌, ◌⊎◌, ◌∷◌, ◌++◌, [], ℕ, Contains, IfOk, Ok, OnErr, OnOk, false, true};
+ghost use Rattle.std.specs.Prelude.{◌≡◌, ◌↔◌, ◌⊎◌, ◌∷◌, ◌++◌, [], ℕ, Contains, IfOk, None, Ok, OnErr, OnOk, false, true};
 ghost use Rattle.dv_model.specs.declared.types.Mailbox.{Mailbox};
-ghost use Rattle.dv_model.specs.Views.{moved, said};
+ghost use Rattle.dv_model.specs.declared.types.Command.TheVariants as command;
+ghost use Rattle.dv_model.specs.declared.types.Step.TheVariants.{Full};
+ghost use Rattle.dv_model.specs.Journals.{Mail as Message};
+ghost use Rattle.dv_model.specs.Sessions.{answer, told_of};
+ghost use Rattle.dv_model.specs.Views.{empty_view, moved, said};
+ghost use Rattle.dv_responses.specs.Depth.{IsShallow};
+ghost use Rattle.dv_responses.specs.Met.{met_of};
+ghost use Rattle.dv_responses.specs.Supplied.{AreSupplied};
 ghost use Rattle.dv_answer.specs.Following.{IsAbreast, Leads, Tracks, new_follower, untold};
 ghost use Rattle.dv_answer.specs.Refusing.{own_refusal};
 
 use crate::fresh::{fresh_of, retain_untold};
 use crate::lines::joined;
-use crate::refusing::{is_select, missing_number};
+use crate::commands::{is_select, missing_number, step_of};
 use dv_apply::Live;
-use dv_model::{Command, List, NoMemory, Reply, Step};
+use dv_model::{Command, List, Mark, NoMemory, Reply, Step};
+use dv_responses::{Met, data_lines, ending, select_lines, uids_looked_at};
+use dv_search::Mail;
 use dv_touched::Touched;
 use dv_view::View;
 use std::alloc::Global;
@@ -108,6 +117,31 @@ impl Session {
         }
     }
 
+    /// Shows the whole mailbox anew, behind so many entries of the log, and gives the lines of that
+    /// (RFC 3501, section 6.3.1) and then this last one. After `NoMemory`, which is the only error,
+    /// the session is as before. The time is in proportion to the rows.
+    pub fn select(&mut self, live: &Live, told: u64, last: Reply) -> Result<List<Reply>, NoMemory>
+        ensures state { OnOk result (self.new.state ≡ record {
+          selected = true;
+          view = moved Full empty_view live.now.mailbox;
+          told = told;
+        }) }
+        ensures said { IfOk result (λ replies. replies ≡ told_of command.Select live.now.mailbox
+            empty_view (moved Full empty_view live.now.mailbox) ++ last ∷ []) }
+        ensures touched { OnOk result (self.new.touched ≡ []) }
+        ensures abreast { OnOk result (IsAbreast live.now.mailbox self.new) }
+        ensures err { OnErr result (self.new ≡ self.old) }
+    {
+        let view = View::of(self.alloc, live)?;
+        let lines = select_lines(self.alloc, live, &view)?;
+        let replies = joined(List::new(self.alloc), lines, last)?;
+        self.touched.clear();
+        self.view = view;
+        self.selected = true;
+        self.told = told;
+        Ok(replies)
+    }
+
     /// Moves the view on to the mailbox, behind so many entries of the log, and gives these lines,
     /// then what is told of the move, and then this last line. After `NoMemory`, which is the only
     /// error, the session is as before. The time is that of the touched UIDs and of the lines; only
@@ -145,5 +179,43 @@ impl Session {
         self.selected = true;
         self.told = told;
         Ok(replies)
+    }
+
+    /// Answers a command that isn't refused, behind so many entries of the log and at this place of
+    /// it: the data lines, what is told of the move to the mailbox, and the last line (RFC 3501,
+    /// sections 6 and 7). The facts are those of the messages that the command reads. After
+    /// `NoMemory`, which is the only error, the session is as before. The time is that of the
+    /// touched UIDs, of the rows that a set names, and of the lines; SELECT and SEARCH go through
+    /// all rows, and so does a move behind which rows have left.
+    pub fn answer(
+        &mut self,
+        c: &Command,
+        live: &Live,
+        facts: &Mail,
+        met: Met,
+        mark: Mark,
+        told: u64,
+    ) -> Result<List<Reply>, NoMemory>
+        requires shallow { IsShallow c.now }
+        requires allowed { own_refusal self.old.state c.now ≡ None }
+        requires abreast { IsAbreast live.now.mailbox self.old }
+        // So it is for any mailbox in which the command met this, and for all messages that have
+        // these facts, where those without facts aren't there.
+        ensures answer { (mail : ℕ → Message) (met_mailbox : Mailbox)
+            → met ≡ met_of c.now self.old.state.view met_mailbox
+            → AreSupplied mail c.now self.old.state.view live.now.mailbox facts.now
+            → IfOk result (λ replies. record { replies = replies; next = self.new.state }
+            ≡ answer mail self.old.state c.now met_mailbox told live.now.mailbox mark) }
+        ensures abreast { OnOk result (IsAbreast live.now.mailbox self.new) }
+        ensures err { OnErr result (self.new ≡ self.old) }
+    {
+        let data = data_lines(self.alloc, c, &self.view, live, facts)?;
+        let looked_at = uids_looked_at(self.alloc, c, &self.view)?;
+        let last = ending(c, &looked_at, facts, live, met, mark);
+        if is_select(c) {
+            self.select(live, told, last)
+        } else {
+            self.move_on(live, step_of(c), told, data, last)
+        }
     }
 }

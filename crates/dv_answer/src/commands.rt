@@ -1,7 +1,7 @@
 ghost use Rattle.std.specs.Prelude.{◌≡◌};
-ghost use Rattle.dv_model.specs.Sessions.{is_select, missing_number};
+ghost use Rattle.dv_model.specs.Sessions.{is_select, missing_number, step_of};
 
-use dv_model::Command;
+use dv_model::{Command, Step};
 use dv_sets::missing_end;
 use dv_view::View;
 
@@ -12,6 +12,19 @@ pub fn is_select(c: &Command) -> bool
     match c {
         Command::Select => true,
         _ => false,
+    }
+}
+
+/// How the view moves on by the command: FETCH, STORE and SEARCH by message numbers leave the
+/// numbers as they are (RFC 3501, section 7.4.1).
+pub fn step_of(c: &Command) -> Step
+    ensures { result ≡ step_of c.now }
+{
+    match c {
+        Command::Fetch { by_uid: false, .. }
+        | Command::Store { by_uid: false, .. }
+        | Command::Search { by_uid: false, .. } => Step::Held,
+        _ => Step::Full,
     }
 }
 
