@@ -85,16 +85,16 @@ over mail c met q m mark old =
       next = record { selected = true; view = new; told = q };
     }
 
-pub other_answer : (mail : ℕ → Mail) (x : State) (c : Command) → is_select c ≡ false → (met m : Mailbox) (q : ℕ) (mark : Mark) (step : Step) (data lines : List Reply) (last : Reply) (next : State)
+pub other_answer : (mail : ℕ → Mail) (x : State) (c : Command) → is_select c ≡ false → (met m : Mailbox) (q : ℕ) (mark : Mark) (step : Step) (given lines : List Reply) (last : Reply) (next : State)
     → step ≡ step_of c
-    → data ≡ data_of mail c x.view m
-    → lines ≡ data ++ said m x.view (moved step x.view m) ++ last ∷ []
+    → given ≡ data_of mail c x.view m
+    → lines ≡ given ++ said m x.view (moved step x.view m) ++ last ∷ []
     → last ≡ ending_of mail c x.view met m mark
     → next ≡ record { selected = true; view = moved step x.view m; told = q }
     → ◌≡◌ {A = Answer} (record { replies = lines; next = next }) (answer mail x c met q m mark)
-other_answer mail x c e met m q mark step data lines last next by given are is behind =
+other_answer mail x c e met m q mark step given lines last next by known are is behind =
     ap (λ (ls : List Reply). record { replies = ls; next = next }) (are
-    ∙ ap (λ (ds : List Reply). ds ++ said m x.view (moved step x.view m) ++ last ∷ []) given
+    ∙ ap (λ (ds : List Reply). ds ++ said m x.view (moved step x.view m) ++ last ∷ []) known
     ∙ ap (λ (r : Reply). data_of mail c x.view m ++ said m x.view (moved step x.view m) ++ r ∷ []) is
     ∙ ap (λ (ls : List Reply). data_of mail c x.view m ++ ls ++ ending_of mail c x.view met m mark ∷ []) (same_told c e m x.view (moved step x.view m)))
     ∙ ap (λ (s : State). record { replies = data_of mail c x.view m ++ told_of c m x.view (moved step x.view m) ++ ending_of mail c x.view met m mark ∷ []; next = s }) behind
@@ -103,16 +103,6 @@ other_answer mail x c e met m q mark step data lines last next by given are is b
       next = record { selected = true; view = moved s x.view m; told = q };
     }) by
     ∙ ap (over mail c met q m mark) (sym (same_view c e x.view))
-
--- ---- a command that isn't refused
-
-selected_by : (s b : Bool) (o : Option ℕ) → (if not s && not b then Some reply.NotSelected else option_map (λ n. reply.NoMessage n) o) ≡ None → b ≡ false → s ≡ true
-selected_by true b o e other = refl
-selected_by false true o e other = absurd cc
-selected_by false false o e other = absurd cc
-
-pub has_selected : (x : State) (c : Command) → own_refusal x c ≡ None → is_select c ≡ false → x.selected ≡ true
-has_selected x c e other = selected_by x.selected (is_select c) (missing_number c x.view) e other
 
 -- ---- a result and what is behind it
 
