@@ -1,5 +1,5 @@
 -- Whether a mailbox has a row of a UID that passes a test, by the place of the UID.
-use Rattle.std.proofs.Common.{◌≡◌, ◌⊎◌, inl, inr, ℕ, ◌<◌, ◌≤◌, Bool, true, false, ◌&&◌, List, length, get_or, map, Some, None, refl, sym, ◌∙◌, ap, subst, arith}
+use Rattle.std.proofs.Common.{◌≡◌, ◌⊎◌, inl, inr, ℕ, ◌<◌, ◌≤◌, Bool, true, false, ◌&&◌, List, [], length, get_or, map, Option, Some, None, refl, sym, ◌∙◌, ap, subst, arith}
 use Rattle.std.specs.Prelude.{position, nat_eq, slice_get, is_some}
 use Rattle.std.specs.List.{list_any}
 use Rattle.std.specs.List.Sorted.{IsStrictlyIncreasing}
@@ -12,6 +12,9 @@ use Rattle.std.proofs.lemmas.Option.{get_or_from_slice_get}
 use Rattle.dv_model.specs.declared.types.Row.{Row}
 use Rattle.dv_rows.proofs.PartChanges.{none_there}
 
+blank : Row
+blank = record { uid = 0; flags = 0; keywords = []; parts = []; modseq = 0 }
+
 module _ (rows : List Row) (uid : ℕ) where
   abbrev is_it : Row → Bool
   is_it row = nat_eq row.uid uid
@@ -19,6 +22,13 @@ module _ (rows : List Row) (uid : ℕ) where
   -- no row has the UID
   pub none_passes : (test : Row → Bool) → position (λ (row : Row). nat_eq row.uid uid) rows ≡ None → list_any (λ row. nat_eq row.uid uid && test row) rows ≡ false
   none_passes test none = list_any_none (λ row. nat_eq row.uid uid && test row) rows (λ i d less. ap (λ b. b && test (get_or rows i d)) (none_there uid rows none i d less))
+
+  -- whether there is one at all
+  pub has_place : (o : Option ℕ) → o ≡ position (λ (row : Row). nat_eq row.uid uid) rows → is_some o ≡ list_any (λ row. nat_eq row.uid uid && true) rows
+  has_place None none = sym (none_passes (λ row. true) (sym none))
+  has_place (Some at) found =
+      let some = position-Some is_it rows at blank (sym found) in
+      sym (list_any_at (λ row. nat_eq row.uid uid && true) rows at blank some.0 (ap (λ b. b && true) some.1))
 
   -- the row of the UID decides
   pub one_passes : (test : Row → Bool) → IsStrictlyIncreasing (map (λ row. row.uid) rows) → (at : ℕ) (row : Row)

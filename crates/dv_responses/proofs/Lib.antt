@@ -1,6 +1,7 @@
-mod Endings
+mod Closing
 mod Having
 mod Items
+mod Lines
 mod Naming
-mod Rows
+mod Standing
 mod Searched

@@ -78,7 +78,7 @@ fn add_names_of_all(
 
 /// What the command asks of each message that it reads: FETCH by its items, and a SEARCH that reads
 /// messages their sizes and the fields that a HEADER names. `NoMemory` is the only error.
-pub fn asked(alloc: Global, c: &Command) -> Result<Asked, NoMemory>
+pub fn asked_by(alloc: Global, c: &Command) -> Result<Asked, NoMemory>
     requires { IsShallow c.now }
     ensures { IfOk result (Asks c.now) }
 {

@@ -1,4 +1,4 @@
-ghost use Rattle.std.specs.Prelude.{◌≡◌, ◌∷◌, IfOk};
+ghost use Rattle.std.specs.Prelude.{◌≡◌, IfOk, None, Some, cond};
 ghost use Rattle.dv_model.specs.declared.types.Command.{Command};
 ghost use Rattle.dv_responses.specs.Asked.{Asks};
 ghost use Rattle.dv_responses.specs.Supplied.{DescribesAsked, facts_from, values_of};
@@ -25,6 +25,13 @@ fn values_of(
     Ok(values)
 }
 
+// The message's bytes, where they are asked.
+fn body_if(asked: bool, message: Bytes) -> Option<Bytes>
+    ensures { result ≡ cond asked (Some message) None }
+{
+    if asked { Some(message) } else { None }
+}
+
 /// The facts of a message, as far as they are asked. `NoMemory` is the only error. The message's
 /// bytes aren't copied.
 pub fn facts_from(
@@ -43,7 +50,7 @@ pub fn facts_from(
     Ok(MailFacts {
         uid,
         size,
-        body: if asked.body { Some(message) } else { None },
+        body: body_if(asked.body, message),
         fields,
     })
 }

@@ -1,9 +1,10 @@
-ghost use Rattle.std.specs.Prelude.{◌≡◌, ◌++◌, ℕ, All, List, IfOk, OnOk, Option, Some, cond, flat_map, map, slice_get};
+ghost use Rattle.std.specs.Prelude.{◌≡◌, ◌≤◌, ◌++◌, ℕ, All, List, IfOk, OnOk, Option, Some, cond, flat_map, length, map, slice_get};
 ghost use Rattle.std.specs.Option.{option_copied};
 ghost use Rattle.dv_model.specs.declared.types.Command.TheVariants as command;
 ghost use Rattle.dv_model.specs.Journals.{Mail as Message};
 ghost use Rattle.dv_model.specs.Sessions.{data_of, fetch_line, fetch_lines, value_of};
 ghost use Rattle.dv_search.specs.Facts.{facts_of};
+ghost use Rattle.dv_responses.specs.Asked.{names_in};
 ghost use Rattle.dv_responses.specs.Fetched.{AreFetched, HasValue, lines_from, no_facts};
 ghost use Rattle.dv_responses.specs.Rows.{IsNumber, rows_at};
 ghost use Rattle.dv_responses.specs.Supplied.{AreSupplied, DescribesItems, Supplies};
@@ -66,6 +67,17 @@ fn value_of(
     }
 }
 
+// How many fields an item asks.
+fn fields_in(item: &Item) -> usize
+    ensures is { result ≡ length (names_in item.now) }
+    ensures small { result ≤ 1 }
+{
+    match item {
+        Item::Field(_) => 1,
+        _ => 0,
+    }
+}
+
 // The values of the items, where they are known of the message.
 fn values_of(
     alloc: Global,
@@ -82,9 +94,7 @@ fn values_of(
     let mut field = 0;
     for item in items {
         values.push(value_of(alloc, live, s, item, facts, field)?)?;
-        if let Item::Field(_) = item {
-            field += 1;
-        }
+        field += fields_in(item);
     }
     Ok(values)
 }
@@ -100,7 +110,7 @@ fn add_line(
     lines: &mut List<Reply>,
 ) -> Result<(), NoMemory>
     ensures { (message : Option (List ℕ))
-        → Supplies (DescribesItems items.now) message (option_copied facts)
+        → Supplies (DescribesItems items.now) message (option_copied facts.entry)
         → OnOk result (lines.new
         ≡ lines.old ++ lines_from live.now.mailbox items.now (number, s.now) message) }
 {

@@ -1,10 +1,21 @@
-ghost use Rattle.std.specs.Prelude.{◌≡◌};
+ghost use Rattle.std.specs.Prelude.{◌≡◌, ◌↔◌, IsTrue};
 ghost use Rattle.std.specs.List.{list_any};
 ghost use Rattle.dv_model.specs.Sessions.{is_append, is_select, is_write, reads_mail, reads_message, step_of, word_of};
 ghost use Rattle.dv_responses.specs.Depth.{IsShallow};
 
 use dv_model::{Command, Item, Step, Word};
 use dv_search::needs_mail;
+
+/// Whether the key of a SEARCH nests no deeper than its grammar lets it. The recursion ends there
+/// too.
+pub fn is_shallow(c: &Command) -> bool
+    ensures { IsTrue result ↔ IsShallow c.now }
+{
+    match c {
+        Command::Search { key, .. } => dv_search::is_shallow(key),
+        _ => true,
+    }
+}
 
 /// Whether the command opens the mailbox (RFC 3501, section 6.3.1).
 pub fn is_select(c: &Command) -> bool

@@ -4,7 +4,7 @@
 
 mod asking;
 mod data;
-mod ending;
+mod endings;
 mod facts;
 mod fetching;
 mod kinds;
@@ -14,11 +14,14 @@ mod rows;
 mod searching;
 mod selecting;
 
-pub use asking::{Asked, asked};
+pub use asking::{Asked, asked_by};
 pub use data::data_lines;
-pub use ending::ending;
+pub use endings::ending;
 pub use facts::facts_from;
-pub use kinds::{is_append, is_select, is_write, reads_mail, step_of, word_of};
+pub use kinds::{is_append, is_select, is_shallow, is_write, reads_mail, step_of, word_of};
 pub use looking::uids_looked_at;
 pub use meeting::{Met, meet};
 pub use selecting::select_lines;
+
+#[cfg(test)]
+mod tests;

@@ -1,4 +1,5 @@
 ghost use Rattle.std.specs.Prelude.{◌≡◌, All, IfOk, filter, map, nat_lt};
+ghost use Rattle.dv_model.specs.Mailboxes.{IsValid};
 ghost use Rattle.dv_model.specs.Sessions.{has_row, has_uid, number_of};
 ghost use Rattle.dv_responses.specs.Met.{met_of};
 ghost use Rattle.dv_responses.specs.Rows.{IsNumber, rows_at};
@@ -27,12 +28,20 @@ pub fn has_uid(live: &Live, uid: u32) -> bool
 
 // Whether the mailbox has a row of this UID that changed behind this number.
 fn is_later(live: &Live, uid: u32, since: u64) -> bool
+    requires { IsValid live.now.mailbox }
     ensures { result ≡ has_row live.now.mailbox (λ row. nat_lt since row.modseq) uid }
 {
     match live.position(uid) {
         Some(at) => live.row(at).modseq > since,
         None => false,
     }
+}
+
+// The row's number, or its UID.
+fn number_of(by_uid: bool, number: u32, s: &Shown) -> u32
+    ensures { result ≡ number_of by_uid (number, s.now) }
+{
+    if by_uid { s.uid } else { number }
 }
 
 // Those of the named rows that the number keeps from a change.
@@ -44,16 +53,17 @@ fn modified(
     live: &Live,
     since: u64,
 ) -> Result<List<u32>, NoMemory>
-    requires { All (IsNumber rows.now) numbers.now }
+    requires valid { IsValid live.now.mailbox }
+    requires inside { All (IsNumber rows.now) numbers.now }
     ensures { IfOk result (λ kept. kept ≡ map (number_of by_uid)
         (filter (λ row. has_row live.now.mailbox (λ r. nat_lt since r.modseq) row.1.uid)
         (rows_at rows.now numbers.now))) }
 {
     let mut kept = List::new(alloc);
     for number in numbers {
-        let uid = row_at(rows, *number).uid;
-        if is_later(live, uid, since) {
-            kept.push(if by_uid { uid } else { *number })?;
+        let s = row_at(rows, *number);
+        if is_later(live, s.uid, since) {
+            kept.push(number_of(by_uid, *number, s))?;
         }
     }
     Ok(kept)
@@ -64,14 +74,12 @@ fn modified(
 pub fn meet(alloc: Global, c: &Command, view: &View, live: &Live) -> Result<Met, NoMemory>
     ensures { IfOk result (λ met. met ≡ met_of c.now view.now live.now.mailbox) }
 {
-    let mut met = Met {
-        appended: None,
-        modified: List::new(alloc),
-    };
+    let next_uid = live.next_uid();
     match c {
-        Command::Append { .. } => {
-            met.appended = Some(live.next_uid());
-        }
+        Command::Append { .. } => Ok(Met {
+            appended: Some(next_uid),
+            modified: List::new(alloc),
+        }),
         Command::Store {
             by_uid,
             set,
@@ -80,9 +88,15 @@ pub fn meet(alloc: Global, c: &Command, view: &View, live: &Live) -> Result<Met,
         } => {
             let numbers = named(alloc, *by_uid, set, view)?;
             let rows = view.rows().as_slice();
-            met.modified = modified(alloc, *by_uid, rows, numbers.as_slice(), live, *since)?;
+            let modified = modified(alloc, *by_uid, rows, numbers.as_slice(), live, *since)?;
+            Ok(Met {
+                appended: None,
+                modified,
+            })
         }
-        _ => {}
+        _ => Ok(Met {
+            appended: None,
+            modified: List::new(alloc),
+        }),
     }
-    Ok(met)
 }

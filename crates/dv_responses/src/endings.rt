@@ -1,8 +1,8 @@
-ghost use Rattle.std.specs.Prelude.{◌≡◌, ◌&&◌, ℕ, filter, is_none, min, not};
+ghost use Rattle.std.specs.Prelude.{◌≡◌, ◌&&◌, ℕ, None, cond, filter, is_none, min, not, option_map};
 ghost use Rattle.std.specs.List.{reduce};
 ghost use Rattle.dv_model.specs.declared.types.Mailbox.{Mailbox};
 ghost use Rattle.dv_model.specs.Journals.{Mail as Message};
-ghost use Rattle.dv_model.specs.Sessions.{ending_of, has_uid, uids_looked_at};
+ghost use Rattle.dv_model.specs.Sessions.{ending_of, has_uid, reads_mail, uids_looked_at};
 ghost use Rattle.dv_model.specs.Views.{View as ShownRows};
 ghost use Rattle.dv_search.specs.Facts.{facts_of};
 ghost use Rattle.dv_responses.specs.Depth.{IsShallow};
@@ -36,6 +36,29 @@ fn first_unknown(uids: &[u32], live: &Live, facts: &Mail) -> Option<u32>
         .min()
 }
 
+// The smallest such UID, where the command reads messages.
+fn first_damaged(c: &Command, uids: &[u32], live: &Live, facts: &Mail) -> Option<u32>
+    requires { IsShallow c.now }
+    ensures { result ≡ cond (reads_mail c.now) (reduce min (filter
+        (λ uid. has_uid live.now.mailbox uid && is_none (facts_of facts.now uid)) uids.now)) None }
+{
+    if reads_mail(c) {
+        first_unknown(uids, live, facts)
+    } else {
+        None
+    }
+}
+
+// The UIDVALIDITY and the UID of a message that was appended.
+fn appended_in(live: &Live, uid: Option<u32>) -> Option<(u32, u32)>
+    ensures { result ≡ option_map (λ uid. (live.now.mailbox.uid_validity, uid)) uid }
+{
+    match uid {
+        Some(uid) => Some((live.uid_validity(), uid)),
+        None => None,
+    }
+}
+
 /// The last line of the answer to a command that looked at these UIDs: Gone with the smallest that
 /// the mailbox lacks (RFC 5530, EXPUNGEISSUED); or else Damaged with the smallest whose message it
 /// reads and isn't there (RFC 5530, CORRUPTION); or else Done. It has the mark that the session is
@@ -64,15 +87,13 @@ pub fn ending(
             modified,
         };
     }
-    if reads_mail(c)
-        && let Some(uid) = first_unknown(uids, live, facts)
-    {
+    if let Some(uid) = first_damaged(c, uids, live, facts) {
         return Reply::Damaged { uid, mark };
     }
     Reply::Done {
         word: word_of(c),
         mark,
-        appended: appended.map(|uid| (live.uid_validity(), uid)),
+        appended: appended_in(live, appended),
         modified,
     }
 }
