@@ -4,12 +4,14 @@ ghost use Rattle.dv_search.specs.Facts.{AreRising, facts_of, known_field};
 
 use dv_model::{Bytes, List};
 
-/// What is known of a message, so that keys are tried without reading it again.
+/// What is known of a message, so that it is answered for without reading it again.
 #[derive(Drop)]
 pub struct MailFacts {
     pub uid: u32,
     /// The number of bytes where each line ends in CRLF (RFC822.SIZE).
     pub size: u64,
+    /// The message's bytes, where they were asked. A search asks no bytes.
+    pub body: Option<Bytes>,
     /// Names as they were asked, and the value of the message's first field of that name; `None`
     /// where it has no such field.
     pub fields: List<(Bytes, Option<Bytes>)>,

@@ -118,6 +118,7 @@ fn mail_of(alloc: Global, uid: u32, subject: Option<Bytes>) -> Result<Mail, NoMe
     mail.push(MailFacts {
         uid,
         size: 5,
+        body: None,
         fields,
     })?;
     Ok(mail)

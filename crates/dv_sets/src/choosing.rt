@@ -52,8 +52,9 @@ fn missing_of(span: Span, count: u32) -> Option<u32>
     None
 }
 
-// The first such end of these ranges.
-fn missing_end(set: &[Span], count: u32) -> Option<u32>
+/// The first end of the ranges that is no message number among so many: 0, or above their number,
+/// which is also what `*` is (RFC 3501, section 9, `seq-number`). Takes no memory.
+pub fn missing_end(set: &[Span], count: u32) -> Option<u32>
     ensures { (view : View) → length view.rows ≡ count → result ≡ missing_end set.now view }
 {
     for span in set {
@@ -107,6 +108,20 @@ pub fn largest_uid(rows: &[Shown]) -> u32
     }
 }
 
+/// The message numbers that a set names among so many, in rising order (RFC 3501, section 2.3.1.2);
+/// `*` is the largest one, and what is none is passed over. `NoMemory` is the only error. The time
+/// is that of the ranges, their sorting, and the numbers.
+pub fn numbers_among(alloc: Global, set: &List<Span>, count: u32) -> Result<List<u32>, NoMemory>
+    ensures { (view : View) → length view.rows ≡ count
+        → IfOk result (λ numbers. numbers ≡ map (λ row. row.0) (named_by_number set.now view)) }
+{
+    let mut intervals = Vec::new(alloc);
+    for span in set.as_slice() {
+        intervals.push(places_by_number(*span, count))?;
+    }
+    numbers_of(alloc, intervals, count)
+}
+
 /// The message numbers that a set names in a view of these rows, in rising order (RFC 3501,
 /// section 2.3.1.2). `NoMessage` has the first end that is 0 or above the number of rows, where
 /// `*` is that number; it takes no memory to find. The time is that of the ranges, their sorting,
@@ -124,11 +139,7 @@ pub fn numbers(alloc: Global, set: &List<Span>, rows: &List<Shown>) -> Result<Li
     if let Some(n) = missing_end(set.as_slice(), count) {
         return Err(SetEnd::NoMessage(n));
     }
-    let mut intervals = Vec::new(alloc);
-    for span in set.as_slice() {
-        intervals.push(places_by_number(*span, count))?;
-    }
-    Ok(numbers_of(alloc, intervals, count)?)
+    Ok(numbers_among(alloc, set, count)?)
 }
 
 /// The message numbers of the rows whose UIDs are in a set, in rising order; `*` is the largest

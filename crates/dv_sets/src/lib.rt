@@ -11,7 +11,7 @@ mod law;
 mod printing;
 mod sets;
 
-pub use choosing::{is_in_set, largest_uid, numbers, uids};
+pub use choosing::{is_in_set, largest_uid, missing_end, numbers, numbers_among, uids};
 pub use end::{ParseEnd, SetEnd};
 pub use flags::parse_flags;
 pub use law::{one_flags, one_set, written_set_is_read};

@@ -47,10 +47,28 @@ impl Touched {
         Ok(Touched { uids })
     }
 
+    /// These UIDs, which rise. Takes no memory.
+    pub fn of(uids: Vec<u32>) -> Touched
+        requires { IsStrictlyIncreasing uids.items }
+        ensures { result ≡ uids.items }
+    {
+        Touched { uids }
+    }
+
+    /// The vector of the UIDs.
+    pub fn into_uids(self) -> Vec<u32>
+        ensures is { result.items ≡ self }
+        ensures rising { IsStrictlyIncreasing self }
+    {
+        let Touched { uids } = self;
+        uids
+    }
+
     /// The UIDs of both.
     pub fn with(&self, alloc: Global, more: &Touched) -> Result<Touched, NoMemory>
-        ensures { IfOk result (λ all. (uid : ℕ) →
+        ensures all { IfOk result (λ all. (uid : ℕ) →
             Contains all uid ↔ (Contains self.now uid ⊎ Contains more.now uid)) }
+        ensures rising { IfOk result (λ all. IsStrictlyIncreasing all) }
     {
         let uids = merged(alloc, &self.uids, &more.uids)?;
         Ok(Touched { uids })

@@ -55,7 +55,7 @@ at_filter p u (s ∷ rows) = by_test (p s.uid) refl (nat_eq s.uid u) refl (at_fi
     by_test false e true f rest = let fail : p u ≡ false = ap p (sym (eqb-true s.uid u f)) ∙ e in rest ∙ ap (λ c. cond c (at_uid u rows) None) fail ∙ sym (ap (λ c. cond c (Some s) None) fail)
     by_test false e false f rest = rest
 
-find_each : {X : Type 0} (P : X → Type 0) (p : X → Bool) (xs : List X) → AllByRecursion P xs → (o : Option X) → find p xs ≡ o → IfSome o (λ x. P x × (p x ≡ true))
+pub find_each : {X : Type 0} (P : X → Type 0) (p : X → Bool) (xs : List X) → AllByRecursion P xs → (o : Option X) → find p xs ≡ o → IfSome o (λ x. P x × (p x ≡ true))
 find_each P p xs each None e = tt
 find_each P p [] each (Some x) e = absurd cc
 find_each P p (y ∷ xs) each (Some x) e = by_test (p y) refl e (find_each P p xs each.1 (Some x))
@@ -78,11 +78,11 @@ given_at n u (f ∷ fresh) rises = by_test (nat_eq f.uid u) refl (given_at (f.ui
     by_test true e rest = let same = eqb-true f.uid u e in own_same u f.uid f.row (given fresh) rises.1 same (at_below (f.uid + 1) u (given fresh) (given_above (f.uid + 1) fresh rises.2) (omega (arith, same)))
     by_test false e rest = own_other u f.uid f.row (given fresh) rises.1 e ∙ rest
 
-abbrev kept : Option Fresh → Option Fresh
+abbrev pub kept : Option Fresh → Option Fresh
 kept (Some f) = cond (is_some f.row) (Some f) None
 kept None = None
 
-some_at : (n u : ℕ) (fresh : List Fresh) → Rises n fresh → change_of u (filter (λ f. is_some f.row) fresh) ≡ kept (change_of u fresh)
+pub some_at : (n u : ℕ) (fresh : List Fresh) → Rises n fresh → change_of u (filter (λ f. is_some f.row) fresh) ≡ kept (change_of u fresh)
 some_at n u [] rises = refl
 some_at n u (f ∷ fresh) rises = by_test (nat_eq f.uid u) refl (is_some f.row) refl (some_at (f.uid + 1) u fresh rises.2)
   where
@@ -295,7 +295,7 @@ followed Full rows b fresh rise rises known before after renewing adding same re
 
 -- ---- the mailbox to which the changes lead
 
-find_shown : (u : ℕ) (rows : List Row) → option_map shown (find (λ row. nat_eq row.uid u) rows) ≡ at_uid u (map shown rows)
+pub find_shown : (u : ℕ) (rows : List Row) → option_map shown (find (λ row. nat_eq row.uid u) rows) ≡ at_uid u (map shown rows)
 find_shown u [] = refl
 find_shown u (row ∷ rows) = by_test (nat_eq row.uid u) (find_shown u rows)
   where

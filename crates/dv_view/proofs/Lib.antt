@@ -1,11 +1,11 @@
 pub mod Finding
-mod Followed
+pub mod Followed
 mod Losing
 pub mod Listening
 pub mod Moving
 pub mod Numbers
-mod Patching
-mod Placing
+pub mod Patching
+pub mod Placing
 mod Renewing
 pub mod Rising
 mod Passing

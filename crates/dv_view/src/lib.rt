@@ -14,7 +14,9 @@ mod telling;
 mod view;
 
 pub use client::Client;
+pub use copies::{names_at, shown};
 pub use laws::{bare_client_has_view, changes_follow};
+pub use replies::add_changes;
 pub use view::View;
 
 #[cfg(test)]

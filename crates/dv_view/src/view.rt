@@ -1,6 +1,8 @@
-ghost use Rattle.std.specs.Prelude.{◌≡◌, ◌≤◌, length, nat_eq, position, IfOk, OnErr, OnOk};
+ghost use Rattle.std.specs.Prelude.{◌≡◌, ◌≤◌, ℕ, List as Listed, length, nat_eq, position, IfOk, OnErr, OnOk};
 ghost use Rattle.dv_model.specs.Fresh.{AreFresh};
+ghost use Rattle.dv_model.specs.Mailboxes.{IsValid};
 ghost use Rattle.dv_model.specs.Views.{empty_view, moved, said};
+ghost use Rattle.dv_model.specs.declared.types.Step.TheVariants.{Full};
 ghost use Rattle.dv_model.specs.declared.types.Mailbox.{Mailbox};
 ghost use Rattle.dv_view.specs.Following.{IsPatched, rows_after};
 ghost use Rattle.dv_view.specs.Orders.{IsOrdered};
@@ -46,6 +48,21 @@ impl View {
             rows: List::new(alloc),
             next_uid: 1,
         }
+    }
+
+    /// What a session is shown of a whole mailbox. `NoMemory` is the only error. The time is in
+    /// proportion to the rows.
+    pub fn of(alloc: Global, live: &Live) -> Result<View, NoMemory>
+        ensures made { IfOk result (λ made. made ≡ moved Full empty_view live.now.mailbox) }
+        ensures valid { IsValid live.now.mailbox }
+    {
+        let next_uid = live.next_uid();
+        let rows = moved_rows(alloc, live, &[], 1, Step::Full)?;
+        Ok(View {
+            alloc,
+            rows,
+            next_uid,
+        })
     }
 
     /// The rows: the k-th has message number k, counted from 1.
@@ -94,9 +111,57 @@ impl View {
         Ok(replies)
     }
 
+    /// What the session is told of changes that are given by UID. The view stays. `NoMemory` is the
+    /// only error. The time is in proportion to the changes.
+    pub fn said_by(
+        &self,
+        next_uid: u32,
+        fresh: &List<Fresh>,
+        names: &Table,
+        step: Step,
+    ) -> Result<List<Reply>, NoMemory>
+        requires { AreFresh self.now next_uid (length names.now.names) fresh.now }
+        // To whatever mailbox the changes lead, just the view's move to it is said.
+        ensures { IfOk result (λ replies. (m : Mailbox)
+            → IsPatched self.now next_uid names.now.names fresh.now m
+            → replies ≡ said m self.now (moved step self.now m)) }
+    {
+        said_by(
+            self.alloc,
+            names,
+            self.rows.as_slice(),
+            fresh.as_slice(),
+            step,
+        )
+    }
+
+    /// Moves on by changes that are given by UID. After `NoMemory`, which is the only error, the
+    /// view is as before. The time is in proportion to the changes; only where a row leaves are all
+    /// rows gone through.
+    pub fn follow(&mut self, next_uid: u32, fresh: &List<Fresh>, step: Step) -> Result<(), NoMemory>
+        requires { (names : ℕ) × AreFresh self.old next_uid names fresh.now }
+        // The rows are the old ones with the changes of which the step tells.
+        ensures rows { OnOk result (self.new ≡ record {
+          rows = rows_after step self.old.rows fresh.now;
+          next_uid = next_uid;
+        }) }
+        // To whatever mailbox the changes lead, the view moves by the step.
+        ensures view { OnOk result ((names : Listed (Listed ℕ)) (m : Mailbox)
+            → IsPatched self.old next_uid names fresh.now m
+            → self.new ≡ moved step self.old m) }
+        ensures err { OnErr result (self.new ≡ self.old) }
+    {
+        let fresh = fresh.as_slice();
+        let mut rows = mem::replace(&mut self.rows, List::new(self.alloc)).into_vec();
+        let followed = follow(self.alloc, &mut rows, self.next_uid, fresh, step);
+        self.rows = List::from_vec(rows);
+        followed?;
+        self.next_uid = next_uid;
+        Ok(())
+    }
+
     /// Moves on by changes that are given by UID, without a look at the mailbox, and gives what the
-    /// session is told of it. After `NoMemory`, which is the only error, the view is as before. The
-    /// time is in proportion to the changes; only where a row leaves are all rows gone through.
+    /// session is told of it, as `said_by` and `follow` do.
     pub fn advance_by(
         &mut self,
         next_uid: u32,
@@ -119,13 +184,8 @@ impl View {
             → replies ≡ said m self.old (moved step self.old m)) }
         ensures err { OnErr result (self.new ≡ self.old) }
     {
-        let fresh = fresh.as_slice();
-        let replies = said_by(self.alloc, names, self.rows.as_slice(), fresh, step)?;
-        let mut rows = mem::replace(&mut self.rows, List::new(self.alloc)).into_vec();
-        let followed = follow(self.alloc, &mut rows, self.next_uid, fresh, step);
-        self.rows = List::from_vec(rows);
-        followed?;
-        self.next_uid = next_uid;
+        let replies = self.said_by(next_uid, fresh, names, step)?;
+        self.follow(next_uid, fresh, step)?;
         Ok(replies)
     }
 }

@@ -13,5 +13,5 @@ test_body-requires c = sound c.args.r.now c.requires.record
 pub returns-in-Ok-with-clause-touched : goal.returns-in-Ok-with-clause-touched
 returns-in-Ok-with-clause-touched c = λ uid.
     either_touched (Contains c.in-Ok-with.all uid) (Contains c.args.touched.now uid) (Contains c.in-Ok.made.touched uid) (IsTouched (mailbox_of c.args.state.now) (mailbox_of c.complete.new.state) uid)
-    (c.in-Ok-with.ensures uid)
+    (c.in-Ok-with.ensures.all uid)
     (touched_one (applied (mailbox_of c.args.state.now) c.from_ref.result.now) (mailbox_of c.args.state.now) (mailbox_of c.complete.new.state) (held_of c.prepare.new.state) (ready_of c.in-Ok.made) uid c.in-Ok.ensures.ok c.complete.ensures.is c.prepare.ensures.mailbox)

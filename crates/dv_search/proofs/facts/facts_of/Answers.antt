@@ -1,4 +1,4 @@
-use Rattle.std.proofs.Common.{◌≡◌, ◌∙◌, [], ℕ, Some, ap, get_or, length, ltb, refl, rules, slice_get, sym}
+use Rattle.std.proofs.Common.{◌≡◌, ◌∙◌, [], ℕ, None, Some, ap, get_or, length, ltb, refl, rules, slice_get, sym}
 use Rattle.std.proofs.lemmas.Option.{slice_get_read}
 use Rattle.std.proofs.lemmas.List.Sorted.{IsPartitionPoint-from_clause}
 use Rattle.dv_search.specs.declared.facts.MailFacts.{MailFacts}
@@ -12,7 +12,7 @@ pub returns-then-at-mail : goal.returns-then-at-mail
 returns-then-at-mail c =
     let place : IsPlace uid_of c.args.mail.now c.args.uid c.partition_point-at.result =
     IsPartitionPoint-from_clause (λ (f : MailFacts). ltb f.uid c.args.uid) c.args.mail.now c.partition_point-at.result c.partition_point-at.ensures.partitioned (split uid_of c.args.mail.now c.args.uid c.requires) (λ a r f k. search rules) in
-    sym (behind uid_of c.args.mail.now c.args.uid c.partition_point-at.result (record { uid = 0; size = 0; fields = [] }) place c.if-at-mail.true)
+    sym (behind uid_of c.args.mail.now c.args.uid c.partition_point-at.result (record { uid = 0; size = 0; body = None; fields = [] }) place c.if-at-mail.true)
 
 pub returns-then-facts-uid : goal.returns-then-facts-uid
 returns-then-facts-uid c =

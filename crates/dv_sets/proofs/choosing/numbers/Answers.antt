@@ -1,27 +1,7 @@
-use Rattle.std.proofs.Common.{◌≡◌, ◌∙◌, ◌+◌, ◌<◌, ℕ, List, Ok, sym, ap, subst, take, length}
-use Rattle.std.proofs.lemmas.List.{take_all}
+use Rattle.std.proofs.Common.{◌≡◌, ◌∙◌, List, ℕ, Ok, sym, ap, length}
 use Rattle.dv_model.specs.declared.types.Shown.{Shown}
-use Rattle.dv_model.specs.declared.types.Span.{Span}
-use Rattle.dv_model.specs.Sets.{is_in_set}
-use Rattle.dv_sets.specs.Intervals.{is_covered, numbers_where}
-use Rattle.dv_sets.proofs.Chosen.{chosen}
-use Rattle.dv_sets.proofs.Swept.{chosen_where}
 use Rattle.dv_sets.proofs.choosing.numbers.Goals as goal
 
 pub returns-clause-named : goal.returns-clause-named
 returns-clause-named c = λ view same none.
-    let rows = c.args.rows.now in
-    let set = c.args.set.now in
-    let xs = c.loop-span.intervals.items in
-    let count : c.len-count.result ≡ length rows = c.len-count.ensures in
-    let all : take c.loop-span.span-index c.as_slice-span-items.result.now ≡ set =
-    take_all c.loop-span.span-index c.as_slice-span-items.result.now c.loop-span-test.false ∙ c.as_slice-span-items.ensures in
-    let covered : (k : ℕ) → k < length rows → is_covered xs k ≡ is_in_set (length rows) set (k + 1) =
-    λ k less. c.loop-span.invariant.covered k (subst (λ n. k < n) (sym count) less) ∙ ap (λ (s : List Span). is_in_set c.len-count.result s (k + 1)) all ∙ ap (λ n. is_in_set n set (k + 1)) count in
-    let is : chosen (λ row. is_in_set (length rows) set row.0) rows ≡ numbers_where (is_covered xs) (length rows) =
-    chosen_where (λ row. is_in_set (length rows) set row.0) (is_covered xs) rows (λ k d less. sym (covered k less)) in
-    ap (λ (ns : List ℕ). Ok ns)
-    (c.in_ok-numbers_of.ensures
-    ∙ ap (numbers_where (is_covered xs)) count
-    ∙ sym is
-    ∙ ap (λ (rs : List Shown). chosen (λ row. is_in_set (length rs) set row.0) rs) (sym same))
+    ap (λ (ns : List ℕ). Ok ns) (c.in_ok-numbers_among.ensures view (ap length same ∙ sym c.len-count.ensures))

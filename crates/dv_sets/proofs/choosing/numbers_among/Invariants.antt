@@ -1,7 +1,7 @@
 use Rattle.std.proofs.Common.{◌≡◌, ◌+◌, ◌<◌, ℕ, take}
 use Rattle.dv_model.specs.Sets.{is_in_set}
 use Rattle.dv_sets.specs.Intervals.{AreInside, is_covered}
-use Rattle.dv_sets.proofs.choosing.numbers.Given as goal
+use Rattle.dv_sets.proofs.choosing.numbers_among.Given as goal
 
 abbrev pub invariant-loop-span : goal.invariant-loop-span
 invariant-loop-span l = record {

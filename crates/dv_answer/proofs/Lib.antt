@@ -1,0 +1,4 @@
+pub mod Tracking
+pub mod Keeping
+pub mod Limits
+pub mod Answering

@@ -1,0 +1,221 @@
+ghost use Rattle.std.specs.Prelude.{◌≡◌, ◌↔◌, ◌⊎◌, ◌∷◌, ◌++◌, [], ℕ, Contains, IfOk, None, Ok, OnErr, OnOk, false, true};
+ghost use Rattle.dv_model.specs.declared.types.Mailbox.{Mailbox};
+ghost use Rattle.dv_model.specs.declared.types.Command.TheVariants as command;
+ghost use Rattle.dv_model.specs.declared.types.Step.TheVariants.{Full};
+ghost use Rattle.dv_model.specs.Journals.{Mail as Message};
+ghost use Rattle.dv_model.specs.Sessions.{answer, told_of};
+ghost use Rattle.dv_model.specs.Views.{empty_view, moved, said};
+ghost use Rattle.dv_responses.specs.Depth.{IsShallow};
+ghost use Rattle.dv_responses.specs.Met.{met_of};
+ghost use Rattle.dv_responses.specs.Supplied.{AreSupplied};
+ghost use Rattle.dv_answer.specs.Following.{IsAbreast, Leads, Tracks, new_follower, untold};
+ghost use Rattle.dv_answer.specs.Refusing.{own_refusal};
+
+use crate::fresh::{fresh_of, retain_untold};
+use crate::lines::joined;
+use crate::commands::{is_select, missing_number, step_of};
+use dv_apply::Live;
+use dv_model::{Command, List, Mark, NoMemory, Reply, Step};
+use dv_responses::{Met, data_lines, ending, select_lines, uids_looked_at};
+use dv_search::Mail;
+use dv_touched::Touched;
+use dv_view::View;
+use std::alloc::Global;
+use std::marker::Model;
+use std::mem;
+
+/// A session: whether it has selected the mailbox, what it was shown, how many entries of the log
+/// it was told, and the UIDs that were touched since. Contracts see its state beside these UIDs.
+#[derive(Drop)]
+pub struct Session {
+    alloc: Global,
+    selected: bool,
+    view: View,
+    told: u64,
+    touched: Touched,
+}
+
+impl Model for Session {
+    ghost use Rattle.dv_answer.specs.Following.{Follower};
+
+    ghost Value = { Follower };
+
+    ghost view = { λ s. record {
+      state = record { selected = s.selected; view = s.view; told = s.told };
+      touched = s.touched;
+    } };
+}
+
+impl Session {
+    /// A session that hasn't selected the mailbox. Takes no memory.
+    pub fn new(alloc: Global) -> Session
+        ensures { result ≡ new_follower }
+    {
+        Session {
+            alloc,
+            selected: false,
+            view: View::empty(alloc),
+            told: 0,
+            touched: Touched::empty(alloc),
+        }
+    }
+
+    /// Whether it has selected the mailbox.
+    pub fn is_selected(&self) -> bool
+        ensures { result ≡ self.now.state.selected }
+    {
+        self.selected
+    }
+
+    /// What it was shown.
+    pub fn view(&self) -> &View
+        ensures { result.now ≡ self.now.state.view }
+    {
+        &self.view
+    }
+
+    /// How many entries of the log it was told.
+    pub fn told(&self) -> u64
+        ensures { result ≡ self.now.state.told }
+    {
+        self.told
+    }
+
+    /// Takes notice that these UIDs were touched. One that hasn't selected needs no notice. After
+    /// `NoMemory`, which is the only error, the session is as before.
+    pub fn touch(&mut self, touched: &Touched) -> Result<(), NoMemory>
+        ensures state { self.new.state ≡ self.old.state }
+        ensures touched { OnOk result (self.old.state.selected ≡ true → (uid : ℕ) →
+            Contains self.new.touched uid
+            ↔ (Contains self.old.touched uid ⊎ Contains touched.now uid)) }
+        ensures unselected { self.old.state.selected ≡ false →
+            (result ≡ Ok tt) × (self.new ≡ self.old) }
+        // It keeps up with the mailbox that records made of the one before.
+        ensures abreast { OnOk result ((old new : Mailbox) → IsAbreast old self.old
+            → Leads old new touched.now → IsAbreast new self.new) }
+        ensures err { OnErr result (self.new ≡ self.old) }
+    {
+        if !self.selected {
+            return Ok(());
+        }
+        self.touched = self.touched.with(self.alloc, touched)?;
+        Ok(())
+    }
+
+    /// The one line of a command that this session refuses by itself: exactly where it hasn't
+    /// selected the mailbox and the command isn't SELECT, or where its view lacks a message number
+    /// that the command names, by the first such number. Takes no memory.
+    pub fn refuse(&self, c: &Command) -> Option<Reply>
+        ensures { result ≡ own_refusal self.now.state c.now }
+    {
+        if !self.selected && !is_select(c) {
+            return Some(Reply::NotSelected);
+        }
+        match missing_number(c, &self.view) {
+            Some(n) => Some(Reply::NoMessage(n)),
+            None => None,
+        }
+    }
+
+    /// Shows the whole mailbox anew, behind so many entries of the log, and gives the lines of that
+    /// (RFC 3501, section 6.3.1) and then this last one. After `NoMemory`, which is the only error,
+    /// the session is as before. The time is in proportion to the rows.
+    pub fn select(&mut self, live: &Live, told: u64, last: Reply) -> Result<List<Reply>, NoMemory>
+        ensures state { OnOk result (self.new.state ≡ record {
+          selected = true;
+          view = moved Full empty_view live.now.mailbox;
+          told = told;
+        }) }
+        ensures said { IfOk result (λ replies. replies ≡ told_of command.Select live.now.mailbox
+            empty_view (moved Full empty_view live.now.mailbox) ++ last ∷ []) }
+        ensures touched { OnOk result (self.new.touched ≡ []) }
+        ensures abreast { OnOk result (IsAbreast live.now.mailbox self.new) }
+        ensures err { OnErr result (self.new ≡ self.old) }
+    {
+        let view = View::of(self.alloc, live)?;
+        let lines = select_lines(self.alloc, live, &view)?;
+        let replies = joined(List::new(self.alloc), lines, last)?;
+        self.touched.clear();
+        self.view = view;
+        self.selected = true;
+        self.told = told;
+        Ok(replies)
+    }
+
+    /// Moves the view on to the mailbox, behind so many entries of the log, and gives these lines,
+    /// then what is told of the move, and then this last line. After `NoMemory`, which is the only
+    /// error, the session is as before. The time is that of the touched UIDs and of the lines; only
+    /// where rows leave are all gone through.
+    pub fn move_on(
+        &mut self,
+        live: &Live,
+        step: Step,
+        told: u64,
+        before: List<Reply>,
+        last: Reply,
+    ) -> Result<List<Reply>, NoMemory>
+        requires { Tracks live.now.mailbox self.old.state.view self.old.touched }
+        ensures state { OnOk result (self.new.state ≡ record {
+          selected = true;
+          view = moved step self.old.state.view live.now.mailbox;
+          told = told;
+        }) }
+        ensures said { IfOk result (λ replies. replies ≡ before ++ said live.now.mailbox
+            self.old.state.view (moved step self.old.state.view live.now.mailbox) ++ last ∷ []) }
+        // Rows that have left and aren't told stay touched, and no others.
+        ensures touched { OnOk result (self.new.touched
+            ≡ untold live.now.mailbox self.new.state.view self.old.touched) }
+        ensures abreast { OnOk result (IsAbreast live.now.mailbox self.new) }
+        ensures err { OnErr result (self.new ≡ self.old) }
+    {
+        let fresh = fresh_of(self.alloc, live, self.touched.uids())?;
+        let next_uid = live.next_uid();
+        let said = self.view.said_by(next_uid, &fresh, live.names(), step)?;
+        let replies = joined(before, said, last)?;
+        self.view.follow(next_uid, &fresh, step)?;
+        let mut uids = mem::replace(&mut self.touched, Touched::empty(self.alloc)).into_uids();
+        retain_untold(&mut uids, &self.view, live);
+        self.touched = Touched::of(uids);
+        self.selected = true;
+        self.told = told;
+        Ok(replies)
+    }
+
+    /// Answers a command that isn't refused, behind so many entries of the log and at this place of
+    /// it: the data lines, what is told of the move to the mailbox, and the last line (RFC 3501,
+    /// sections 6 and 7). The facts are those of the messages that the command reads. After
+    /// `NoMemory`, which is the only error, the session is as before. The time is that of the
+    /// touched UIDs, of the rows that a set names, and of the lines; SELECT and SEARCH go through
+    /// all rows, and so does a move behind which rows have left.
+    pub fn answer(
+        &mut self,
+        c: &Command,
+        live: &Live,
+        facts: &Mail,
+        met: Met,
+        mark: Mark,
+        told: u64,
+    ) -> Result<List<Reply>, NoMemory>
+        requires shallow { IsShallow c.now }
+        requires allowed { own_refusal self.old.state c.now ≡ None }
+        requires abreast { IsAbreast live.now.mailbox self.old }
+        // So it is for any mailbox in which the command met this, and for all messages that have
+        // these facts, where those without facts aren't there.
+        ensures answer { (mail : ℕ → Message) (met_mailbox : Mailbox)
+            → met ≡ met_of c.now self.old.state.view met_mailbox
+            → AreSupplied mail c.now self.old.state.view live.now.mailbox facts.now
+            → IfOk result (λ replies. record { replies = replies; next = self.new.state }
+            ≡ answer mail self.old.state c.now met_mailbox told live.now.mailbox mark) }
+        ensures abreast { OnOk result (IsAbreast live.now.mailbox self.new) }
+        ensures err { OnErr result (self.new ≡ self.old) }
+    {
+        let data = data_lines(self.alloc, c, &self.view, live, facts)?;
+        let looked_at = uids_looked_at(self.alloc, c, &self.view)?;
+        let last = ending(c, &looked_at, facts, live, met, mark);
+        if is_select(c) {
+            self.select(live, told, last)
+        } else {
+            self.move_on(live, step_of(c), told, data, last)
+        }
+    }
+}

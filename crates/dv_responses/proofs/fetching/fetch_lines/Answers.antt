@@ -1,0 +1,27 @@
+use Rattle.std.proofs.Common.{◌≡◌, ◌∙◌, ℕ, List, sym, ap, subst}
+use Rattle.std.specs.Prelude.{flat_map}
+use Rattle.std.proofs.lemmas.Result.{IfOk-weaker}
+use Rattle.dv_model.specs.declared.types.Item.{Item}
+use Rattle.dv_model.specs.declared.types.Shown.{Shown}
+use Rattle.dv_model.specs.Sessions.{fetch_lines}
+use Rattle.dv_model.specs.Sets.{named}
+use Rattle.dv_responses.proofs.Lines.{fetched}
+use Rattle.dv_responses.specs.Fetched.{AreFetched}
+use Rattle.dv_responses.specs.Rows.{rows_at}
+use Rattle.dv_responses.proofs.fetching.fetch_lines.Goals as goal
+
+pub returns : goal.returns
+returns c = λ mail supplied.
+    let m = c.args.live.now.mailbox in
+    let view = c.args.view.now in
+    let items = c.args.items.now in
+    let facts = c.args.facts.now in
+    let wanted = named c.args.by_uid c.args.set.now view in
+    let same : c.as_slice-2.result.now ≡ items = c.as_slice-2.ensures in
+    let all : rows_at c.as_slice-rows.result.now c.as_slice.result.now ≡ wanted =
+    ap (λ (rs : List Shown). rows_at rs c.as_slice.result.now) (c.as_slice-rows.ensures ∙ c.rows.ensures.is) ∙ ap (rows_at view.rows) c.as_slice.ensures ∙ c.in_ok-numbers.ensures.is in
+    let known = subst (λ (is : List Item). AreFetched mail m is facts (rows_at c.as_slice-rows.result.now c.as_slice.result.now)) (sym same)
+    (subst (AreFetched mail m items facts) (sym all) (fetched mail c.args.by_uid c.args.set.now items view m facts supplied)) in
+    IfOk-weaker c.lines_at.result _ _
+    (λ lines made. made ∙ ap (λ (is : List Item). flat_map (fetch_lines mail m is) (rows_at c.as_slice-rows.result.now c.as_slice.result.now)) same ∙ ap (flat_map (fetch_lines mail m items)) all)
+    (c.lines_at.ensures mail known)

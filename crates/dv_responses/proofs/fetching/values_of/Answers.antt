@@ -1,0 +1,27 @@
+use Rattle.std.proofs.Common.{◌≡◌, ◌∙◌, ◌+◌, ◌≤◌, ◌++◌, ◌∷◌, [], List, ℕ, length, map, take, sym, ap, subst, arith}
+use Rattle.std.proofs.lemmas.List.{length-append}
+use Rattle.dv_model.specs.Sessions.{value_of}
+use Rattle.dv_responses.proofs.Items.{has_value, names_more, values_more}
+use Rattle.dv_responses.specs.Asked.{field_names, names_in}
+use Rattle.dv_responses.specs.Fetched.{HasValue}
+use Rattle.dv_responses.proofs.fetching.values_of.Goals as goal
+
+pub loop-item-preserved : goal.loop-item-preserved
+loop-item-preserved c =
+    let items = c.args.items.now in
+    let i = c.loop-item.item-index in
+    let x = c.item-item.result in
+    let less = c.loop-item-test.true in
+    let few = c.loop-item.invariant.few in
+    let small = c.fields_in.ensures.small in
+    record {
+      few = omega (arith, few, small);
+      counted =
+          ap (λ n. n + c.fields_in.result) c.loop-item.invariant.counted ∙ ap (λ n. length (field_names (take i items)) + n) c.fields_in.ensures.is
+          ∙ sym (length-append (field_names (take i items)) (names_in x)) ∙ ap length (sym (names_more items i x less c.item-item.is));
+      so_far = λ message are.
+          let f = value_of c.args.live.now.mailbox c.args.s.now message in
+          let has : HasValue message c.args.facts.now c.loop-item.field x = subst (λ k. HasValue message c.args.facts.now k x) (sym c.loop-item.invariant.counted) (has_value items message c.args.facts.now are i x less c.item-item.is) in
+          c.in_ok-push.ensures.ok ∙ ap (λ t. t ++ c.in_ok-value_of.field-0 ∷ []) (c.loop-item.invariant.so_far message are) ∙ ap (λ y. map f (take i items) ++ y ∷ []) (c.in_ok-value_of.ensures message has)
+          ∙ sym (values_more f items i x less c.item-item.is);
+    }

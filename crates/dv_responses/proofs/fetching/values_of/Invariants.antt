@@ -1,0 +1,12 @@
+use Rattle.std.proofs.Common.{◌≡◌, ℕ, ◌≤◌, List, length, map, take}
+use Rattle.dv_model.specs.Sessions.{value_of}
+use Rattle.dv_responses.specs.Asked.{field_names}
+use Rattle.dv_responses.specs.Supplied.{DescribesItems}
+use Rattle.dv_responses.proofs.fetching.values_of.Given as goal
+
+abbrev pub invariant-loop-item : goal.invariant-loop-item
+invariant-loop-item l = record {
+  few : l.field ≤ l.item-index;
+  counted : l.field ≡ length (field_names (take l.item-index l.items));
+  so_far : (message : List ℕ) → DescribesItems l.items message l.facts → l.values ≡ map (value_of l.live.mailbox l.s message) (take l.item-index l.items);
+}

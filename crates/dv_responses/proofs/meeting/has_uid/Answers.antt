@@ -1,0 +1,7 @@
+use Rattle.std.proofs.Common.{◌≡◌, ◌∙◌}
+use Rattle.std.specs.Prelude.{is_some}
+use Rattle.dv_responses.proofs.Having.{has_place}
+use Rattle.dv_responses.proofs.meeting.has_uid.Goals as goal
+
+pub returns : goal.returns
+returns c = c.is_some.ensures ∙ has_place c.args.live.now.mailbox.rows c.args.uid c.position.result c.position.ensures

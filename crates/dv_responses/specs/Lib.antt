@@ -1,0 +1,6 @@
+pub mod Depth
+pub mod Asked
+pub mod Supplied
+pub mod Rows
+pub mod Fetched
+pub mod Met

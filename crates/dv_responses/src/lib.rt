@@ -1,0 +1,27 @@
+//! The responses to a command of a session (RFC 3501, section 7): the data that it asked, and how
+//! it ended.
+#![tactic(auto)]
+
+mod asking;
+mod data;
+mod endings;
+mod facts;
+mod fetching;
+mod kinds;
+mod looking;
+mod meeting;
+mod rows;
+mod searching;
+mod selecting;
+
+pub use asking::{Asked, asked_by};
+pub use data::data_lines;
+pub use endings::ending;
+pub use facts::facts_from;
+pub use kinds::{is_append, is_select, is_shallow, is_write, reads_mail, step_of, word_of};
+pub use looking::uids_looked_at;
+pub use meeting::{Met, meet};
+pub use selecting::select_lines;
+
+#[cfg(test)]
+mod tests;
