@@ -6,3 +6,4 @@ pub mod Shelves
 pub mod Mended
 pub mod Found
 pub mod Opened
+pub mod Rests

@@ -1,3 +1,4 @@
 pub mod Walks
 pub mod Files
 pub mod Openings
+pub mod Rest
