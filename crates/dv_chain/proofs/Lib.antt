@@ -7,3 +7,5 @@ pub mod Mended
 pub mod Found
 pub mod Opened
 pub mod Rests
+pub mod Spots
+pub mod Created
