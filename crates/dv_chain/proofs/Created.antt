@@ -57,9 +57,10 @@ module _ (n : ℕ) (some : 1 ≤ n) (small : n < 2 ^ 32) where
   pub first_file : (file : GoodLog) × IsFirstFile file
   first_file =
       let all : All IsRecord (validity_record n ∷ []) = All-cons IsRecord (validity_record n) [] (validity_is_record n) (All-nil IsRecord) in
-      let found = written_good (new_header n) (validity_record n ∷ []) (good_new_header n some small) all (omega arith) in
-      (record { header = new_header n; spots = spots_of found.0 (validity_record n ∷ []); end = log_end (validity_record n ∷ []) },
-          record { good = found.2; header = refl; end = refl; records = one_spot found.0 found.1 })
+      let found = written_good (new_header n) (validity_record n ∷ []) (good_new_header n some small) all (omega arith) in (
+        record { header = new_header n; spots = spots_of found.0 (validity_record n ∷ []); end = log_end (validity_record n ∷ []) },
+        record { good = found.2; header = refl; end = refl; records = one_spot found.0 found.1 },
+      )
 
   -- ---- the folder
 
@@ -114,9 +115,10 @@ module _ (n : ℕ) (some : 1 ≤ n) (small : n < 2 ^ 32) where
         let of = first_chain_of chain is in
         let here : contents c name.Log ≡ first_log n = ap (λ (x : Option (List ℕ)). unwrap_or x []) log in
         let end : chain.log.end ≡ 56 = ap (λ (l : LogFile). l.end) is.log in
-        let gate : HasShutGate 56 (first_log n) = written_gate (new_header n) (validity_record n ∷ []) in
-        (holds_good chain c file (subst (IsGood file) (sym here) first_file.1.good) first_scanned (omega (arith, first_file.1.end)) of.seq of.end of.count of.indexid of.records (first_found_of chain is index log2),
-            subst (λ (k : ℕ). HasShutGate k (contents c name.Log)) (sym end) (subst (HasShutGate 56) (sym here) gate))
+        let gate : HasShutGate 56 (first_log n) = written_gate (new_header n) (validity_record n ∷ []) in (
+          holds_good chain c file (subst (IsGood file) (sym here) first_file.1.good) first_scanned (omega (arith, first_file.1.end)) of.seq of.end of.count of.indexid of.records (first_found_of chain is index log2),
+          subst (λ (k : ℕ). HasShutGate k (contents c name.Log)) (sym end) (subst (HasShutGate 56) (sym here) gate),
+        )
 
   -- ---- behind the replace
 
