@@ -134,7 +134,7 @@ told_once b (Err end.NoMemory) told s is = tt
 
 -- ---- a log is read
 
-places_of : (from : ℕ) (rs : List Record) (b : List ℕ) (end : ℕ) (rest : List ℕ) → Spelled rs b rest → from + length b ≡ end + length rest → end ≤ last_end
+pub places_of : (from : ℕ) (rs : List Record) (b : List ℕ) (end : ℕ) (rest : List ℕ) → Spelled rs b rest → from + length b ≡ end + length rest → end ≤ last_end
     → (places : List ℕ) × (length places ≡ length rs) × AreSpots from (spots_of places rs) b end rest
 places_of from [] b end rest s ends fits = ([], refl, (omega (arith, ap length s), sym s))
 places_of from (r ∷ rs) b end rest s ends fits =

@@ -1,0 +1,44 @@
+-- What a folder of a chain at rest opens to.
+use Rattle.std.specs.Prelude.{◌≡◌, ◌⊎◌, ℕ, ◌+◌, ◌-◌, List, length}
+use Rattle.dv_model.specs.declared.types.Mark.{Mark}
+use Rattle.dv_shelf.specs.Folders.{Folder}
+use Rattle.dv_logfile.specs.Layout.{closing}
+use Rattle.dv_openings.specs.Openings.{Finds, Found, IsFound}
+use Rattle.dv_chain.specs.declared.chain.Chain.{Chain}
+use Rattle.dv_chain.specs.Openings.{HasBounds, found_of}
+use Rattle.dv_chain.specs.Rest.{IsResting, Last, Nothing, Owed, Owes, Pending, next_mark}
+
+-- the place behind a group's text that stands at the chain's end; its four zero bytes are no record
+abbrev pub mark_behind : List ℕ → Chain → Mark
+mark_behind text chain = record {
+  file_seq = chain.log.file_seq;
+  offset = chain.log.end + length text - length closing;
+}
+
+-- to the chain's mailbox at its mark, or to that with what is owed
+abbrev pub MayOpen : Owed → Chain → Folder → Type 0
+MayOpen Nothing chain c = IsFound c (found_of chain)
+MayOpen (Pending text after) chain c =
+    IsFound c (found_of chain) ⊎ IsFound c (Finds after (mark_behind text chain))
+MayOpen (Last log after) chain c =
+    IsFound c (found_of chain) ⊎ IsFound c (Finds after (next_mark chain))
+
+-- whatever a crash leaves of a chain at rest opens so
+abbrev pub RestOpens : Type 0
+RestOpens =
+    (owed : Owed) (chain : Chain) (c : Folder)
+    → HasBounds chain
+    → Owes chain owed
+    → IsResting owed chain c
+    → MayOpen owed chain c
+
+-- What is opened and what is kept are equal where nothing is owed: two chains whose folder is one
+-- have one mailbox at one place.
+abbrev pub OpenedAreKept : Type 0
+OpenedAreKept =
+    (kept opened : Chain) (c : Folder)
+    → HasBounds kept
+    → Owes kept Nothing
+    → IsResting Nothing kept c
+    → IsFound c (found_of opened)
+    → found_of opened ≡ found_of kept
