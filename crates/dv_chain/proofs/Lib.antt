@@ -6,3 +6,6 @@ pub mod Shelves
 pub mod Mended
 pub mod Found
 pub mod Opened
+pub mod Rests
+pub mod Spots
+pub mod Created

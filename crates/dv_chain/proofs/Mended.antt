@@ -2,12 +2,12 @@
 use Rattle.std.proofs.Common.{◌≡◌, ◌≢◌, ◌⊎◌, inl, inr, ⊎_elim, ℕ, ◌+◌, ◌-◌, ◌≤◌, true, false, Bool, ◌||◌, nat_eq, nat_le, List, [], ◌∷◌, ◌++◌, length, take, drop, Option, Some, None, refl, sym, ◌∙◌, ap, subst, arith, append_assoc, length-append}
 use Rattle.std.specs.Prelude.{if◌then◌else◌, slice_index}
 use Rattle.std.proofs.lemmas.Bool.{eq-eqb, eqb-true, eqb-false, leb-true, le-leb}
-use Rattle.std.proofs.lemmas.List.{append-nil, drop_at, drop-append-le, drop-take, length-drop, length-take, take_all, take_at, take-append-le}
+use Rattle.std.proofs.lemmas.List.{append-nil, drop_at, drop-append-le, drop-drop, drop-take, length-drop, length-take, take_all, take_at, take-append-le}
 use Rattle.dv_shelf.specs.declared.shelf.Name.{Name}
 use Rattle.dv_shelf.specs.declared.shelf.Name.TheVariants as name
 use Rattle.dv_shelf.specs.Folders.{Folder, contents, with_file}
 use Rattle.dv_shelf.proofs.FolderLemmas.{with_else, with_same}
-use Rattle.dv_logfile.specs.Layout.{closing, last_end, longest_log}
+use Rattle.dv_logfile.specs.Layout.{IsHeader, closing, last_end, longest_log}
 use Rattle.dv_logfile.specs.Scans.{AreSpots, Good, GoodLog, IsGood, IsScanned, Scanned, Spot}
 use Rattle.dv_logfile.proofs.Logs.{header_front}
 use Rattle.dv_logfile.proofs.OneScan.{scans_one}
@@ -40,27 +40,56 @@ front from (spot ∷ spots) b end rest are =
       again = λ other. (are.0, (more.0, behind.text ++ other, append_assoc more.0 behind.text other, more.3, more.4, behind.again other));
     }
 
-module _ (spots : List Spot) (file : File) (has : HasSpots spots file) where
-  pub cut_good : IsGood (good_file file spots) (take file.end file.bytes ++ closing)
-  cut_good =
-      let b = file.bytes in
-      let hdr = file.header.hdr_size in
-      let cut = take file.end b in
-      let records = front hdr spots (drop hdr b) file.end has.good.rest has.good.records in
-      let long : length cut ≡ file.end = omega (arith, length-take file.end b, has.whole.inside) in
-      let all : length (cut ++ closing) ≡ file.end + 4 = omega (arith, length-append cut closing, long) in
-      let begun : drop hdr cut ≡ records.text =
-      ap (λ (k : ℕ). drop hdr (take k b)) (sym records.long) ∙ drop-take hdr (length records.text) b ∙ ap (λ (l : List ℕ). take (length records.text) l) records.is
-      ∙ take_at records.text has.good.rest (length records.text) refl in
-      let text : drop hdr (cut ++ closing) ≡ records.text ++ closing =
-      drop-append-le hdr cut closing (omega (arith, long, records.long)) ∙ ap (λ (l : List ℕ). l ++ closing) begun in
-      record {
-        taken = header_front file.header b (cut ++ closing) file.end has.good.taken (omega (arith, records.long)) (take-append-le file.end cut closing (omega (arith, long)) ∙ take_all file.end cut (omega (arith, long)))
-            (omega (arith, all, records.long)) (omega (arith, all, has.whole.fits));
-        rest = closing;
-        records = subst (λ (l : List ℕ). AreSpots hdr spots l file.end closing) (sym text) (records.again closing);
-        closed = refl;
-      }
+-- the place where a file's records end
+pub record Ends (file : GoodLog) (b rest : List ℕ) : Type 0 where
+  pub inside : file.end ≤ length b
+  pub behind : file.header.hdr_size ≤ file.end
+  pub is : rest ≡ drop file.end b
+  -- the same records stand before any rest
+  pub again : (other : List ℕ) → AreSpots file.header.hdr_size file.spots (drop file.header.hdr_size (take file.end b ++ other)) file.end other
+
+pub ends_at : (file : GoodLog) (b rest : List ℕ) → IsHeader file.header b → AreSpots file.header.hdr_size file.spots (drop file.header.hdr_size b) file.end rest → Ends file b rest
+ends_at file b rest taken are =
+    let hdr = file.header.hdr_size in
+    let records = front hdr file.spots (drop hdr b) file.end rest are in
+    let cut = take file.end b in
+    let inside : file.end ≤ length b = omega (arith, records.long, ap length records.is, length-append records.text rest, length-drop hdr b, taken.size.1) in
+    let long : length cut ≡ file.end = omega (arith, length-take file.end b, inside) in
+    let begun : drop hdr cut ≡ records.text =
+    ap (λ (k : ℕ). drop hdr (take k b)) (sym records.long) ∙ drop-take hdr (length records.text) b ∙ ap (λ (l : List ℕ). take (length records.text) l) records.is
+    ∙ take_at records.text rest (length records.text) refl in
+    let behind : drop file.end b ≡ rest =
+    ap (λ (k : ℕ). drop k b) (omega (arith, records.long)) ∙ sym (drop-drop (length records.text) hdr b) ∙ ap (λ (l : List ℕ). drop (length records.text) l) records.is
+    ∙ drop_at records.text rest (length records.text) refl in
+    record {
+      inside = inside;
+      behind = omega (arith, records.long);
+      is = sym behind;
+      again = λ other.
+          subst (λ (l : List ℕ). AreSpots hdr file.spots l file.end other)
+          (sym (drop-append-le hdr cut other (omega (arith, long, records.long)) ∙ ap (λ (l : List ℕ). l ++ other) begun)) (records.again other);
+    }
+
+pub ends_of : (file : GoodLog) (b : List ℕ) (good : IsGood file b) → Ends file b good.rest
+ends_of file b good = ends_at file b good.rest good.taken good.records
+
+-- the file cut at its end, and closed there
+pub cut_at_end : (file : GoodLog) (b rest : List ℕ) → IsHeader file.header b → AreSpots file.header.hdr_size file.spots (drop file.header.hdr_size b) file.end rest → file.end ≤ last_end → IsGood file (take file.end b ++ closing)
+cut_at_end file b rest taken are fits =
+    let ends = ends_at file b rest taken are in
+    let cut = take file.end b in
+    let long : length cut ≡ file.end = omega (arith, length-take file.end b, ends.inside) in
+    let all : length (cut ++ closing) ≡ file.end + 4 = omega (arith, length-append cut closing, long) in
+    record {
+      taken = header_front file.header b (cut ++ closing) file.end taken ends.behind (take-append-le file.end cut closing (omega (arith, long)) ∙ take_all file.end cut (omega (arith, long)))
+          (omega (arith, all, ends.behind)) (omega (arith, all, fits));
+      rest = closing;
+      records = ends.again closing;
+      closed = refl;
+    }
+
+pub cut_good : (file : GoodLog) (b : List ℕ) → IsGood file b → file.end ≤ last_end → IsGood file (take file.end b ++ closing)
+cut_good file b good fits = cut_at_end file b good.rest good.taken good.records fits
 
 -- the end is open: it is cut and closed
 pub open_end : (file : File) → file.end ≤ length file.bytes → (nat_le (length file.bytes) file.end || nat_eq (slice_index file.bytes file.end) 0x80) ≡ true → mended file.bytes file.end ≡ take file.end file.bytes ++ closing
@@ -101,6 +130,20 @@ shut_end file is = by_both (nat_le (length file.bytes) file.end) (nat_eq (slice_
 
 -- ---- the folder
 
+-- with the same records in the log, and the same index and rotated log, a folder opens to the same
+pub found_again : (old c : Folder) (file : GoodLog) → IsScanned (old name.Log) (Good file) → IsScanned (c name.Log) (Good file) → c name.Log2 ≡ old name.Log2 → c name.Index ≡ old name.Index → (f : Found) → IsFound old f → IsFound c f
+found_again old c file here there log2 index f found =
+    let one : found.log ≡ Good file = scans_one (old name.Log) found.log (Good file) found.log_file here in
+    record {
+      log = Good file;
+      rotated = found.rotated;
+      index = found.index;
+      log_file = there;
+      rotated_file = subst (λ (x : Option (List ℕ)). IsScanned x found.rotated) (sym log2) (subst (λ (x : Scanned). IfGood x (IsScanned (old name.Log2) found.rotated)) one found.rotated_file);
+      index_file = subst (λ (x : Option (List ℕ)). IsIndex x found.index) (sym index) (subst (λ (x : Scanned). IfGood x (IsIndex (old name.Index) found.index)) one found.index_file);
+      is = found.is ∙ ap (λ (x : Scanned). found_in x found.rotated found.index) one;
+    }
+
 -- a folder whose log's end was mended opens to the same
 pub quiet : (old c : Folder) (log : File) (is : IsLogOf old log) → IsMended old log c → IsQuiet old c
 quiet old c log is mend = ⊎_elim same put mend
@@ -109,28 +152,16 @@ quiet old c log is mend = ⊎_elim same put mend
     good = by_gate (nat_le (length log.bytes) log.end || nat_eq (slice_index log.bytes log.end) 0x80) refl
       where
         by_gate : (x : Bool) → (nat_le (length log.bytes) log.end || nat_eq (slice_index log.bytes log.end) 0x80) ≡ x → IsGood (good_file log is.spots) (mended log.bytes log.end)
-        by_gate true open_gate = subst (IsGood (good_file log is.spots)) (sym (open_end log is.has.whole.inside open_gate)) (cut_good is.spots log is.has)
+        by_gate true open_gate = subst (IsGood (good_file log is.spots)) (sym (open_end log is.has.whole.inside open_gate)) (cut_good (good_file log is.spots) log.bytes is.has.good is.has.whole.fits)
         by_gate false shut_gate = subst (IsGood (good_file log is.spots)) (sym (shut_end log shut_gate)) is.has.good
 
     same : c ≡ old → IsQuiet old c
     same e = record { opens = λ f found. subst (λ (d : Folder). IsFound d f) (sym e) found; others = λ n other. ap (λ (d : Folder). d n) e }
 
-    found_again : (f : Found) → IsFound old f → IsFound (with_file old name.Log (Some (mended log.bytes log.end))) f
-    found_again f found =
-        let here : IsScanned (old name.Log) (Good (good_file log is.spots)) = subst (λ (x : Option (List ℕ)). IsScanned x (Good (good_file log is.spots))) (sym is.file) is.has.good in
-        let one : found.log ≡ Good (good_file log is.spots) = scans_one (old name.Log) found.log (Good (good_file log is.spots)) found.log_file here in
-        record {
-          log = Good (good_file log is.spots);
-          rotated = found.rotated;
-          index = found.index;
-          log_file = good;
-          rotated_file = subst (λ (x : Scanned). IfGood x (IsScanned (old name.Log2) found.rotated)) one found.rotated_file;
-          index_file = subst (λ (x : Scanned). IfGood x (IsIndex (old name.Index) found.index)) one found.index_file;
-          is = found.is ∙ ap (λ (x : Scanned). found_in x found.rotated found.index) one;
-        }
-
     put : c ≡ with_file old name.Log (Some (mended log.bytes log.end)) → IsQuiet old c
     put e = record {
-      opens = λ f found. subst (λ (d : Folder). IsFound d f) (sym e) (found_again f found);
+      opens = λ f found.
+          found_again old c (good_file log is.spots) (subst (λ (x : Option (List ℕ)). IsScanned x (Good (good_file log is.spots))) (sym is.file) is.has.good)
+          (subst (λ (d : Folder). IsScanned (d name.Log) (Good (good_file log is.spots))) (sym e) good) (ap (λ (d : Folder). d name.Log2) e) (ap (λ (d : Folder). d name.Index) e) f found;
       others = λ n other. ap (λ (d : Folder). d n) e ∙ with_else old name.Log (Some (mended log.bytes log.end)) n other;
     }

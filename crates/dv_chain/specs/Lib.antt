@@ -1,3 +1,5 @@
 pub mod Walks
 pub mod Files
 pub mod Openings
+pub mod Rest
+pub mod Creations

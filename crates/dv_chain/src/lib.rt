@@ -3,6 +3,7 @@
 #![tactic(auto)]
 
 mod chain;
+mod creating;
 mod file;
 mod index;
 mod joining;
@@ -13,6 +14,7 @@ mod sends;
 mod walking;
 
 pub use chain::Chain;
+pub use creating::create;
 pub use opening::open;
 
 #[cfg(test)]

@@ -7,6 +7,7 @@ ghost use Rattle.dv_shelf.specs.declared.shelf.Name.TheVariants as name;
 ghost use Rattle.dv_openings.specs.Openings.{IsFound};
 ghost use Rattle.dv_chain.specs.Files.{HasHeader, IsWhole};
 ghost use Rattle.dv_chain.specs.Openings.{Answers, AreFilesOf, AreWhole, FaultFound, HasBounds, HasCause, IsChainOf, IsEndOf, IsIndexOf, IsLogOf, IsOutside, IsQuiet, IsRotatedOf, LeavesFolder, OnlyLooks, found_of};
+ghost use Rattle.dv_chain.specs.Rest.{Nothing, Rests};
 
 use crate::Chain;
 use crate::file::File;
@@ -176,6 +177,9 @@ pub fn open<S: Shelf>(alloc: Global, shelf: &mut S) -> Result<Chain, OpenFault>
         LeavesOnly S.moment S.left_since shelf.old shelf.new (IsQuiet (S.files shelf.old)) }
     ensures settled { S.tells → IsSettled S.files S.may_leave shelf.old →
         OnOk result (IsSettled S.files S.may_leave shelf.new) }
+    // Behind Ok the chain is at rest, and owes nothing.
+    ensures rests { S.tells → IsSettled S.files S.may_leave shelf.old →
+        IfOk result (λ chain. Rests S.may_leave Nothing chain shelf.new) }
     // No message file is read; a fault of the disk has its cause.
     ensures mail_reads { S.mail_reads shelf.new ≡ counted (S.mail_reads shelf.old) 0 }
     ensures cause { HasCause (S.fault_count shelf.old) (S.fault_count shelf.new) result }

@@ -3,6 +3,7 @@ use Rattle.std.proofs.lemmas.Result.{err_from_is_err_and}
 use Rattle.dv_shelf.specs.Folders.{Folder}
 use Rattle.dv_chain.specs.Openings.{LeavesMended}
 use Rattle.dv_chain.proofs.Opened.{chain_of, fault_leaves, opened_quiet, still_there}
+use Rattle.dv_chain.proofs.Rests.{opened_put, opened_rests}
 use Rattle.dv_chain.proofs.Shelves.{settled_still}
 use Rattle.dv_chain.proofs.opening.open.Goals as goal
 
@@ -40,3 +41,17 @@ returns-clause-quiet g c = λ tells settled.
     let there = still_there S.files S.may_leave S.moment S.left_since c.args.shelf.now c.find.new.shelf c.in_ok-log.log end.is looks in
     let still = settled_still S.files S.may_leave S.moment S.left_since c.args.shelf.now c.find.new.shelf settled looks in
     opened_quiet S.files S.may_leave S.moment S.left_since c.args.shelf.now c.find.new.shelf c.mend.new.shelf c.in_ok-log.log end.is settled looks (c.mend.ensures.since tells there still)
+
+pub returns-clause-rests : goal.returns-clause-rests
+returns-clause-rests g c = λ tells settled.
+    let S = g.S.Shelf in
+    let old = c.args.shelf.now in
+    let end = c.in_ok-log.ensures.ok tells in
+    let looks = c.find.ensures.looks tells in
+    let there = still_there S.files S.may_leave S.moment S.left_since old c.find.new.shelf c.in_ok-log.log end.is looks in
+    let still = settled_still S.files S.may_leave S.moment S.left_since old c.find.new.shelf settled looks in
+    let put = opened_put (S.files old) (S.files c.find.new.shelf) (S.files c.mend.new.shelf) c.in_ok-log.log end.is looks.same (c.in_ok-mend.ensures.files tells there) in
+    opened_rests S.files S.may_leave old c.mend.new.shelf _
+    (chain_of (S.files old) c.in_ok-log.log end.is _ refl refl refl refl refl refl)
+    (record { end = c.in_ok-log.ensures.whole.fits; count = c.in_ok-log.ensures.whole.count })
+    end.found put (c.in_ok-mend.ensures.settled tells still)
