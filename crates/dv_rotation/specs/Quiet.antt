@@ -1,0 +1,59 @@
+-- What is found in the folders that a checkpoint and a rotation leave, at any moment and behind
+-- them. The records take the members of a shelf's type.
+use Rattle.std.specs.Prelude.{◌⊎◌, ℕ, Result, Ok, Err, OnOk}
+use Rattle.dv_shelf.specs.Crashes.{LeavesOnly}
+use Rattle.dv_shelf.specs.Folders.{Folder}
+use Rattle.dv_openings.specs.Openings.{Finds, IsFound}
+use Rattle.dv_chain.specs.declared.chain.Chain.{Chain}
+use Rattle.dv_chain.specs.Openings.{found_of}
+use Rattle.dv_chain.specs.Rest.{Last, Nothing, Rests, next_mark}
+use Rattle.dv_rotation.specs.declared.fault.TurnEnd.{TurnEnd}
+use Rattle.dv_rotation.specs.declared.fault.TurnEnd.TheVariants as end
+use Rattle.dv_rotation.specs.declared.texts.Turn.{Turn}
+
+-- the folder opens to the chain's mailbox at its place
+abbrev pub Opens : Chain → Folder → Type 0
+Opens chain c = IsFound c (found_of chain)
+
+-- or at the first place of the next file
+abbrev pub OpensEither : Chain → Folder → Type 0
+OpensEither chain c = Opens chain c ⊎ IsFound c (Finds chain.live.mailbox (next_mark chain))
+
+-- at any moment a crash leaves a folder that opens to the chain's mailbox at its place; behind it
+-- the chain is at rest
+pub record StaysAtRest {S : Type 0} (may_leave : S → Folder → Type 0) (moment : S → ℕ)
+    (left_since : S → ℕ → Folder → Type 0) (chain : Chain) (old new : S) : Type 0 where
+  pub since : LeavesOnly moment left_since old new (Opens chain)
+  pub rests : Rests may_leave Nothing chain new
+
+-- behind Ok and Before nothing is owed, behind Last the last replace
+abbrev pub RestsTurned : {S : Type 0} → (S → Folder → Type 0) → Turn → Chain → S → {T : Type 0}
+    → Result T TurnEnd → Type 0
+RestsTurned may_leave turn chain shelf (Ok x) = Rests may_leave Nothing chain shelf
+RestsTurned may_leave turn chain shelf (Err end.Before) = Rests may_leave Nothing chain shelf
+RestsTurned may_leave turn chain shelf (Err end.Last) =
+    Rests may_leave (Last turn.new chain.live.mailbox) chain shelf
+
+-- at any moment of a rotation a crash leaves a folder that opens to the same mailbox, and behind Ok
+-- in the new file; behind it the chain is at rest
+pub record TurnsQuietly {S : Type 0} (may_leave : S → Folder → Type 0) (moment : S → ℕ)
+    (left_since : S → ℕ → Folder → Type 0) (turn : Turn) (chain new_chain : Chain) {T : Type 0}
+    (result : Result T TurnEnd) (old new : S) : Type 0 where
+  pub since : LeavesOnly moment left_since old new (OpensEither chain)
+  pub found : OnOk result ((c : Folder) → may_leave new c → Opens new_chain c)
+  pub rests : RestsTurned may_leave turn new_chain new result
+
+-- behind Ok nothing is owed, behind an error still the last replace
+abbrev pub RestsFinished : {S : Type 0} → (S → Folder → Type 0) → Turn → Chain → S
+    → {T E : Type 0} → Result T E → Type 0
+RestsFinished may_leave turn chain shelf (Ok x) = Rests may_leave Nothing chain shelf
+RestsFinished may_leave turn chain shelf (Err e) =
+    Rests may_leave (Last turn.new chain.live.mailbox) chain shelf
+
+-- the same of the last replace, made again
+pub record FinishesQuietly {S : Type 0} (may_leave : S → Folder → Type 0) (moment : S → ℕ)
+    (left_since : S → ℕ → Folder → Type 0) (turn : Turn) (chain new_chain : Chain)
+    {T E : Type 0} (result : Result T E) (old new : S) : Type 0 where
+  pub since : LeavesOnly moment left_since old new (OpensEither chain)
+  pub found : OnOk result ((c : Folder) → may_leave new c → Opens new_chain c)
+  pub rests : RestsFinished may_leave turn new_chain new result
