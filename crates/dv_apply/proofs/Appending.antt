@@ -12,7 +12,7 @@ use Rattle.dv_model.specs.Effects.{fresh_row, stamped, with_higher, with_row, wi
 use Rattle.dv_model.specs.Mailboxes.{IsValid}
 use Rattle.dv_validity.proofs.Comparisons.{stamped_with_more}
 use Rattle.dv_validity.proofs.Rows.{map_map}
-use Rattle.dv_apply.specs.Bodies.{Refused, after_body, first_refused}
+use Rattle.dv_apply.specs.Bodies.{Refused, after_body, first_refused, next_after}
 
 not_below : (a b : ℕ) → nat_lt a b ≡ false → b ≤ a
 not_below a b e = grind (arith, nat_tests)
@@ -55,11 +55,7 @@ all_new next (row ∷ rows) e = new_by next row rows (nat_lt row.uid next) refl 
 
 -- ---- what stands behind them
 
-abbrev next_after : ℕ → List NewRow → ℕ
-next_after next [] = next
-next_after next (row ∷ rows) = next_after (row.uid + 1) rows
-
-folded : (m : Mailbox) (rows : List NewRow) → fold with_row m rows ≡ record m { rows = m.rows ++ map (fresh_row m) rows; next_uid = next_after m.next_uid rows }
+pub folded : (m : Mailbox) (rows : List NewRow) → fold with_row m rows ≡ record m { rows = m.rows ++ map (fresh_row m) rows; next_uid = next_after m.next_uid rows }
 folded m [] = ap (λ (rs : List Row). record m { rows = rs }) (sym (append-nil m.rows))
 folded m (row ∷ rows) =
     folded (with_row m row) rows

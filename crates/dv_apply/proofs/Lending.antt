@@ -27,16 +27,16 @@ filter_each p q [] same = refl
 filter_each p q (x ∷ xs) same =
     ap (λ (b : Bool). cond b (x ∷ filter p xs) (filter p xs)) (All-head (λ y. p y ≡ q y) x xs same) ∙ ap (λ ys. cond (q x) (x ∷ ys) ys) (filter_each p q xs (All-tail (λ y. p y ≡ q y) x xs same))
 
-or_false : (a b : Bool) → b ≡ false → a ≡ (a || b)
+pub or_false : (a b : Bool) → b ≡ false → a ≡ (a || b)
 or_false true false e = refl
 or_false false false e = refl
 or_false a true e = absurd cc
 
-above : (bound uid : ℕ) → uid < bound → nat_le bound uid ≡ false
+pub above : (bound uid : ℕ) → uid < bound → nat_le bound uid ≡ false
 above bound uid h = grind (arith, nat_tests)
 
 -- no row of the mailbox is new
-pub among_parted : (m : Mailbox) (uids : List ℕ) → IsValid m → filter (λ row. is_among uids row.uid) m.rows ≡ filter (λ row. is_parted uids m.next_uid row.uid) m.rows
+among_parted : (m : Mailbox) (uids : List ℕ) → IsValid m → filter (λ row. is_among uids row.uid) m.rows ≡ filter (λ row. is_parted uids m.next_uid row.uid) m.rows
 among_parted m uids valid =
     filter_each (λ (row : Row). is_among uids row.uid) (λ (row : Row). is_parted uids m.next_uid row.uid) m.rows
     (All-weaker (IsRowOf m) (λ (row : Row). is_among uids row.uid ≡ is_parted uids m.next_uid row.uid)

@@ -1,5 +1,6 @@
 mod Appending
 mod Applying
+mod Testing
 mod Lending
 mod Readying
 mod Replacing

@@ -1,5 +1,5 @@
 -- What is made ready of records is what they make of the mailbox.
-use Rattle.std.proofs.Common.{◌≡◌, ◌≢◌, ◌⊎◌, inl, inr, ◌↔◌, ℕ, ◌≤◌, Bool, true, false, List, ◌++◌, length, get_or, nat_eq, nat_le, Option, Some, None, refl, sym, ◌∙◌, ap, subst, arith}
+use Rattle.std.proofs.Common.{◌≡◌, ◌≢◌, ◌⊎◌, inl, inr, ◌↔◌, ℕ, ◌<◌, ◌≤◌, Bool, true, false, List, ◌++◌, length, get_or, nat_eq, nat_le, Option, Some, None, refl, sym, ◌∙◌, ap, subst, arith}
 use Rattle.std.specs.Prelude.{◌||◌, All, Contains, IsSomeAnd, count_by, filter, find, map, not, option_map, take, Result, Ok, Err, IfOk}
 use Rattle.std.specs.List.Sorted.{IsStrictlyIncreasing}
 use Rattle.std.proofs.lemmas.Bool.Decides.{nat_tests}
@@ -13,7 +13,7 @@ use Rattle.dv_model.specs.declared.types.Record.{Record}
 use Rattle.dv_model.specs.declared.types.Row.{Row}
 use Rattle.dv_model.specs.Effects.{applied}
 use Rattle.dv_model.specs.Fresh.{IsTouched}
-use Rattle.dv_model.specs.Mailboxes.{IsValid}
+use Rattle.dv_model.specs.Mailboxes.{IsRowOf, IsValid}
 use Rattle.dv_model.specs.Views.{shown}
 use Rattle.dv_portion.proofs.Portioned.{records_portion}
 use Rattle.dv_portion.proofs.Staying.{rest_stays}
@@ -25,7 +25,7 @@ use Rattle.dv_touched.proofs.Told.{uid_found}
 use Rattle.dv_touched.specs.Telling.{Differs, shown_in}
 use Rattle.dv_validity.proofs.Records.{all_in_range_valid}
 use Rattle.dv_validity.specs.Laws.{IsInRange}
-use Rattle.dv_apply.proofs.Lending.{among_parted}
+use Rattle.dv_apply.proofs.Lending.{above, or_false}
 use Rattle.dv_apply.specs.Bodies.{Refused, refused_row}
 use Rattle.dv_apply.specs.Preparing.{IsRefused, Makes, Ready, alone}
 use Rattle.dv_apply.specs.States.{Held}
@@ -107,19 +107,16 @@ all_spare m rs named uids are kept k d n less at valid =
 
 -- ---- touched UIDs
 
-module _ (m n : Mailbox) (uids : List ℕ) (before behind : List Row) (valid : IsValid m)
-    (first : before ≡ filter (λ row. is_among uids row.uid) m.rows)
+module _ (m n : Mailbox) (uids : List ℕ) (behind : List Row) (valid : IsValid m)
     (second : behind ≡ filter (λ row. is_parted uids m.next_uid row.uid) n.rows)
     (others : rest (is_parted uids m.next_uid) n.rows ≡ rest (is_parted uids m.next_uid) m.rows) where
   abbrev test : ℕ → Bool
   test = is_parted uids m.next_uid
 
-  -- for a UID that passes the portions differ where the mailboxes do
-  alike : (uid : ℕ) → test uid ≡ true → Differs before behind uid ≡ IsTouched m n uid
+  -- for a UID that passes the portion differs where the mailbox does
+  alike : (uid : ℕ) → test uid ≡ true → Differs m.rows behind uid ≡ IsTouched m n uid
   alike uid passes =
-      ap (λ (rows : List Row). Differs rows behind uid) (first ∙ among_parted m uids valid)
-      ∙ ap (λ (rows : List Row). Differs (filter (λ (row : Row). test row.uid) m.rows) rows uid) second
-      ∙ ap (λ s. s ≢ shown_in (filter (λ (row : Row). test row.uid) n.rows) uid) (sym (seen_filtered uid (λ (row : Row). test row.uid) (λ row e. ap test e ∙ passes) m.rows))
+      ap (λ (rows : List Row). Differs m.rows rows uid) second
       ∙ ap (λ s. shown_in m.rows uid ≢ s) (sym (seen_filtered uid (λ (row : Row). test row.uid) (λ row e. ap test e ∙ passes) n.rows))
 
   -- for another they don't
@@ -140,21 +137,23 @@ module _ (m n : Mailbox) (uids : List ℕ) (before behind : List Row) (valid : I
   passes_by uid (inr is) = behind_passes uid is
 
   -- one of them has a row of it
-  found_by : (uid : ℕ) → Differs before behind uid → (o p : Option Row) → find (λ row. nat_eq row.uid uid) before ≡ o → find (λ row. nat_eq row.uid uid) behind ≡ p → Contains uids uid ⊎ HasUid behind uid
-  found_by uid differs None None e f = absurd (differs (ap (option_map shown) (e ∙ sym f)))
-  found_by uid differs o (Some row) e f = inr (has_row behind row uid (contained uid behind row f) (uid_found uid behind row f))
-  found_by uid differs (Some row) None e f =
-      let (k, h, at) = contained uid before row e in
-      let each : All (λ (r : Row). is_among uids r.uid ≡ true) before = subst (All (λ (r : Row). is_among uids r.uid ≡ true)) (sym first) (filter_passes (λ (r : Row). is_among uids r.uid) m.rows) in
-      inl (among_only uids uid (ap (is_among uids) (sym (ap (λ (r : Row). r.uid) at ∙ uid_found uid before row e)) ∙ each k row h))
+  found_by : (uid : ℕ) → test uid ≡ true → Differs m.rows behind uid → (o p : Option Row) → find (λ row. nat_eq row.uid uid) m.rows ≡ o → find (λ row. nat_eq row.uid uid) behind ≡ p → Contains uids uid ⊎ HasUid behind uid
+  found_by uid passes differs None None e f = absurd (differs (ap (option_map shown) (e ∙ sym f)))
+  found_by uid passes differs o (Some row) e f = inr (has_row behind row uid (contained uid behind row f) (uid_found uid behind row f))
+  found_by uid passes differs (Some row) None e f =
+      let (k, h, at) = contained uid m.rows row e in
+      let is : IsRowOf m (get_or m.rows k row) = valid.rows k row h in
+      let same : (get_or m.rows k row).uid ≡ uid = ap (λ (r : Row). r.uid) at ∙ uid_found uid m.rows row e in
+      let low : uid < m.next_uid = omega (arith, is.uid.1, same) in
+      inl (among_only uids uid (or_false (is_among uids uid) (nat_le m.next_uid uid) (above m.next_uid uid low) ∙ passes))
 
-  touched_by : (uid : ℕ) → IsTouched m n uid → (b : Bool) → test uid ≡ b → (Contains uids uid ⊎ HasUid behind uid) × Differs before behind uid
+  touched_by : (uid : ℕ) → IsTouched m n uid → (b : Bool) → test uid ≡ b → (Contains uids uid ⊎ HasUid behind uid) × Differs m.rows behind uid
   touched_by uid touched false e = absurd (untouched uid e touched)
   touched_by uid touched true e =
-      let differs : Differs before behind uid = subst (λ (T : Type 0). T) (sym (alike uid e)) touched in
-      (found_by uid differs (find (λ row. nat_eq row.uid uid) before) (find (λ row. nat_eq row.uid uid) behind) refl refl, differs)
+      let differs : Differs m.rows behind uid = subst (λ (T : Type 0). T) (sym (alike uid e)) touched in
+      (found_by uid e differs (find (λ row. nat_eq row.uid uid) m.rows) (find (λ row. nat_eq row.uid uid) behind) refl refl, differs)
 
-  pub touched_are : (uid : ℕ) → ((Contains uids uid ⊎ HasUid behind uid) × Differs before behind uid) ↔ IsTouched m n uid
+  pub touched_are : (uid : ℕ) → ((Contains uids uid ⊎ HasUid behind uid) × Differs m.rows behind uid) ↔ IsTouched m n uid
   touched_are uid = (λ (either, differs). subst (λ (T : Type 0). T) (alike uid (passes_by uid either)) differs, λ touched. touched_by uid touched (test uid) refl)
 
 -- ---- all together
@@ -167,23 +166,22 @@ all_named rows named uids back each =
     All-weaker (Contains uids) (HasUid rows) (λ uid h. let (k, less, at) = back uid h in subst (HasUid rows) at (each k uid less)) uids (All-contains_itself uids)
 
 -- what was found of the group before and behind
-pub record IsFound (m : Mailbox) (rs : List Record) (spare : ℕ) (hidden : List (List ℕ)) (p : Ready) (named : List ℕ) (before : List Row) : Type 0 where
+pub record IsFound (m : Mailbox) (rs : List Record) (spare : ℕ) (hidden : List (List ℕ)) (p : Ready) (named : List ℕ) : Type 0 where
   pub valid : IsValid m
   pub range : All (λ r. IsInRange r.body) rs
   pub named_all : AreAllNamed (length rs) m rs m.rows named
   pub same : (uid : ℕ) → Contains p.uids uid ↔ Contains named uid
   pub only : All (HasUid m.rows) named
   pub rising : IsStrictlyIncreasing p.uids
-  pub first : before ≡ filter (λ row. is_among p.uids row.uid) m.rows
   pub names : p.share.names ≤ length hidden
   pub applied : applied (portion (is_parted p.uids m.next_uid) m) rs ≡ Some (alone (m.keywords ++ take p.share.names hidden) p.share)
   pub appended : count_by (λ row. nat_le m.next_uid row.uid) p.share.rows.rows ≡ p.appended
   pub spare_is : p.appended ≤ spare
-  pub touched : (uid : ℕ) → Contains p.touched uid ↔ ((Contains p.uids uid ⊎ HasUid p.share.rows.rows uid) × Differs before p.share.rows.rows uid)
+  pub touched : (uid : ℕ) → Contains p.touched uid ↔ ((Contains p.uids uid ⊎ HasUid p.share.rows.rows uid) × Differs m.rows p.share.rows.rows uid)
 
-makes_by : (m n : Mailbox) (rs : List Record) (spare : ℕ) (hidden : List (List ℕ)) (p : Ready) (named : List ℕ) (before : List Row) → IsFound m rs spare hidden p named before
+makes_by : (m n : Mailbox) (rs : List Record) (spare : ℕ) (hidden : List (List ℕ)) (p : Ready) (named : List ℕ) → IsFound m rs spare hidden p named
     → applied m rs ≡ Some n → portion (is_parted p.uids m.next_uid) n ≡ alone (m.keywords ++ take p.share.names hidden) p.share → Makes (record { mailbox = m; spare = spare; hidden = hidden }) p n
-makes_by m n rs spare hidden p named before is e same =
+makes_by m n rs spare hidden p named is e same =
     let test : ℕ → Bool = is_parted p.uids m.next_uid in
     let new : HoldsNew test m.next_uid = holds_new p.uids m.next_uid in
     let others : rest test n.rows ≡ rest test m.rows = rest_stays test m n rs is.valid is.range new (all_spare m rs named p.uids is.named_all (λ uid h. (is.same uid).1 h)) e in
@@ -197,17 +195,17 @@ makes_by m n rs spare hidden p named before is e same =
       appended = is.appended;
       spare = is.spare_is;
       touched = λ uid.
-          touched_both (Contains p.touched uid) ((Contains p.uids uid ⊎ HasUid p.share.rows.rows uid) × Differs before p.share.rows.rows uid) (IsTouched m n uid) (is.touched uid)
-          (touched_are m n p.uids before p.share.rows.rows is.valid is.first (sym (ap (λ (x : Mailbox). x.rows) same)) others uid);
+          touched_both (Contains p.touched uid) ((Contains p.uids uid ⊎ HasUid p.share.rows.rows uid) × Differs m.rows p.share.rows.rows uid) (IsTouched m n uid) (is.touched uid)
+          (touched_are m n p.uids p.share.rows.rows is.valid (sym (ap (λ (x : Mailbox). x.rows) same)) others uid);
     }
 
-some_by : (m : Mailbox) (rs : List Record) (spare : ℕ) (hidden : List (List ℕ)) (p : Ready) (named : List ℕ) (before : List Row) → IsFound m rs spare hidden p named before
+some_by : (m : Mailbox) (rs : List Record) (spare : ℕ) (hidden : List (List ℕ)) (p : Ready) (named : List ℕ) → IsFound m rs spare hidden p named
     → (o : Option Mailbox) → applied m rs ≡ o → option_map (portion (is_parted p.uids m.next_uid)) o ≡ Some (alone (m.keywords ++ take p.share.names hidden) p.share)
     → IsSomeAnd o (Makes (record { mailbox = m; spare = spare; hidden = hidden }) p)
-some_by m rs spare hidden p named before is None at e = absurd cc
-some_by m rs spare hidden p named before is (Some n) at e = let same : portion (is_parted p.uids m.next_uid) n ≡ alone (m.keywords ++ take p.share.names hidden) p.share = cc in makes_by m n rs spare hidden p named before is at same
+some_by m rs spare hidden p named is None at e = absurd cc
+some_by m rs spare hidden p named is (Some n) at e = let same : portion (is_parted p.uids m.next_uid) n ≡ alone (m.keywords ++ take p.share.names hidden) p.share = cc in makes_by m n rs spare hidden p named is at same
 
-pub ready : (m : Mailbox) (rs : List Record) (live : Held) (p : Ready) (named : List ℕ) (before : List Row) → IsFound m rs live.spare live.hidden p named before → live.mailbox ≡ m → IsSomeAnd (applied m rs) (Makes live p)
-ready m rs live p named before is same =
+pub ready : (m : Mailbox) (rs : List Record) (live : Held) (p : Ready) (named : List ℕ) → IsFound m rs live.spare live.hidden p named → live.mailbox ≡ m → IsSomeAnd (applied m rs) (Makes live p)
+ready m rs live p named is same =
     subst (λ (x : Mailbox). IsSomeAnd (applied m rs) (Makes (record { mailbox = x; spare = live.spare; hidden = live.hidden }) p)) (sym same)
-    (some_by m rs live.spare live.hidden p named before is (applied m rs) refl (sym (records_portion (is_parted p.uids m.next_uid) m rs (holds_new p.uids m.next_uid)) ∙ is.applied))
+    (some_by m rs live.spare live.hidden p named is (applied m rs) refl (sym (records_portion (is_parted p.uids m.next_uid) m rs (holds_new p.uids m.next_uid)) ∙ is.applied))

@@ -25,6 +25,11 @@ abbrev pub first_refused : ℕ → List NewRow → Option Refused
 first_refused next [] = None
 first_refused next (row ∷ rows) = if nat_lt row.uid next then Some (record { uid = row.uid; next_uid = next }) else first_refused (row.uid + 1) rows
 
+-- the UIDNEXT behind all of them
+abbrev pub next_after : ℕ → List NewRow → ℕ
+next_after next [] = next
+next_after next (row ∷ rows) = next_after (row.uid + 1) rows
+
 -- only a row of an append is refused
 abbrev pub refused_row : Mailbox → Body → Option Refused
 refused_row m (Append rows) = first_refused m.next_uid rows

@@ -1,9 +1,9 @@
-ghost use Rattle.std.specs.Prelude.{◌≡◌, ℕ, ◌-◌, ◌^◌, ◌<◌, ◌≤◌, All, OnOk, OnErr, Ok, Err, Some, None, fold, length, max};
+ghost use Rattle.std.specs.Prelude.{◌≡◌, ℕ, ◌-◌, ◌^◌, ◌<◌, ◌≤◌, All, IfOk, OnOk, OnErr, Ok, Err, Some, None, fold, length, max};
 ghost use Rattle.dv_model.specs.declared.types.Body.TheVariants.{Append};
 ghost use Rattle.dv_model.specs.Effects.{with_row};
 ghost use Rattle.dv_model.specs.Mailboxes.{IsValid};
 ghost use Rattle.dv_apply.specs.Answers.{OnBadAppend};
-ghost use Rattle.dv_apply.specs.Bodies.{Refused, first_refused};
+ghost use Rattle.dv_apply.specs.Bodies.{Refused, first_refused, next_after};
 ghost use Rattle.dv_apply.specs.States.{Becomes, HasSpare, IsKept, kept_of, mailbox_of};
 ghost use Rattle.dv_apply.specs.declared.fault.ApplyFault.TheVariants as fault;
 
@@ -13,10 +13,11 @@ use crate::fault::ApplyFault;
 use crate::state::State;
 use dv_model::{NewRow, NoMemory};
 
-/// Tests that each row has a UID that wasn't given out before.
-pub fn test_rows(rows: &[NewRow], next_uid: u32) -> Result<(), ApplyFault>
+/// Tests that each row has a UID that wasn't given out before, and answers the UIDNEXT behind them.
+pub fn test_rows(rows: &[NewRow], next_uid: u32) -> Result<u32, ApplyFault>
     requires { All (λ row. row.uid < 2 ^ 32 - 1) rows.now }
     ensures ok { OnOk result (first_refused next_uid rows.now ≡ None) }
+    ensures next { IfOk result (λ next. next ≡ next_after next_uid rows.now) }
     ensures bad { OnBadAppend result (λ refused. first_refused next_uid rows.now ≡ Some refused) }
     ensures refused { (refused : Refused) → first_refused next_uid rows.now ≡ Some refused →
         result ≡ Err (fault.BadAppend refused.uid refused.next_uid) }
@@ -32,7 +33,7 @@ pub fn test_rows(rows: &[NewRow], next_uid: u32) -> Result<(), ApplyFault>
         }
         next = row.uid + 1;
     }
-    Ok(())
+    Ok(next)
 }
 
 /// Makes room for so many rows more, with their zero bytes.

@@ -44,8 +44,8 @@ fn numbers_behind(part: &Part, uid_validity: u32, next_uid: u32) -> (u32, u32)
     )
 }
 
-// The UIDVALIDITY and the UIDNEXT behind all parts.
-fn numbers_after(parts: &[Part], uid_validity: u32, next_uid: u32) -> (u32, u32)
+/// The UIDVALIDITY and the UIDNEXT behind all parts.
+pub fn numbers_after(parts: &[Part], uid_validity: u32, next_uid: u32) -> (u32, u32)
     ensures is { (m : Mailbox) → m.uid_validity ≡ uid_validity → m.next_uid ≡ next_uid
         → fold with_header_part m parts.now
         ≡ record m { uid_validity = result.0; next_uid = result.1 } }

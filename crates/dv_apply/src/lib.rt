@@ -18,6 +18,7 @@ mod live;
 mod parts;
 mod prepare;
 mod raising;
+mod refusals;
 mod sends;
 mod share;
 mod state;

@@ -133,8 +133,8 @@ impl Live {
     }
 
     /// Takes all the memory that these records need, in time by the rows that they name, and leaves
-    /// the mailbox as it is. `BadAppend` names the first refused row of the first refused record.
-    /// Where new rows come, as many are spare.
+    /// the mailbox as it is. `BadAppend` names the first refused row of the first refused record,
+    /// before any memory is taken. Where new rows come, as many are spare.
     pub fn prepare(&mut self, records: &[Record]) -> Result<Prepared, ApplyFault>
         requires { All IsRecord records.now }
         ensures mailbox { self.new.mailbox ≡ self.old.mailbox }
@@ -142,11 +142,17 @@ impl Live {
         ensures ok { IfOk result (λ prepared.
             IsSomeAnd (applied self.old.mailbox records.now) (Makes self.new prepared)) }
         ensures bad { OnBadAppend result (IsRefused self.old.mailbox records.now) }
+        // A refused row is named before any memory is taken.
+        ensures refused { (refused : Refused) → IsRefused self.old.mailbox records.now refused →
+            result ≡ Err (fault.BadAppend refused.uid refused.next_uid) }
         ensures spare { IfOk result (λ prepared. self.new.spare
             ≡ max prepared.appended self.old.spare) }
         ensures err { OnErr result (self.new.spare ≡ self.old.spare) }
     {
-        let made = prepare(&mut self.state, records)?;
+        let made = match prepare(&mut self.state, records) {
+            Ok(made) => made,
+            Err(e) => return Err(e),
+        };
         Ok(Prepared { made })
     }
 

@@ -1,16 +1,19 @@
-ghost use Rattle.std.specs.Prelude.{◌≡◌, ◌↔◌, ◌⊎◌, ℕ, ◌<◌, ◌≤◌, ◌^◌, All, Contains, IfOk, IsSomeAnd, OnErr, OnOk, count_by, length, max, nat_le};
+ghost use Rattle.std.specs.Prelude.{◌≡◌, ◌↔◌, ◌⊎◌, ℕ, ◌<◌, ◌≤◌, ◌^◌, All, Contains, IfOk, IsSomeAnd, OnErr, OnOk, Err, count_by, length, max, nat_le};
 ghost use Rattle.std.specs.List.Sorted.{IsStrictlyIncreasing};
 ghost use Rattle.dv_model.specs.Effects.{applied};
 ghost use Rattle.dv_model.specs.Spelling.{IsRecord};
 ghost use Rattle.dv_rows.specs.Parted.{HasUid};
 ghost use Rattle.dv_touched.specs.Telling.{Differs};
 ghost use Rattle.dv_apply.specs.Answers.{OnBadAppend};
+ghost use Rattle.dv_apply.specs.Bodies.{Refused};
 ghost use Rattle.dv_apply.specs.Preparing.{IsRefused, Makes, ready_of};
 ghost use Rattle.dv_apply.specs.States.{IsKept, held_of, mailbox_of};
+ghost use Rattle.dv_apply.specs.declared.fault.ApplyFault.TheVariants as fault;
 
 use crate::apart::apply_apart;
 use crate::appends::reserve;
 use crate::fault::ApplyFault;
+use crate::refusals::test_records;
 use crate::share::Made;
 use crate::state::State;
 use dv_model::{Duplicate, NoMemory, Record, Row};
@@ -70,8 +73,8 @@ fn find_touched(
     Touched::between(alloc, &all, before, behind)
 }
 
-/// Takes the memory that records need. What is shown of the mailbox stays as it is.
-pub fn prepare(state: &mut State, records: &[Record]) -> Result<Made, ApplyFault>
+// Takes the memory that records need. What is shown of the mailbox stays as it is.
+fn make_ready(state: &mut State, records: &[Record]) -> Result<Made, ApplyFault>
     requires kept { IsKept state.old }
     requires records { All IsRecord records.now }
     ensures kept { IsKept state.new }
@@ -85,12 +88,11 @@ pub fn prepare(state: &mut State, records: &[Record]) -> Result<Made, ApplyFault
     let extensions = state.extensions.duplicate(state.alloc)?;
     let mut uids = named_rows(state.alloc, &state.rows, extensions, records)?;
     sort_uids(&mut uids);
-    let before = state.rows.part(state.alloc, &uids)?;
     let share = match apply_apart(state, &uids, records) {
         Ok(share) => share,
         Err(e) => return Err(e),
     };
-    let touched = find_touched(state.alloc, &uids, &before, &share.rows)?;
+    let touched = find_touched(state.alloc, &uids, &state.rows, &share.rows)?;
     let appended = count_new(&share.rows, state.next_uid);
     reserve(state, appended)?;
     Ok(Made {
@@ -99,4 +101,26 @@ pub fn prepare(state: &mut State, records: &[Record]) -> Result<Made, ApplyFault
         appended,
         touched,
     })
+}
+
+/// Takes the memory that records need, unless one of them is refused. What is shown of the mailbox
+/// stays as it is.
+pub fn prepare(state: &mut State, records: &[Record]) -> Result<Made, ApplyFault>
+    requires kept { IsKept state.old }
+    requires records { All IsRecord records.now }
+    ensures kept { IsKept state.new }
+    ensures mailbox { mailbox_of state.new ≡ mailbox_of state.old }
+    ensures ok { IfOk result (λ made. IsSomeAnd (applied (mailbox_of state.old) records.now)
+        (Makes (held_of state.new) (ready_of made))) }
+    ensures bad { OnBadAppend result (IsRefused (mailbox_of state.old) records.now) }
+    ensures refused { (refused : Refused) →
+        IsRefused (mailbox_of state.old) records.now refused →
+        result ≡ Err (fault.BadAppend refused.uid refused.next_uid) }
+    ensures spare { IfOk result (λ made. state.new.spare ≡ max made.appended state.old.spare) }
+    ensures err { OnErr result (state.new.spare ≡ state.old.spare) }
+{
+    match test_records(records, state.next_uid) {
+        Ok(()) => make_ready(state, records),
+        Err(e) => Err(e),
+    }
 }

@@ -27,7 +27,10 @@ fn test_body(state: &State, body: &Body) -> Result<(), ApplyFault>
         result ≡ Err (fault.BadAppend refused.uid refused.next_uid) }
 {
     match body {
-        Body::Append(rows) => test_rows(rows.as_slice(), state.next_uid),
+        Body::Append(rows) => {
+            test_rows(rows.as_slice(), state.next_uid)?;
+            Ok(())
+        }
         _ => Ok(()),
     }
 }
