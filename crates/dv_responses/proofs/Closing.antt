@@ -1,16 +1,15 @@
 -- How the answer to a command ends.
-use Rattle.std.proofs.Common.{◌≡◌, ℕ, Bool, true, false, cond, not, ◌&&◌, List, Option, Some, None, refl, sym, ◌∙◌, ap, subst}
-use Rattle.std.specs.Prelude.{All, filter, is_none, min, option_map}
-use Rattle.std.specs.List.{reduce, AllByRecursion}
+use Rattle.std.proofs.Common.{◌≡◌, ℕ, Bool, true, false, cond, ◌&&◌, List, Option, Some, None, refl, sym, ◌∙◌, ap, subst}
+use Rattle.std.specs.Prelude.{filter, is_none, min, option_map}
+use Rattle.std.specs.List.{reduce}
 use Rattle.std.proofs.lemmas.List.Elements.{All-weaker, recursion_from_All}
 use Rattle.dv_model.specs.declared.types.Command.{Command}
 use Rattle.dv_model.specs.declared.types.Command.TheVariants as command
 use Rattle.dv_model.specs.declared.types.Mailbox.{Mailbox}
 use Rattle.dv_model.specs.declared.types.Mark.{Mark}
-use Rattle.dv_model.specs.declared.types.Reply.{Reply}
 use Rattle.dv_model.specs.declared.types.Reply.TheVariants as reply
 use Rattle.dv_model.specs.Journals.{Mail, Held as HeldMail, Damaged}
-use Rattle.dv_model.specs.Sessions.{appended_of, damaged_uid, ending_of, gone_uid, has_uid, is_append, is_damaged, message_in, modified_of, reads_mail, uids_looked_at, word_of}
+use Rattle.dv_model.specs.Sessions.{appended_of, damaged_uid, ending_of, gone_uid, has_uid, is_damaged, message_in, modified_of, reads_mail, uids_looked_at, word_of}
 use Rattle.dv_model.specs.Views.{View}
 use Rattle.dv_model.proofs.Clients.{filter_same}
 use Rattle.dv_search.specs.declared.facts.MailFacts.{MailFacts}

@@ -1,5 +1,5 @@
 -- Rows of a view by their message numbers.
-use Rattle.std.specs.Prelude.{ℕ, ◌-◌, ◌≤◌, List, [], All, get_or, length, map}
+use Rattle.std.specs.Prelude.{ℕ, ◌-◌, ◌≤◌, List, [], get_or, length, map}
 use Rattle.dv_model.specs.declared.types.Shown.{Shown}
 
 -- what stands where there is no row

@@ -1,5 +1,5 @@
 -- The facts of messages that a command is answered from.
-use Rattle.std.specs.Prelude.{◌≡◌, ℕ, Bool, true, List, map, All, Option, Some, None, if◌then◌else◌}
+use Rattle.std.specs.Prelude.{◌≡◌, ℕ, true, List, map, All, Option, Some, None, if◌then◌else◌}
 use Rattle.std.specs.List.{list_any}
 use Rattle.dv_model.specs.declared.types.Command.{Command}
 use Rattle.dv_model.specs.declared.types.Command.TheVariants as command

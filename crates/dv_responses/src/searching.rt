@@ -12,7 +12,8 @@ use dv_search::{Mail, eval};
 use dv_view::View;
 use std::alloc::Global;
 
-/// The SEARCH line: the numbers of the rows that are found, or their UIDs (RFC 3501, section 7.2.5).
+/// The SEARCH line: the numbers of the rows that are found, or their UIDs (RFC 3501, section
+/// 7.2.5).
 pub fn search_line(
     alloc: Global,
     by_uid: bool,

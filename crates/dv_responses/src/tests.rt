@@ -1,10 +1,8 @@
 use super::*;
 use dv_apply::Live;
-use dv_model::{
-    Boxed, Bytes, Command, End, How, Item, Key, List, Mark, NoMemory, Reply, Span, Step, Value,
-    Word,
-};
+use dv_model::{Boxed, Bytes, Command, End, How, Item, Key, List, Mark, NoMemory, Span};
 use dv_records::decode;
+use dv_script::replies_text;
 use dv_search::Mail;
 use dv_view::View;
 use std::alloc::Global;
@@ -22,12 +20,8 @@ const ADD_K1_TO_1: &[u8] = b"\x80\x80\x80\x86\0\x04\0\x10\0\0\x02\0k1\0\0\x01\0\
 
 const EXPUNGE_1: &[u8] = b"\x80\x80\x80\x84\x91\xcd\0\x10\x01\0\0\0\x01\0\0\0";
 
-const MARK: Mark = Mark {
-    file_seq: 1,
-    offset: 92,
-};
-
-// A mailbox whose first record gets the modification sequence 3, behind these records.
+// A mailbox whose first record gets the modification sequence 3, behind these records. One that is
+// refused or can't be read counts as want of memory, which no test expects.
 fn live_of(alloc: Global, records: &[&[u8]]) -> Result<Live, NoMemory> {
     let mut live = Live::empty(alloc, 1000);
     live.raise(2);
@@ -42,253 +36,254 @@ fn live_of(alloc: Global, records: &[&[u8]]) -> Result<Live, NoMemory> {
     Ok(live)
 }
 
-#[derive(Drop)]
-struct Answer {
-    lines: List<Reply>,
-    last: Reply,
-}
-
-// The facts of the message of UID 1, where it is there.
-fn facts_of(
-    alloc: Global,
-    asked: &Asked,
-    live: &Live,
-    message: Option<&[u8]>,
-) -> Result<Mail, NoMemory> {
+// The facts of the message of UID 1, where it is there; a damaged one has no bytes here.
+fn facts_of(alloc: Global, c: &Command, live: &Live, message: &[u8]) -> Result<Mail, NoMemory> {
     let mut mail = Mail::new(alloc);
-    if let Some(text) = message
-        && live.position(1).is_some()
-    {
-        let text = Bytes::from_slice(alloc, text)?;
-        mail.push(facts_from(alloc, asked, 1, text)?)?;
+    if message.is_empty() || live.position(1).is_none() || !is_shallow(c) {
+        return Ok(mail);
     }
+    let asked = asked_by(alloc, c)?;
+    let message = Bytes::from_slice(alloc, message)?;
+    mail.push(facts_from(alloc, &asked, 1, message)?)?;
     Ok(mail)
 }
 
 // What a session that was shown the first mailbox, and whose command met it, is answered at the
-// other one. UID 1 has this message, or a damaged file.
+// other one, at this end of its log.
 fn answer(
     alloc: Global,
     c: &Command,
     met: &Live,
     live: &Live,
-    message: Option<&[u8]>,
-) -> Result<Answer, NoMemory> {
-    let view = View::of(alloc, met)?;
+    message: &[u8],
+    offset: u32,
+) -> Result<Bytes, NoMemory> {
     if !is_shallow(c) {
         return Err(NoMemory);
     }
+    let facts = facts_of(alloc, c, live, message)?;
+    let view = View::of(alloc, met)?;
     let taken = meet(alloc, c, &view, met)?;
-    let asked = asked_by(alloc, c)?;
     let uids = uids_looked_at(alloc, c, &view)?;
-    let facts = facts_of(alloc, &asked, live, message)?;
-    let lines = data_lines(alloc, c, &view, live, &facts)?;
-    let last = ending(c, &uids, &facts, live, taken, MARK);
-    Ok(Answer { lines, last })
+    let mut lines = data_lines(alloc, c, &view, live, &facts)?;
+    let mark = Mark {
+        file_seq: 1,
+        offset,
+    };
+    lines.push(ending(c, &uids, &facts, live, taken, mark))?;
+    replies_text(alloc, b"a", &lines)
 }
 
-fn one(alloc: Global, n: u32) -> Result<List<Span>, NoMemory> {
-    let end = End::Number(n);
-    Ok(List::from_slice(alloc, &[Span { from: end, to: end }])?)
+// Whether the command is answered so, where the mailbox had the first records when it came, and
+// the others since.
+fn says(
+    alloc: Global,
+    c: Result<Command, NoMemory>,
+    shown: &[&[u8]],
+    all: &[&[u8]],
+    message: &[u8],
+    offset: u32,
+    wanted: &[u8],
+) -> Result<bool, NoMemory> {
+    let c = c?;
+    let met = live_of(alloc, shown)?;
+    let live = live_of(alloc, all)?;
+    let text = answer(alloc, &c, &met, &live, message, offset)?;
+    Ok(text.as_slice() == wanted)
 }
 
-// Whether the search finds these in the mailbox whose one message is hello.
-fn finds(alloc: Global, by_uid: bool, key: Key, wanted: &[u32]) -> Result<bool, NoMemory> {
-    let live = live_of(alloc, &[APPEND_1, SEE_1, DRAFT_1, ADD_K1_TO_1])?;
-    let c = Command::Search { by_uid, key };
-    let answer = answer(alloc, &c, &live, &live, Some(b"hello"))?;
-    let done = matches!(answer.last, Reply::Done { .. });
-    match answer.lines.as_slice() {
-        [Reply::Search(found)] => Ok(done && found.as_slice() == wanted),
-        _ => Ok(false),
-    }
+fn span(alloc: Global, from: u32, to: u32) -> Result<List<Span>, NoMemory> {
+    let span = Span {
+        from: End::Number(from),
+        to: End::Number(to),
+    };
+    Ok(List::from_slice(alloc, &[span])?)
 }
 
-#[test]
-fn searches_give_numbers_of_the_rows_that_are_found(rt: HostRuntime) -> Result<(), Fail> {
-    let alloc = rt.alloc();
+fn search(by_uid: bool, key: Result<Key, NoMemory>) -> Result<Command, NoMemory> {
+    Ok(Command::Search { by_uid, key: key? })
+}
+
+// Whether the search is answered so in a mailbox whose one message is hello.
+fn finds(
+    alloc: Global,
+    by_uid: bool,
+    key: Result<Key, NoMemory>,
+    wanted: &[u8],
+) -> Result<bool, NoMemory> {
+    let records = [APPEND_1, SEE_1, DRAFT_1, ADD_K1_TO_1];
+    says(
+        alloc,
+        search(by_uid, key),
+        &records,
+        &records,
+        b"hello",
+        152,
+        wanted,
+    )
+}
+
+fn seen_or_k1(alloc: Global) -> Result<Key, NoMemory> {
     let k1 = Key::Keyword(Bytes::from_slice(alloc, b"k1")?);
-    let either = Key::Or(Boxed::new(alloc, Key::Has(8))?, Boxed::new(alloc, k1)?);
-    assert!(rt; finds(alloc, false, either, &[1])?);
-    let not_draft = Key::Not(Boxed::new(alloc, Key::Has(16))?);
-    assert!(rt; finds(alloc, true, not_draft, &[])?);
-    assert!(rt; finds(alloc, false, Key::Larger(4), &[1])?);
-    let subject = Key::Header {
+    Ok(Key::Or(Boxed::new(alloc, Key::Has(8))?, Boxed::new(alloc, k1)?))
+}
+
+fn not_draft(alloc: Global) -> Result<Key, NoMemory> {
+    Ok(Key::Not(Boxed::new(alloc, Key::Has(16))?))
+}
+
+fn has_subject(alloc: Global) -> Result<Key, NoMemory> {
+    Ok(Key::Header {
         name: Bytes::from_slice(alloc, b"Subject")?,
         text: Bytes::new(alloc),
-    };
-    assert!(rt; finds(alloc, false, subject, &[])?);
-    Ok(())
-}
-
-// Of one message.
-fn fetch(alloc: Global, items: List<Item>) -> Result<Command, NoMemory> {
-    Ok(Command::Fetch {
-        by_uid: false,
-        set: one(alloc, 1)?,
-        items,
     })
 }
 
-fn size_and_body(alloc: Global) -> Result<Command, NoMemory> {
+#[test]
+fn searches_name_the_rows_that_are_found(rt: HostRuntime) -> Result<(), Fail> {
+    let alloc = rt.alloc();
+    let one = b"a * SEARCH 1\na OK [MARK 1:152] SEARCH\n";
+    let none = b"a * SEARCH\na OK [MARK 1:152] SEARCH\n";
+    let no_uid = b"a * SEARCH\na OK [MARK 1:152] UID SEARCH\n";
+    assert!(rt; finds(alloc, false, seen_or_k1(alloc), one)?);
+    assert!(rt; finds(alloc, true, not_draft(alloc), no_uid)?);
+    assert!(rt; finds(alloc, false, Ok(Key::Larger(4)), one)?);
+    assert!(rt; finds(alloc, false, has_subject(alloc), none)?);
+    Ok(())
+}
+
+// A FETCH of one message.
+fn fetch(alloc: Global, items: Result<List<Item>, NoMemory>) -> Result<Command, NoMemory> {
+    Ok(Command::Fetch {
+        by_uid: false,
+        set: span(alloc, 1, 1)?,
+        items: items?,
+    })
+}
+
+fn size_and_body(alloc: Global) -> Result<List<Item>, NoMemory> {
     let mut items = List::new(alloc);
     items.push(Item::Size)?;
     items.push(Item::Body)?;
-    fetch(alloc, items)
+    Ok(items)
+}
+
+fn modseq(alloc: Global) -> Result<List<Item>, NoMemory> {
+    let mut items = List::new(alloc);
+    items.push(Item::Modseq)?;
+    Ok(items)
 }
 
 #[test]
-fn message_is_fetched_with_its_size(rt: HostRuntime) -> Result<(), Fail> {
+fn message_is_fetched(rt: HostRuntime) -> Result<(), Fail> {
     let alloc = rt.alloc();
-    let live = live_of(alloc, &[APPEND_1])?;
-    let c = size_and_body(alloc)?;
-    let answer = answer(alloc, &c, &live, &live, Some(b"hel\nlo"))?;
-    let [
-        Reply::Fetch {
-            number: 1,
-            uid: 1,
-            values,
-        },
-    ] = answer.lines.as_slice()
-    else {
-        return Err(Fail::from("other lines"));
-    };
-    let [Value::Size(7), Value::Body(body)] = values.as_slice() else {
-        return Err(Fail::from("other lines"));
-    };
-    assert!(rt; body.as_slice() == b"hel\nlo");
-    assert!(rt;
-        matches!(
-            answer.last,
-            Reply::Done {
-                word: Word::Fetch,
-                ..
-            }
-        )
-    );
+    let records = [APPEND_1];
+    let c = fetch(alloc, size_and_body(alloc));
+    let wanted = b"a * 1 FETCH (UID 1 RFC822.SIZE 5 BODY[] {5}\nhello)\na OK [MARK 1:72] FETCH\n";
+    assert!(rt; says(alloc, c, &records, &records, b"hello", 72, wanted)?);
     Ok(())
 }
 
 #[test]
-fn damaged_message_has_no_line(rt: HostRuntime) -> Result<(), Fail> {
+fn bare_line_feed_counts_twice(rt: HostRuntime) -> Result<(), Fail> {
     let alloc = rt.alloc();
-    let live = live_of(alloc, &[APPEND_1])?;
-    let answer = answer(alloc, &size_and_body(alloc)?, &live, &live, None)?;
-    assert!(rt; answer.lines.is_empty());
-    assert!(rt; matches!(answer.last, Reply::Damaged { uid: 1, mark: MARK }));
+    let records = [APPEND_1];
+    let c = fetch(alloc, size_and_body(alloc));
+    let wanted = b"a * 1 FETCH (UID 1 RFC822.SIZE 4 BODY[] {3}\na\nb)\na OK [MARK 1:72] FETCH\n";
+    assert!(rt; says(alloc, c, &records, &records, b"a\nb", 72, wanted)?);
     Ok(())
 }
 
 #[test]
-fn expunged_message_has_no_line(rt: HostRuntime) -> Result<(), Fail> {
+fn modification_sequence_is_fetched(rt: HostRuntime) -> Result<(), Fail> {
     let alloc = rt.alloc();
-    let met = live_of(alloc, &[APPEND_1])?;
-    let live = live_of(alloc, &[APPEND_1, EXPUNGE_1])?;
-    let answer = answer(alloc, &size_and_body(alloc)?, &met, &live, Some(b"hello"))?;
-    assert!(rt; answer.lines.is_empty());
-    assert!(rt;
-        matches!(
-            answer.last,
-            Reply::Gone {
-                uid: 1,
-                mark: MARK,
-                ..
-            }
-        )
-    );
+    let records = [APPEND_1, SEE_1];
+    let c = fetch(alloc, modseq(alloc));
+    let wanted = b"a * 1 FETCH (UID 1 MODSEQ (4))\na OK [MARK 1:92] FETCH\n";
+    assert!(rt; says(alloc, c, &records, &records, b"", 92, wanted)?);
     Ok(())
 }
 
-// The messages that a STORE of one leaves as they are, where the last change has number 4.
-fn kept(alloc: Global, since: u64) -> Result<List<u32>, NoMemory> {
-    let live = live_of(alloc, &[APPEND_1, SEE_1])?;
-    let c = Command::Store {
+#[test]
+fn message_that_is_not_there_has_no_line(rt: HostRuntime) -> Result<(), Fail> {
+    let alloc = rt.alloc();
+    let shown = [APPEND_1];
+    let all = [APPEND_1, EXPUNGE_1];
+    let damaged = b"a NO [CORRUPTION] UID 1 MARK 1:72\n";
+    let gone = b"a NO [EXPUNGEISSUED] UID 1 MARK 1:88\n";
+    let c = fetch(alloc, size_and_body(alloc));
+    assert!(rt; says(alloc, c, &shown, &shown, b"", 72, damaged)?);
+    let c = fetch(alloc, size_and_body(alloc));
+    assert!(rt; says(alloc, c, &shown, &all, b"hello", 88, gone)?);
+    Ok(())
+}
+
+fn store(alloc: Global, since: u64) -> Result<Command, NoMemory> {
+    Ok(Command::Store {
         by_uid: false,
-        set: one(alloc, 1)?,
+        set: span(alloc, 1, 1)?,
         how: How::Add,
         flags: 2,
         keywords: List::new(alloc),
         unchanged_since: Some(since),
-    };
-    match answer(alloc, &c, &live, &live, None)?.last {
-        Reply::Done { modified, .. } => Ok(modified),
-        _ => Err(NoMemory),
-    }
+    })
 }
 
 #[test]
 fn store_names_messages_that_changed_since(rt: HostRuntime) -> Result<(), Fail> {
     let alloc = rt.alloc();
-    assert!(rt; kept(alloc, 3)?.as_slice() == &[1]);
-    assert!(rt; kept(alloc, 4)?.is_empty());
+    let records = [APPEND_1, SEE_1];
+    let kept = b"a OK [MODIFIED 1] [MARK 1:92] STORE\n";
+    let done = b"a OK [MARK 1:112] STORE\n";
+    assert!(rt; says(alloc, store(alloc, 3), &records, &records, b"", 92, kept)?);
+    assert!(rt; says(alloc, store(alloc, 4), &records, &records, b"", 112, done)?);
     Ok(())
+}
+
+fn removal(alloc: Global) -> Result<Command, NoMemory> {
+    Ok(Command::UidRemove {
+        set: span(alloc, 1, 5)?,
+    })
 }
 
 #[test]
 fn removal_of_a_message_that_left_is_done(rt: HostRuntime) -> Result<(), Fail> {
     let alloc = rt.alloc();
-    let met = live_of(alloc, &[APPEND_1, SEE_1])?;
-    let live = live_of(alloc, &[APPEND_1, SEE_1, EXPUNGE_1])?;
-    let set = List::from_slice(
-        alloc,
-        &[Span {
-            from: End::Number(1),
-            to: End::Number(5),
-        }],
-    )?;
-    let c = Command::UidRemove { set };
-    let answer = answer(alloc, &c, &met, &live, None)?;
-    assert!(rt; answer.lines.is_empty());
-    assert!(rt;
-        matches!(
-            answer.last,
-            Reply::Done {
-                word: Word::UidRemove,
-                ..
-            }
-        )
-    );
-    assert!(rt; is_write(&c) && step_of(&c) == Step::Full);
+    let shown = [APPEND_1, SEE_1];
+    let all = [APPEND_1, SEE_1, EXPUNGE_1];
+    let done = b"a OK [MARK 1:120] UID REMOVE\n";
+    assert!(rt; says(alloc, removal(alloc), &shown, &all, b"", 120, done)?);
     Ok(())
+}
+
+fn append(alloc: Global) -> Result<Command, NoMemory> {
+    Ok(Command::Append {
+        flags: 0,
+        keywords: List::new(alloc),
+        message: Bytes::from_slice(alloc, b"hello")?,
+    })
 }
 
 #[test]
 fn append_tells_the_uid_that_it_took(rt: HostRuntime) -> Result<(), Fail> {
     let alloc = rt.alloc();
-    let met = live_of(alloc, &[])?;
-    let live = live_of(alloc, &[APPEND_1])?;
-    let c = Command::Append {
-        flags: 0,
-        keywords: List::new(alloc),
-        message: Bytes::from_slice(alloc, b"hello")?,
-    };
-    let answer = answer(alloc, &c, &met, &live, None)?;
-    assert!(rt;
-        matches!(
-            answer.last,
-            Reply::Done {
-                appended: Some((1000, 1)),
-                ..
-            }
-        )
-    );
+    let done = b"a OK [APPENDUID 1000 1] [MARK 1:72] APPEND\n";
+    assert!(rt; says(alloc, append(alloc), &[], &[APPEND_1], b"", 72, done)?);
     Ok(())
+}
+
+fn select(alloc: Global) -> Result<Bytes, NoMemory> {
+    let live = live_of(alloc, &[APPEND_1])?;
+    let view = View::of(alloc, &live)?;
+    let lines = select_lines(alloc, &live, &view)?;
+    replies_text(alloc, b"a", &lines)
 }
 
 #[test]
 fn select_tells_sizes_and_flags(rt: HostRuntime) -> Result<(), Fail> {
-    let alloc = rt.alloc();
-    let live = live_of(alloc, &[APPEND_1])?;
-    let lines = select_lines(alloc, &live, &View::of(alloc, &live)?)?;
-    let [
-        Reply::Exists(1),
-        Reply::Validity(1000),
-        Reply::NextUid(2),
-        Reply::Fetch { uid: 1, .. },
-    ] = lines.as_slice()
-    else {
-        return Err(Fail::from("other lines"));
-    };
-    assert!(rt; is_select(&Command::Select) && word_of(&Command::Select) == Word::Select);
+    let text = select(rt.alloc())?;
+    let wanted = b"a * 1 EXISTS\na * OK [UIDVALIDITY 1000]\na * OK [UIDNEXT 2]\n\
+        a * 1 FETCH (UID 1 FLAGS ())\n";
+    assert!(rt; text.as_slice() == wanted.as_slice());
     Ok(())
 }

@@ -1,4 +1,4 @@
-use Rattle.std.proofs.Common.{◌≡◌, ◌∙◌, ◌&&◌, ℕ, List, Option, Some, None, cond, not, sym, ap}
+use Rattle.std.proofs.Common.{◌≡◌, ◌∙◌, ◌&&◌, ℕ, List, Some, None, cond, not, sym, ap}
 use Rattle.std.specs.Prelude.{filter, is_none, min, option_map}
 use Rattle.std.specs.List.{reduce}
 use Rattle.dv_model.specs.declared.types.Reply.TheVariants as reply

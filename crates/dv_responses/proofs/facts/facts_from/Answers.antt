@@ -1,4 +1,4 @@
-use Rattle.std.proofs.Common.{◌≡◌, ◌∙◌, ℕ, List, sym, ap, subst}
+use Rattle.std.proofs.Common.{◌∙◌, ℕ, List, sym, ap, subst}
 use Rattle.dv_model.specs.Fields.{virtual_size}
 use Rattle.dv_responses.proofs.Naming.{describes, facts_are}
 use Rattle.dv_responses.specs.Supplied.{DescribesAsked, values_of}

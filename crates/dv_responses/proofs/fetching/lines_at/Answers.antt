@@ -1,11 +1,10 @@
-use Rattle.std.proofs.Common.{◌≡◌, ◌∙◌, ◌++◌, ◌<◌, ℕ, List, [], Some, None, cond, get_or, length, take, sym, ap, subst}
+use Rattle.std.proofs.Common.{◌≡◌, ◌∙◌, ◌++◌, ℕ, List, Some, None, cond, get_or, take, sym, ap, subst}
 use Rattle.std.specs.List.{list_any}
 use Rattle.std.specs.Option.{option_copied}
 use Rattle.std.specs.Prelude.{flat_map}
 use Rattle.std.proofs.lemmas.List.{get_or_default, take_all}
 use Rattle.dv_model.specs.declared.types.Shown.{Shown}
 use Rattle.dv_model.specs.Sessions.{fetch_lines, reads_message}
-use Rattle.dv_search.specs.declared.facts.MailFacts.{MailFacts}
 use Rattle.dv_search.specs.Facts.{facts_of}
 use Rattle.dv_responses.proofs.Lines.{line_is, lines_more, message_for, row_known}
 use Rattle.dv_responses.specs.Fetched.{lines_from, no_facts}

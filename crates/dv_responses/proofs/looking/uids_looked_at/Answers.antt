@@ -1,4 +1,4 @@
-use Rattle.std.proofs.Common.{◌≡◌, ◌∙◌, ℕ, List, map, sym, ap, true}
+use Rattle.std.proofs.Common.{◌≡◌, ◌∙◌, map, sym, ap, true}
 use Rattle.std.proofs.lemmas.Result.{IfOk-weaker}
 use Rattle.dv_model.specs.declared.types.Command.{Command}
 use Rattle.dv_model.specs.declared.types.Shown.{Shown}

@@ -1,5 +1,4 @@
-use Rattle.std.proofs.Common.{◌≡◌, ◌∙◌}
-use Rattle.std.specs.Prelude.{is_some}
+use Rattle.std.proofs.Common.{◌∙◌}
 use Rattle.dv_responses.proofs.Having.{has_place}
 use Rattle.dv_responses.proofs.meeting.has_uid.Goals as goal
 

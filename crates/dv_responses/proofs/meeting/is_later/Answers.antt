@@ -1,4 +1,4 @@
-use Rattle.std.proofs.Common.{◌≡◌, ◌∙◌, sym}
+use Rattle.std.proofs.Common.{◌∙◌, sym}
 use Rattle.std.specs.Prelude.{nat_lt}
 use Rattle.dv_responses.proofs.Having.{none_passes, one_passes}
 use Rattle.dv_responses.proofs.meeting.is_later.Goals as goal

@@ -1,4 +1,4 @@
-use Rattle.std.proofs.Common.{◌≡◌, ◌∙◌, ◌<◌, ◌^◌, length, ap, arith}
+use Rattle.std.proofs.Common.{◌≡◌, ◌∙◌, length, ap, arith}
 use Rattle.dv_view.proofs.Moving.{rising_of_ordered}
 use Rattle.dv_view.proofs.Rising.{few}
 use Rattle.dv_responses.proofs.selecting.select_lines.Goals as goal
