@@ -1,22 +1,20 @@
 -- An answer is put together from its parts.
-use Rattle.std.proofs.Common.{◌≡◌, ℕ, Bool, true, false, not, ◌&&◌, List, [], ◌∷◌, ◌++◌, Option, Some, None, refl, sym, ◌∙◌, ap}
-use Rattle.std.specs.Prelude.{IfOk, OnOk, Result, Ok, Err, option_map}
+use Rattle.std.proofs.Common.{◌≡◌, ℕ, true, false, List, [], ◌∷◌, ◌++◌, refl, sym, ◌∙◌, ap}
+use Rattle.std.specs.Prelude.{IfOk, OnOk, Result, Ok, Err}
 use Rattle.dv_model.specs.declared.types.Command.{Command}
 use Rattle.dv_model.specs.declared.types.Command.TheVariants as command
 use Rattle.dv_model.specs.declared.types.Mailbox.{Mailbox}
 use Rattle.dv_model.specs.declared.types.Mark.{Mark}
 use Rattle.dv_model.specs.declared.types.Reply.{Reply}
-use Rattle.dv_model.specs.declared.types.Reply.TheVariants as reply
 use Rattle.dv_model.specs.declared.types.Step.{Step}
 use Rattle.dv_model.specs.declared.types.Step.TheVariants.{Full}
 use Rattle.dv_model.specs.Journals.{Mail}
-use Rattle.dv_model.specs.Sessions.{Answer, State, answer, data_of, ending_of, is_select, missing_number, step_of, told_of, uids_looked_at, view_before}
+use Rattle.dv_model.specs.Sessions.{Answer, State, answer, data_of, ending_of, is_select, step_of, told_of, uids_looked_at, view_before}
 use Rattle.dv_model.specs.Views.{View, empty_view, moved, said}
 use Rattle.dv_model.proofs.Clients.{false_is_not_true}
 use Rattle.dv_search.specs.declared.facts.MailFacts.{MailFacts}
 use Rattle.dv_responses.specs.Met.{met_of}
 use Rattle.dv_responses.specs.Supplied.{AreSupplied}
-use Rattle.dv_answer.specs.Refusing.{own_refusal}
 
 -- ---- SELECT and others
 

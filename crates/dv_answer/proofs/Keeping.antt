@@ -1,16 +1,18 @@
 -- A session keeps up with a mailbox: behind SELECT, records and moves.
 use Rattle.std.proofs.Common.{◌≡◌, ◌⊎◌, inl, inr, ℕ, ◌<◌, ◌≤◌, Bool, true, false, cond, not, ◌&&◌, ◌||◌, List, [], ◌∷◌, length, Some, None, Option, refl, sym, ◌∙◌, ap, subst, arith}
-use Rattle.std.specs.Prelude.{All, Contains, IsSome, filter, is_some, map, nat_eq, option_map}
+use Rattle.std.specs.Prelude.{◌↔◌, All, Contains, IsSome, filter, is_some, map, nat_eq, option_and_then, option_map}
 use Rattle.std.specs.List.Sorted.{IsStrictlyIncreasing}
 use Rattle.std.proofs.lemmas.Bool.{cases_lt}
 use Rattle.std.proofs.lemmas.List.Elements.{All-contains, All-filter, All-nil, All-weaker}
 use Rattle.std.proofs.lemmas.List.Kept.{IsStrictlyIncreasing-filter}
 use Rattle.dv_model.specs.declared.types.Fresh.{Fresh}
 use Rattle.dv_model.specs.declared.types.Mailbox.{Mailbox}
+use Rattle.dv_model.specs.declared.types.Record.{Record}
 use Rattle.dv_model.specs.declared.types.Row.{Row}
 use Rattle.dv_model.specs.declared.types.Shown.{Shown}
 use Rattle.dv_model.specs.declared.types.Step.{Step}
 use Rattle.dv_model.specs.declared.types.Step.TheVariants.{Held, Full}
+use Rattle.dv_model.specs.Effects.{after_record, applied}
 use Rattle.dv_model.specs.Fresh.{AreFresh, IsTouched, shown_of}
 use Rattle.dv_model.specs.Mailboxes.{IsRowOf, IsValid}
 use Rattle.dv_model.specs.Views.{View, empty_view, moved, row_of, shown, shows_uid}
@@ -22,7 +24,7 @@ use Rattle.dv_view.proofs.Finding.{any_is_found}
 use Rattle.dv_view.proofs.Followed.{find_shown}
 use Rattle.dv_view.proofs.Moving.{ordered_after}
 use Rattle.dv_view.proofs.Patching.{at_uid, same_is}
-use Rattle.dv_answer.specs.Following.{Tracks, fresh_of, is_untold, untold}
+use Rattle.dv_answer.specs.Following.{Leads, Tracks, fresh_of, is_untold, untold}
 use Rattle.dv_answer.specs.Laws.{FullTellsAll, MoveTracks, RecordsLead, SelectTracks, StayLeads, TouchTracks}
 use Rattle.dv_answer.proofs.Tracking.{all_by_contains, each_row, is_in, is_in_same, moved_none, moved_some, not_in, row_found, row_passes, rows_by_uid, same_by, same_is_in, tracked_fresh, tracked_patched, untouched_same}
 
@@ -258,3 +260,11 @@ module _ (m : Mailbox) (view : View) (touched uids : List ℕ) (n : ℕ) (names 
       subst (λ k. IsPatched view k names fresh m) (sym number)
       (subst (λ (ns : List (List ℕ)). IsPatched view m.next_uid ns fresh m) (sym table)
       (subst (λ fs. IsPatched view m.next_uid m.keywords fs m) (sym given_here) (tracked_patched m view touched tracks valid)))
+
+-- ---- one record
+
+pub record_leads : (old new : Mailbox) (r : Record) (before all : List ℕ) → IsValid old → IsValid new → after_record old r ≡ Some new → before ≡ []
+    → ((uid : ℕ) → Contains all uid ↔ (Contains before uid ⊎ IsTouched old new uid)) → Leads old new all
+record_leads old new r before all valid now_valid is none both =
+    records_lead old old new (r ∷ []) [] all valid now_valid (stay_leads old valid) (ap (option_and_then (λ n. applied n [])) is)
+    (subst (λ (us : List ℕ). (uid : ℕ) → Contains all uid ↔ (Contains us uid ⊎ IsTouched old new uid)) none both)

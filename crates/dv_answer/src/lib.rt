@@ -2,12 +2,14 @@
 //! the session knows then (RFC 3501, sections 6 and 7).
 #![tactic(auto)]
 
-mod commands;
 mod fresh;
 mod laws;
 mod lines;
+mod numbers;
 mod sends;
 mod session;
+#[cfg(test)]
+mod tests;
 
 pub use laws::{refusal_goes_on, sessions_keep_up};
 pub use session::Session;

@@ -13,10 +13,10 @@ ghost use Rattle.dv_answer.specs.Refusing.{own_refusal};
 
 use crate::fresh::{fresh_of, retain_untold};
 use crate::lines::joined;
-use crate::commands::{is_select, missing_number, step_of};
+use crate::numbers::missing_number;
 use dv_apply::Live;
 use dv_model::{Command, List, Mark, NoMemory, Reply, Step};
-use dv_responses::{Met, data_lines, ending, select_lines, uids_looked_at};
+use dv_responses::{Met, data_lines, ending, is_select, select_lines, step_of, uids_looked_at};
 use dv_search::Mail;
 use dv_touched::Touched;
 use dv_view::View;

@@ -12,6 +12,7 @@ use dv_script::{replies_text, reply_text};
 use dv_search::Mail;
 use dv_touched::Touched;
 use std::alloc::Global;
+use std::mem;
 use std::test::*;
 
 // A log's first record: UIDVALIDITY 1000.
@@ -40,8 +41,7 @@ const DRAFT_ALONE_1: &[u8] = b"\x80\x80\x80\x85\x04\0\0\x10\x01\0\0\0\x01\0\0\0\
 
 const RESET_KEYWORDS_1: &[u8] = b"\x80\x80\x80\x84\0\x08\0\x10\x01\0\0\0\x01\0\0\0";
 
-const ADD_K1_TO_1: &[u8] =
-    b"\x80\x80\x80\x86\0\x04\0\x10\0\0\x02\0k1\0\0\x01\0\0\0\x01\0\0\0";
+const ADD_K1_TO_1: &[u8] = b"\x80\x80\x80\x86\0\x04\0\x10\0\0\x02\0k1\0\0\x01\0\0\0\x01\0\0\0";
 
 // A mailbox with the place where its log ends, and what sessions are told.
 #[derive(Drop)]
@@ -99,14 +99,14 @@ fn write(
 }
 
 // Applies a record, and gives the UIDs that it touches.
-fn apply(alloc: Global, live: &mut Live, record: &Record) -> Result<Touched, NoMemory>
-    requires { IsRecord record.now }
+fn apply(alloc: Global, live: &mut Live, r: &Record) -> Result<Touched, NoMemory>
+    requires { IsRecord r.now }
     ensures { IfOk result (Leads live.old.mailbox live.new.mailbox) }
 {
     let mut touched = Touched::empty(alloc);
     // A live mailbox is valid, before the record and behind it.
     live.next_uid();
-    if live.apply_touched(record, &mut touched).is_err() {
+    if live.apply_touched(r, &mut touched).is_err() {
         return Err(NoMemory);
     }
     live.next_uid();
@@ -197,8 +197,21 @@ fn remove(alloc: Global, from: u32, to: u32) -> Made
 fn flags_of(alloc: Global, from: u32, to: u32) -> Made
     ensures { IfOk result IsShallow }
 {
-    let (from, to) = (End::Number(from), End::Number(to));
-    fetch(alloc, false, from, to, Item::Flags)
+    fetch(
+        alloc,
+        false,
+        End::Number(from),
+        End::Number(to),
+        Item::Flags,
+    )
+}
+
+// Whether just these lines were said since the last look.
+fn was_said(alloc: Global, talk: &mut Talk, lines: &[u8]) -> bool
+    ensures { talk.new.live ≡ talk.old.live }
+{
+    let text = mem::replace(&mut talk.text, Vec::new(alloc));
+    text.as_slice() == lines
 }
 
 #[test]
@@ -206,14 +219,66 @@ fn expunge_waits_for_a_command_that_may_tell_it(rt: HostRuntime) -> Result<(), F
     let alloc = rt.alloc();
     let mut talk = begin(alloc)?;
     let (mut a, mut b) = (Session::new(alloc), Session::new(alloc));
-    ask(alloc, &mut talk, &mut a, &mut b, b"a", Ok(Command::Select), b"")?;
+    ask(
+        alloc,
+        &mut talk,
+        &mut a,
+        &mut b,
+        b"a",
+        Ok(Command::Select),
+        b"",
+    )?;
     let deleted = append(alloc, 4);
-    ask(alloc, &mut talk, &mut a, &mut b, b"a", deleted, APPEND_1_DELETED)?;
-    ask(alloc, &mut talk, &mut b, &mut a, b"b", Ok(Command::Select), b"")?;
-    ask(alloc, &mut talk, &mut a, &mut b, b"a", Ok(Command::Expunge), EXPUNGE_1)?;
-    ask(alloc, &mut talk, &mut b, &mut a, b"b", flags_of(alloc, 1, 1), b"")?;
-    ask(alloc, &mut talk, &mut b, &mut a, b"b", Ok(Command::Noop), b"")?;
-    let expected = b"a * 0 EXISTS
+    ask(
+        alloc,
+        &mut talk,
+        &mut a,
+        &mut b,
+        b"a",
+        deleted,
+        APPEND_1_DELETED,
+    )?;
+    ask(
+        alloc,
+        &mut talk,
+        &mut b,
+        &mut a,
+        b"b",
+        Ok(Command::Select),
+        b"",
+    )?;
+    ask(
+        alloc,
+        &mut talk,
+        &mut a,
+        &mut b,
+        b"a",
+        Ok(Command::Expunge),
+        EXPUNGE_1,
+    )?;
+    ask(
+        alloc,
+        &mut talk,
+        &mut b,
+        &mut a,
+        b"b",
+        flags_of(alloc, 1, 1),
+        b"",
+    )?;
+    ask(
+        alloc,
+        &mut talk,
+        &mut b,
+        &mut a,
+        b"b",
+        Ok(Command::Noop),
+        b"",
+    )?;
+    assert!(rt;
+        was_said(
+            alloc,
+            &mut talk,
+            b"a * 0 EXISTS
 a * OK [UIDVALIDITY 1000]
 a * OK [UIDNEXT 1]
 a OK [MARK 1:56] SELECT
@@ -231,7 +296,423 @@ b * 1 FETCH (UID 1 FLAGS (\\Deleted))
 b OK [MARK 1:100] FETCH
 b * 1 EXPUNGE
 b OK [MARK 1:100] NOOP
-";
-    assert_eq!(rt; talk.text.as_slice(), expected.as_slice());
+"
+        )
+    );
+    Ok(())
+}
+
+#[test]
+fn row_that_left_stays_until_it_is_told(rt: HostRuntime) -> Result<(), Fail> {
+    let alloc = rt.alloc();
+    let mut talk = begin(alloc)?;
+    let (mut a, mut b) = (Session::new(alloc), Session::new(alloc));
+    ask(
+        alloc,
+        &mut talk,
+        &mut a,
+        &mut b,
+        b"a",
+        Ok(Command::Select),
+        b"",
+    )?;
+    let one = append(alloc, 4);
+    ask(
+        alloc,
+        &mut talk,
+        &mut a,
+        &mut b,
+        b"a",
+        one,
+        APPEND_1_DELETED,
+    )?;
+    let two = append(alloc, 0);
+    ask(alloc, &mut talk, &mut a, &mut b, b"a", two, APPEND_2)?;
+    ask(
+        alloc,
+        &mut talk,
+        &mut b,
+        &mut a,
+        b"b",
+        Ok(Command::Select),
+        b"",
+    )?;
+    ask(
+        alloc,
+        &mut talk,
+        &mut a,
+        &mut b,
+        b"a",
+        Ok(Command::Expunge),
+        EXPUNGE_1,
+    )?;
+    was_said(alloc, &mut talk, b"");
+    let flag = store(alloc, 1, 2, How::Add, 2, None);
+    ask(alloc, &mut talk, &mut b, &mut a, b"b", flag, FLAG_2)?;
+    ask(
+        alloc,
+        &mut talk,
+        &mut b,
+        &mut a,
+        b"b",
+        flags_of(alloc, 2, 1),
+        b"",
+    )?;
+    ask(
+        alloc,
+        &mut talk,
+        &mut b,
+        &mut a,
+        b"b",
+        Ok(Command::Noop),
+        b"",
+    )?;
+    ask(
+        alloc,
+        &mut talk,
+        &mut a,
+        &mut b,
+        b"a",
+        Ok(Command::Noop),
+        b"",
+    )?;
+    assert!(rt;
+        was_said(
+            alloc,
+            &mut talk,
+            b"b * 2 FETCH (UID 2 FLAGS (\\Flagged))
+b NO [EXPUNGEISSUED] UID 1 MARK 1:136
+b * 1 FETCH (UID 1 FLAGS (\\Deleted))
+b * 2 FETCH (UID 2 FLAGS (\\Flagged))
+b OK [MARK 1:136] FETCH
+b * 1 EXPUNGE
+b OK [MARK 1:136] NOOP
+a * 1 FETCH (UID 2 FLAGS (\\Flagged))
+a OK [MARK 1:136] NOOP
+"
+        )
+    );
+    Ok(())
+}
+
+#[test]
+fn row_that_came_and_left_is_never_told(rt: HostRuntime) -> Result<(), Fail> {
+    let alloc = rt.alloc();
+    let mut talk = begin(alloc)?;
+    let (mut a, mut b) = (Session::new(alloc), Session::new(alloc));
+    ask(
+        alloc,
+        &mut talk,
+        &mut b,
+        &mut a,
+        b"b",
+        Ok(Command::Select),
+        b"",
+    )?;
+    write(alloc, &mut talk, &mut a, &mut b, APPEND_1_DELETED)?;
+    write(alloc, &mut talk, &mut a, &mut b, EXPUNGE_1)?;
+    was_said(alloc, &mut talk, b"");
+    ask(
+        alloc,
+        &mut talk,
+        &mut b,
+        &mut a,
+        b"b",
+        Ok(Command::Noop),
+        b"",
+    )?;
+    assert!(rt; was_said(alloc, &mut talk, b"b OK [MARK 1:100] NOOP\n"));
+    Ok(())
+}
+
+#[test]
+fn session_refuses_by_itself(rt: HostRuntime) -> Result<(), Fail> {
+    let alloc = rt.alloc();
+    let mut talk = begin(alloc)?;
+    let (mut a, mut b) = (Session::new(alloc), Session::new(alloc));
+    ask(
+        alloc,
+        &mut talk,
+        &mut a,
+        &mut b,
+        b"a",
+        Ok(Command::Noop),
+        b"",
+    )?;
+    ask(
+        alloc,
+        &mut talk,
+        &mut a,
+        &mut b,
+        b"a",
+        flags_of(alloc, 1, 1),
+        b"",
+    )?;
+    ask(
+        alloc,
+        &mut talk,
+        &mut a,
+        &mut b,
+        b"a",
+        Ok(Command::Select),
+        b"",
+    )?;
+    assert!(rt;
+        was_said(
+            alloc,
+            &mut talk,
+            b"a BAD NOT SELECTED
+a BAD NOT SELECTED
+a * 0 EXISTS
+a * OK [UIDVALIDITY 1000]
+a * OK [UIDNEXT 1]
+a OK [MARK 1:56] SELECT
+"
+        )
+    );
+    ask(
+        alloc,
+        &mut talk,
+        &mut a,
+        &mut b,
+        b"a",
+        flags_of(alloc, 1, 1),
+        b"",
+    )?;
+    let last = fetch(alloc, false, End::Star, End::Star, Item::Flags);
+    ask(alloc, &mut talk, &mut a, &mut b, b"a", last, b"")?;
+    let all = fetch(alloc, true, End::Number(1), End::Star, Item::Flags);
+    ask(alloc, &mut talk, &mut a, &mut b, b"a", all, b"")?;
+    write(alloc, &mut talk, &mut a, &mut b, APPEND_1)?;
+    ask(
+        alloc,
+        &mut talk,
+        &mut a,
+        &mut b,
+        b"a",
+        flags_of(alloc, 1, 1),
+        b"",
+    )?;
+    ask(
+        alloc,
+        &mut talk,
+        &mut a,
+        &mut b,
+        b"a",
+        flags_of(alloc, 3, 2),
+        b"",
+    )?;
+    let flag = store(alloc, 1, 2, How::Add, 2, None);
+    ask(alloc, &mut talk, &mut a, &mut b, b"a", flag, b"")?;
+    assert!(rt;
+        was_said(
+            alloc,
+            &mut talk,
+            b"a BAD NO MESSAGE 1
+a BAD NO MESSAGE 0
+a OK [MARK 1:56] UID FETCH
+a BAD NO MESSAGE 1
+a BAD NO MESSAGE 3
+a BAD NO MESSAGE 1
+"
+        )
+    );
+    Ok(())
+}
+
+#[test]
+fn flags_are_replaced(rt: HostRuntime) -> Result<(), Fail> {
+    let alloc = rt.alloc();
+    let mut talk = begin(alloc)?;
+    let (mut a, mut b) = (Session::new(alloc), Session::new(alloc));
+    write(alloc, &mut talk, &mut a, &mut b, APPEND_1)?;
+    write(alloc, &mut talk, &mut a, &mut b, SEE_1)?;
+    ask(
+        alloc,
+        &mut talk,
+        &mut a,
+        &mut b,
+        b"a",
+        Ok(Command::Select),
+        b"",
+    )?;
+    was_said(alloc, &mut talk, b"");
+    write(alloc, &mut talk, &mut a, &mut b, DRAFT_ALONE_1)?;
+    write(alloc, &mut talk, &mut a, &mut b, RESET_KEYWORDS_1)?;
+    let draft = store(alloc, 1, 1, How::Replace, 16, None);
+    ask(alloc, &mut talk, &mut a, &mut b, b"a", draft, ADD_K1_TO_1)?;
+    assert!(rt;
+        was_said(
+            alloc,
+            &mut talk,
+            b"a * 1 FETCH (UID 1 FLAGS (\\Draft k1))
+a OK [MARK 1:152] STORE
+"
+        )
+    );
+    Ok(())
+}
+
+#[test]
+fn changed_messages_are_kept_by_unchangedsince(rt: HostRuntime) -> Result<(), Fail> {
+    let alloc = rt.alloc();
+    let mut talk = begin(alloc)?;
+    let (mut a, mut b) = (Session::new(alloc), Session::new(alloc));
+    write(alloc, &mut talk, &mut a, &mut b, APPEND_1)?;
+    write(alloc, &mut talk, &mut a, &mut b, SEE_1)?;
+    ask(
+        alloc,
+        &mut talk,
+        &mut a,
+        &mut b,
+        b"a",
+        Ok(Command::Select),
+        b"",
+    )?;
+    was_said(alloc, &mut talk, b"");
+    let modseq = fetch(alloc, false, End::Number(1), End::Star, Item::Modseq);
+    ask(alloc, &mut talk, &mut a, &mut b, b"a", modseq, b"")?;
+    let early = store(alloc, 1, 1, How::Add, 2, Some(3));
+    ask(alloc, &mut talk, &mut a, &mut b, b"a", early, b"")?;
+    let late = store(alloc, 1, 1, How::Add, 2, Some(4));
+    ask(alloc, &mut talk, &mut a, &mut b, b"a", late, FLAG_1)?;
+    assert!(rt;
+        was_said(
+            alloc,
+            &mut talk,
+            b"a * 1 FETCH (UID 1 MODSEQ (4))
+a OK [MARK 1:92] FETCH
+a OK [MODIFIED 1] [MARK 1:92] STORE
+a * 1 FETCH (UID 1 FLAGS (\\Flagged \\Seen))
+a OK [MARK 1:112] STORE
+"
+        )
+    );
+    Ok(())
+}
+
+#[test]
+fn messages_are_removed_by_uid(rt: HostRuntime) -> Result<(), Fail> {
+    let alloc = rt.alloc();
+    let mut talk = begin(alloc)?;
+    let (mut a, mut b) = (Session::new(alloc), Session::new(alloc));
+    write(alloc, &mut talk, &mut a, &mut b, APPEND_1)?;
+    write(alloc, &mut talk, &mut a, &mut b, SEE_1)?;
+    ask(
+        alloc,
+        &mut talk,
+        &mut a,
+        &mut b,
+        b"a",
+        Ok(Command::Select),
+        b"",
+    )?;
+    was_said(alloc, &mut talk, b"");
+    ask(
+        alloc,
+        &mut talk,
+        &mut a,
+        &mut b,
+        b"a",
+        remove(alloc, 1, 5),
+        EXPUNGE_1,
+    )?;
+    ask(
+        alloc,
+        &mut talk,
+        &mut a,
+        &mut b,
+        b"a",
+        remove(alloc, 5, 1),
+        b"",
+    )?;
+    assert!(rt;
+        was_said(
+            alloc,
+            &mut talk,
+            b"a * 1 EXPUNGE
+a OK [MARK 1:120] UID REMOVE
+a OK [MARK 1:120] UID REMOVE
+"
+        )
+    );
+    Ok(())
+}
+
+#[test]
+fn view_moves_by_both_steps(rt: HostRuntime) -> Result<(), Fail> {
+    let alloc = rt.alloc();
+    let mut talk = begin(alloc)?;
+    let (mut a, mut b) = (Session::new(alloc), Session::new(alloc));
+    write(alloc, &mut talk, &mut a, &mut b, APPEND_1)?;
+    write(alloc, &mut talk, &mut a, &mut b, APPEND_2)?;
+    ask(
+        alloc,
+        &mut talk,
+        &mut a,
+        &mut b,
+        b"a",
+        Ok(Command::Select),
+        b"",
+    )?;
+    ask(
+        alloc,
+        &mut talk,
+        &mut b,
+        &mut a,
+        b"b",
+        Ok(Command::Select),
+        b"",
+    )?;
+    write(alloc, &mut talk, &mut a, &mut b, EXPUNGE_1)?;
+    write(alloc, &mut talk, &mut a, &mut b, SEE_2)?;
+    write(alloc, &mut talk, &mut a, &mut b, APPEND_3)?;
+    was_said(alloc, &mut talk, b"");
+    ask(
+        alloc,
+        &mut talk,
+        &mut a,
+        &mut b,
+        b"a",
+        Ok(Command::Noop),
+        b"",
+    )?;
+    ask(
+        alloc,
+        &mut talk,
+        &mut b,
+        &mut a,
+        b"b",
+        flags_of(alloc, 2, 1),
+        b"",
+    )?;
+    let body = fetch(alloc, false, End::Number(3), End::Star, Item::Body);
+    ask(alloc, &mut talk, &mut b, &mut a, b"b", body, b"")?;
+    let all = fetch(alloc, true, End::Star, End::Number(1), Item::Flags);
+    ask(alloc, &mut talk, &mut b, &mut a, b"b", all, b"")?;
+    assert!(rt;
+        was_said(
+            alloc,
+            &mut talk,
+            b"a * 1 EXPUNGE
+a * 2 EXISTS
+a * 1 FETCH (UID 2 FLAGS (\\Seen))
+a * 2 FETCH (UID 3 FLAGS ())
+a OK [MARK 1:152] NOOP
+b * 1 FETCH (UID 1 FLAGS ())
+b * 2 FETCH (UID 2 FLAGS ())
+b * 3 EXISTS
+b * 2 FETCH (UID 2 FLAGS (\\Seen))
+b * 3 FETCH (UID 3 FLAGS ())
+b OK [MARK 1:152] FETCH
+b NO [CORRUPTION] UID 3 MARK 1:152
+b * 1 FETCH (UID 1 FLAGS ())
+b * 2 FETCH (UID 2 FLAGS (\\Seen))
+b * 3 FETCH (UID 3 FLAGS ())
+b * 1 EXPUNGE
+b OK [MARK 1:152] UID FETCH
+"
+        )
+    );
     Ok(())
 }

@@ -29,4 +29,4 @@ returns-else-is_select-clause-answer c = λ mail met_mailbox met supplied.
     let looked : c.in_ok-looked_at.looked_at ≡ uids_looked_at command x.view = c.in_ok-looked_at.ensures ∙ ap (uids_looked_at command) view in
     let last : c.ending-last.result ≡ ending_of mail command x.view met_mailbox m c.args.mark = c.ending-last.ensures mail x.view met_mailbox looked met supplied in
     with_both c.move_on.result _ _ _ c.move_on.ensures.said c.move_on.ensures.state (λ replies are behind.
-        other_answer mail x command other met_mailbox m c.args.told c.args.mark c.step_of.result c.in_ok-data.data replies c.ending-last.result c.move_on.new.self.state c.step_of.ensures given are last behind)
+    other_answer mail x command other met_mailbox m c.args.told c.args.mark c.step_of.result c.in_ok-data.data replies c.ending-last.result c.move_on.new.self.state c.step_of.ensures given are last behind)

@@ -1,6 +1,5 @@
-use Rattle.std.proofs.Common.{◌≡◌, ◌∙◌, ◌++◌, ◌∷◌, [], List, ℕ, ap, subst, sym}
-use Rattle.dv_model.specs.declared.types.Step.TheVariants.{Full}
-use Rattle.dv_model.specs.Views.{View, empty_view, moved}
+use Rattle.std.proofs.Common.{[], subst, sym}
+use Rattle.dv_model.specs.Views.{View}
 use Rattle.dv_answer.specs.Following.{Tracks}
 use Rattle.dv_answer.proofs.Keeping.{select_tracks}
 use Rattle.dv_answer.proofs.session.Session.select.Goals as goal

@@ -1,6 +1,6 @@
 use Rattle.std.proofs.Common.{◌≡◌, ◌∙◌, length, ap, rules}
 use Rattle.dv_view.proofs.Followed.{after_few, rise_of_ordered}
-use Rattle.dv_answer.proofs.commands.missing_number.Goals as goal
+use Rattle.dv_answer.proofs.numbers.missing_number.Goals as goal
 
 pub overflow_cast-count : goal.overflow_cast-count
 overflow_cast-count c =
