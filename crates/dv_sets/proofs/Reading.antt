@@ -14,7 +14,7 @@ use Rattle.dv_sets.proofs.Pieces.{Lacks, split, one_piece, first_piece, some_pie
 -- ---- ranges
 
 -- what the pieces between colons are
-abbrev SpanPieces : Span → List (List ℕ) → Type 0
+abbrev pub SpanPieces : Span → List (List ℕ) → Type 0
 SpanPieces span [] = ⊥
 SpanPieces span (x ∷ []) = (span.from ≡ span.to) × IsEnd span.from x
 SpanPieces span (x ∷ y ∷ []) = IsEnd span.from x × IsEnd span.to y
@@ -29,7 +29,7 @@ no_comma end b is = end_lacks 44 end b (omega arith) (inl (omega arith)) is
 wide_text : (span : Span) (b : List ℕ) (w : IsWide span b) → b ≡ w.from ++ 58 ∷ w.to
 wide_text span b w = w.text ∙ append_assoc w.from (58 ∷ []) w.to
 
-span_pieces : (span : Span) (b : List ℕ) → IsSpan span b → SpanPieces span (split 58 b)
+pub span_pieces : (span : Span) (b : List ℕ) → IsSpan span b → SpanPieces span (split 58 b)
 span_pieces span b (inl w) =
     let parts = first_piece 58 b w.from w.to (no_colon span.from w.from w.ends.0) (wide_text span b w) ∙ ap (λ t. w.from ∷ t) (one_piece 58 w.to w.to (no_colon span.to w.to w.ends.1) refl) in
     subst (SpanPieces span) (sym parts) w.ends
@@ -96,7 +96,7 @@ span_lacks span b (inr s) = no_comma span.from b s.1
 set_split : (set : List Span) (b : List ℕ) (is : IsSet set b) → split 44 b ≡ is.spans
 set_split set b is = ap (split 44) is.text ∙ split_joined 44 is.spans (zip_some IsSpan set is.spans is.each is.some) (zip_all IsSpan (Lacks 44) span_lacks set is.spans is.each)
 
-set_each : (set : List Span) (b : List ℕ) → IsSet set b → AllZip IsSpan set (split 44 b)
+pub set_each : (set : List Span) (b : List ℕ) → IsSet set b → AllZip IsSpan set (split 44 b)
 set_each set b is = subst (AllZip IsSpan set) (sym (set_split set b is)) is.each
 
 -- a text is of one set

@@ -75,7 +75,7 @@ no_empty_flag (inr is) = omega (arith, is.size)
 
 -- ---- lists of words
 
-spaced_joined : (words : List (List ℕ)) → spaced words ≡ joined (32 ∷ []) words
+pub spaced_joined : (words : List (List ℕ)) → spaced words ≡ joined (32 ∷ []) words
 spaced_joined [] = refl
 spaced_joined (w ∷ []) = refl
 spaced_joined (w ∷ v ∷ vs) = ap (λ t. w ++ 32 ∷ t) (spaced_joined (v ∷ vs)) ∙ sym (append_assoc w (32 ∷ []) (joined (32 ∷ []) (v ∷ vs)))
@@ -96,11 +96,11 @@ no_words (w ∷ v ∷ vs) all e = absurd (no_append w e)
     no_append (b ∷ x) f = cc
 
 -- the words of what stands in the parentheses
-abbrev words_in : List ℕ → List (List ℕ)
+abbrev pub words_in : List ℕ → List (List ℕ)
 words_in [] = []
 words_in (b ∷ text) = split 32 (b ∷ text)
 
-words_of : (text : List ℕ) (words : List (List ℕ)) → All IsFlag words → spaced words ≡ text
+pub words_of : (text : List ℕ) (words : List (List ℕ)) → All IsFlag words → spaced words ≡ text
     → words ≡ words_in text
 words_of [] words all e = no_words words all e
 words_of (b ∷ text) [] all e = cc
