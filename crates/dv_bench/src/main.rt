@@ -1,4 +1,4 @@
-//! Applies the records of a log to a live mailbox, and says how long it took.
+//! Applies the records of a log to a live mailbox, or parses a script, and says how long it took.
 #![tactic(auto)]
 
 mod fault;
@@ -12,18 +12,41 @@ use std::env;
 use std::io::Read;
 use std::process::ExitCode;
 
+<<<<<<< HEAD
 const USAGE: &str = "usage: dv_bench FIRST [touched|sessions] < RECORDS";
 
 // What the words ask for: how many records come first, and what is done with the others.
 fn asked(rt: HostRuntime) -> Option<(usize, Work)> {
+=======
+const USAGE: &str = "usage: dv_bench FIRST [touched] < RECORDS, or dv_bench script < SCRIPT";
+
+// What the words ask for.
+#[derive(Clone, Copy)]
+enum Work {
+    /// How many records come first, and whether touched UIDs are wanted.
+    Records(usize, bool),
+    Script,
+}
+
+fn asked(rt: HostRuntime) -> Option<Work> {
+>>>>>>> 681c494dbea2569939d673435a956debd88289f0
     let mut words = env::args(&rt).ok()?.skip(1);
-    let first = words.next()?.as_str().parse().ok()?;
+    let first = words.next()?;
+    if first.as_str() == "script" {
+        return Some(Work::Script);
+    }
+    let first = first.as_str().parse().ok()?;
     let Some(word) = words.next() else {
+<<<<<<< HEAD
         return Some((first, Work::Apply));
+=======
+        return Some(Work::Records(first, false));
+>>>>>>> 681c494dbea2569939d673435a956debd88289f0
     };
     if words.next().is_some() {
         return None;
     }
+<<<<<<< HEAD
     match word.as_str() {
         "touched" => Some((first, Work::Touch)),
         "sessions" => Some((first, Work::Tell)),
@@ -35,6 +58,20 @@ fn asked(rt: HostRuntime) -> Option<(usize, Work)> {
 fn time_input(rt: HostRuntime, first: usize, work: Work) -> Result<(), Fault> {
     let mut bytes = Vec::new(rt.alloc());
     rt.stdin().read_to_end(&mut bytes)?;
+=======
+    Some(Work::Records(first, true))
+}
+
+fn input(rt: HostRuntime) -> Result<Vec<u8>, Fault> {
+    let mut bytes = Vec::new(rt.alloc());
+    rt.stdin().read_to_end(&mut bytes)?;
+    Ok(bytes)
+}
+
+// Times standard input's records.
+fn time_input(rt: HostRuntime, first: usize, touched: bool) -> Result<(), Fault> {
+    let bytes = input(rt)?;
+>>>>>>> 681c494dbea2569939d673435a956debd88289f0
     let records = records::read_all(rt.alloc(), bytes.as_slice())?;
     let times = timing::time_records(rt, &records, first, work)?;
     let count = records.len();
@@ -45,14 +82,34 @@ fn time_input(rt: HostRuntime, first: usize, work: Work) -> Result<(), Fault> {
     Ok(())
 }
 
-/// Standard input holds records as a log does behind its header. FIRST of them are applied before
-/// the others. The status is 1 where anything is wrong.
+// Times the script on standard input.
+fn time_script(rt: HostRuntime) -> Result<(), Fault> {
+    let bytes = input(rt)?;
+    let parsed = timing::time_script(rt, bytes.as_slice())?;
+    println!(rt; "{} lines, {} us", parsed.lines, parsed.time)?;
+    Ok(())
+}
+
+/// Standard input holds records as a log does behind its header, of which FIRST are applied before
+/// the others, or a script. The status is 1 where anything is wrong.
 fn main(rt: HostRuntime) -> ExitCode {
+<<<<<<< HEAD
     let Some((first, work)) = asked(rt) else {
         let _ = println!(rt; "{USAGE}");
         return ExitCode::from(1);
     };
     match time_input(rt, first, work) {
+=======
+    let done = match asked(rt) {
+        Some(Work::Records(first, touched)) => time_input(rt, first, touched),
+        Some(Work::Script) => time_script(rt),
+        None => {
+            let _ = println!(rt; "{USAGE}");
+            return ExitCode::from(1);
+        }
+    };
+    match done {
+>>>>>>> 681c494dbea2569939d673435a956debd88289f0
         Ok(()) => ExitCode::from(0),
         Err(fault) => {
             let _ = println!(rt; "{fault}");

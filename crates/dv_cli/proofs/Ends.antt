@@ -7,7 +7,7 @@ use Rattle.dv_shelf.specs.Folders.{Folder}
 use Rattle.dv_script.specs.declared.types.Line.{Line}
 use Rattle.dv_script.specs.declared.types.ScriptEnd.{ScriptEnd}
 use Rattle.dv_script.specs.declared.types.ScriptEnd.TheVariants as script
-use Rattle.dv_script.specs.Scripts.{parsed}
+use Rattle.dv_cli.specs.Scripts.{parsed}
 use Rattle.dv_cli.specs.declared.ending.End.{End}
 use Rattle.dv_cli.specs.declared.ending.End.TheVariants as how
 use Rattle.dv_cli.specs.declared.lines.LineEnd.{LineEnd}

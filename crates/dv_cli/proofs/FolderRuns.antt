@@ -5,7 +5,7 @@ use Rattle.dv_model.specs.declared.types.Entry.{Entry}
 use Rattle.dv_shelf.specs.Folders.{Folder}
 use Rattle.dv_script.specs.declared.types.ScriptEnd.{ScriptEnd}
 use Rattle.dv_script.specs.declared.types.ScriptEnd.TheVariants as script
-use Rattle.dv_script.specs.Scripts.{parsed}
+use Rattle.dv_cli.specs.Scripts.{parsed}
 use Rattle.dv_cli.specs.declared.creating.CreateEnd.{CreateEnd}
 use Rattle.dv_cli.specs.declared.creating.CreateEnd.TheVariants as create
 use Rattle.dv_cli.specs.declared.ending.End.{End}

@@ -17,3 +17,4 @@ pub mod CrashLines
 pub mod CrashMade
 pub mod CrashRuns
 pub mod Outputs
+pub mod LinesOf

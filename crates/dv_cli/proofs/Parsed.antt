@@ -12,7 +12,7 @@ use Rattle.dv_model.specs.declared.types.Command.{Command}
 use Rattle.dv_model.specs.declared.types.Command.TheVariants as command
 use Rattle.dv_script.specs.declared.types.Line.{Line}
 use Rattle.dv_script.specs.declared.types.ScriptEnd.{ScriptEnd}
-use Rattle.dv_script.specs.Scripts.{command_of, named_line, line_of, with_text, lines_from, parsed, is_skipped, is_space}
+use Rattle.dv_cli.specs.Scripts.{command_of, named_line, line_of, with_text, lines_from, parsed, is_skipped, is_space}
 use Rattle.dv_cli.specs.Readings.{read_limit}
 use Rattle.dv_cli.specs.Standings.{IsServed, AreServed}
 

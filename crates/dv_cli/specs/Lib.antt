@@ -9,3 +9,4 @@ pub mod Crashing
 pub mod Creating
 pub mod Runs
 pub mod Words
+pub mod Scripts

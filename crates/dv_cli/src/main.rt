@@ -8,6 +8,7 @@ mod ending;
 mod lines;
 mod program;
 mod reading;
+mod script;
 mod serving;
 #[cfg(test)]
 mod tests;

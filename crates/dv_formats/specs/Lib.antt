@@ -1,4 +1,5 @@
 pub mod Scripts
+pub mod Parsing
 pub mod Printing
 pub mod Generators
 pub mod Replies

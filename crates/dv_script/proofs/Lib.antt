@@ -1,2 +1,4 @@
-pub mod LinesOf
 pub mod SpacedLemmas
+pub mod Lines
+pub mod KeyTexts
+pub mod Printed

@@ -1,7 +1,7 @@
 -- Words and numbers written one by one.
-use Rattle.std.proofs.Common.{◌≡◌, ℕ, ◌+◌, ◌<◌, Bool, true, false, List, [], ◌∷◌, ◌++◌, map, cond, length, take, get_or, refl, ap, sym, ◌∙◌, append_assoc}
+use Rattle.std.proofs.Common.{◌≡◌, ℕ, ◌+◌, ◌<◌, ◌≤◌, Bool, true, false, List, [], ◌∷◌, ◌++◌, map, cond, length, take, get_or, refl, ap, sym, ◌∙◌, append_assoc}
 use Rattle.std.specs.Prelude.{flat_map, decimal}
-use Rattle.std.proofs.lemmas.List.{append-nil, take_more}
+use Rattle.std.proofs.lemmas.List.{append-nil, take_all, take_more}
 use Rattle.dv_model.specs.Texts.{spaced, with_commas}
 use Rattle.dv_script.specs.Spaced.{spaced_from, none_of, AddsWords}
 
@@ -64,3 +64,11 @@ one_more_word ws i w h is front behind = rw (take_more ws i w h, ← is) (more_w
 pub all_words : {ws : List (List ℕ)} {a b : List ℕ} {last : Bool} → AddsWords true ws a b last
     → b ≡ a ++ spaced ws
 all_words {ws} {a} h = h.written ∙ ap (λ (t : List ℕ). a ++ t) (spaced_from-first ws)
+
+-- the first thing and the others, each behind a space
+pub listed : {X : Type 0} (f : X → List ℕ) (x : X) (all xs : List X) (i : ℕ) (a b c : List ℕ) → all ≡ x ∷ xs → length xs ≤ i
+    → b ≡ a ++ f x → c ≡ b ++ flat_map (λ y. 32 ∷ f y) (take i xs) → c ≡ a ++ spaced (map f all)
+listed f x all xs i a b c parts last first others =
+    let whole = ap (λ ys. b ++ flat_map (λ y. 32 ∷ f y) ys) (take_all i xs last) in
+    pieces a b c (f x) (flat_map (λ y. 32 ∷ f y) xs) first (others ∙ whole)
+    ∙ ap (λ t. a ++ t) (sym (spaced-map f (f x) xs) ∙ ap (λ ys. spaced (map f ys)) (sym parts))

@@ -1,7 +1,10 @@
 //! Scripts and replies as text: the commands that a script has, and the lines that answer them.
 #![tactic(auto)]
 
+mod keys;
+mod law;
 mod pieces;
+mod printing;
 mod reply;
 mod script;
 #[cfg(test)]
@@ -9,7 +12,9 @@ mod tests;
 mod types;
 mod value;
 
+pub use law::printed_script_is_parsed;
 pub use pieces::decimal_text;
+pub use printing::print_script;
 pub use reply::{mark_text, replies_text, reply_text};
 pub use script::parse;
 pub use types::{Line, ScriptEnd};

@@ -1,6 +1,8 @@
 ghost use Rattle.std.specs.Prelude.{◌≡◌, ◌++◌, decimal, flat_map, IfOk, OnOk};
+ghost use Rattle.dv_formats.specs.Printing.{flags_text, set_text};
 
-use dv_model::{Bytes, List, NoMemory};
+use dv_model::{Bytes, List, NoMemory, Span};
+use dv_sets::{print_flags, print_set};
 use itoa::Buffer;
 use std::alloc::Global;
 
@@ -55,4 +57,21 @@ pub(crate) fn put_numbers(text: &mut Bytes, before: &[u8], numbers: &[u32]) -> R
         put_before(text, before, *number as u64)?;
     }
     Ok(())
+}
+
+pub(crate) fn put_set(alloc: Global, text: &mut Bytes, set: &List<Span>) -> Result<(), NoMemory>
+    ensures { OnOk result (text.new ≡ text.old ++ set_text set.now) }
+{
+    put(text, print_set(alloc, set)?.as_slice())
+}
+
+pub(crate) fn put_flag_list(
+    alloc: Global,
+    text: &mut Bytes,
+    flags: u8,
+    keywords: &List<Bytes>,
+) -> Result<(), NoMemory>
+    ensures { OnOk result (text.new ≡ text.old ++ flags_text flags keywords.now) }
+{
+    put(text, print_flags(alloc, flags, keywords)?.as_slice())
 }

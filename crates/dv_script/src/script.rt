@@ -1,120 +1,129 @@
-ghost use Rattle.std.specs.Prelude.{◌≡◌, ◌⊎◌, ◌+◌, ◌<◌, ◌≤◌, ◌∷◌, ℕ, length, nat_eq, position, MatchResult, IfOk, Ok, Err, Some};
-ghost use Rattle.std.specs.List.{before_first, after_first, position_or_len, list_all};
-ghost use Rattle.std.specs.Str.Lines.{lines, strip_carriage_return};
-ghost use Rattle.dv_script.specs.Scripts.{parsed, command_of, is_session_byte, is_session_name, may_follow, is_skipped, is_space, line_of, with_text};
+ghost use Rattle.std.specs.Prelude.{◌≡◌, ◌+◌, ◌<◌, ◌≤◌, ◌++◌, ℕ, List, bytes_eq, count_by, length, IfOk, IfSome, MatchBool, MatchOption, OnOk, Some, None};
+ghost use Rattle.std.specs.List.{list_all, list_any};
+ghost use Rattle.std.specs.Str.Lines.{strip_carriage_return};
+ghost use Rattle.dv_formats.specs.Scripts.{is_session_byte};
+ghost use Rattle.dv_formats.specs.Parsing.{as_list, behind_line_end, command_at, feeds_before, first_line, is_byte, is_session_name, is_skipped, line_at, literal_at, parsed, session_at, with_session};
+ghost use Rattle.dv_script.specs.Sources.{LineGives, ScriptGives, may_name, named, script_end_of};
 
 use crate::{Line, ScriptEnd};
-use dv_model::{Command, List, NoMemory};
+use dv_commands::{behind, parse_append, parse_command, split_at_byte};
+use dv_model::{Bytes, Command, List, NoMemory, OutOfMemory};
+use dv_sets::ParseEnd;
 use std::alloc::Global;
 
 /// The most bytes that a script may have.
 const MAX_SCRIPT: usize = 67_108_864;
 
-/// The most bytes that a line may have before its end.
+/// The most bytes that a line may have before its first line end.
 const MAX_LINE: usize = 65_536;
 
-/// The lines of a script, without its comments and empty lines, or its first fault.
+/// The most sessions that a script may name.
+const MAX_SESSIONS: usize = 64;
+
+/// Why a line has no command.
+#[derive(Clone, Copy)]
+pub(crate) enum LineEnd {
+    Bad,
+    /// Its literal has fewer bytes than its number says.
+    Short,
+    NoMemory,
+}
+
+impl<E: OutOfMemory> From<E> for LineEnd {
+    ghost use Rattle.dv_script.specs.declared.script.LineEnd.TheVariants.{NoMemory};
+
+    ghost from_gives = { λ _ end. end ≡ NoMemory };
+
+    fn from(_: E) -> LineEnd {
+        LineEnd::NoMemory
+    }
+}
+
+/// The lines of a script with their commands, or its first fault (RFC 3501, section 9).
 pub fn parse(alloc: Global, b: &[u8]) -> Result<List<Line>, ScriptEnd>
-    ensures lines { MatchResult result (λ lines. parsed b.now ≡ Ok lines)
-        (λ e. (e ≡ ScriptEnd.NoMemory) ⊎ (parsed b.now ≡ Err e)) }
+    // The lines are those that the script says, and a fault is its first one.
+    ensures lines { ScriptGives result (parsed b.now) }
+    // Each line has a byte.
     ensures few { IfOk result (λ lines. length lines ≤ length b.now) }
 {
     if b.len() > MAX_SCRIPT {
         return Err(ScriptEnd::TooLong);
     }
     let mut lines = List::new(alloc);
+    let mut names = List::new(alloc);
     let mut rest = b;
-    let mut line: u32 = 1;
-    while !rest.is_empty() {
-        let (text, behind) = split_line(rest);
-        add_text(alloc, &mut lines, text, line)?;
-        rest = behind;
-        line += 1;
+    let mut number: u32 = 1;
+    'lines: while !rest.is_empty() {
+        let (text, end) = first_line(rest);
+        let (line, next) = match read_line(alloc, &mut names, text, end) {
+            Ok(read) => read,
+            Err(fault) => return Err(script_end(number, fault)),
+        };
+        add_line(&mut lines, line)?;
+        number += feeds_before(rest, next);
+        rest = next;
     }
     Ok(lines)
 }
 
-// Adds the line that this text is, unless it is skipped.
-fn add_text(alloc: Global, lines: &mut List<Line>, text: &[u8], line: u32) -> Result<(), ScriptEnd>
-    ensures lines { MatchResult result (λ _. with_text lines.old text.now ≡ Some lines.new)
-        (λ e. (e ≡ ScriptEnd.NoMemory)
-        ⊎ ((e ≡ ScriptEnd.BadLine line) × (with_text lines.old text.now ≡ None))) }
-    ensures few { length lines.new ≤ length lines.old + 1 }
+// A line's fault, by the line's number.
+fn script_end(line: u32, end: LineEnd) -> ScriptEnd
+    ensures { result ≡ script_end_of line end }
 {
-    if text.len() > MAX_LINE {
-        return Err(ScriptEnd::BadLine { line });
+    match end {
+        LineEnd::Bad => ScriptEnd::BadLine { line },
+        LineEnd::Short => ScriptEnd::ShortLiteral { line },
+        LineEnd::NoMemory => ScriptEnd::NoMemory,
     }
-    if !is_skipped(text) {
-        let Some(more) = parse_line(alloc, lines, text)? else {
-            return Err(ScriptEnd::BadLine { line });
-        };
-        lines.push(more)?;
+}
+
+fn add_line(lines: &mut List<Line>, line: Option<Line>) -> Result<(), NoMemory>
+    ensures lines { OnOk result (lines.new ≡ lines.old ++ as_list line) }
+    ensures one { OnOk result (length lines.new ≤ length lines.old + 1) }
+{
+    if let Some(line) = line {
+        lines.push(line)?;
     }
     Ok(())
 }
 
-// A line that isn't skipped, behind these lines.
-fn parse_line(alloc: Global, before: &List<Line>, text: &[u8]) -> Result<Option<Line>, NoMemory>
-    ensures { IfOk result (λ line. line ≡ line_of before.now text.now) }
+fn count_feeds(b: &[u8]) -> usize
+    ensures count { result ≡ count_by (is_byte 10) b.now }
+    ensures within { result ≤ length b.now }
 {
-    let (name, words) = split_word(text);
-    if !is_session_name(name) || !may_follow(before, name) {
-        return Ok(None);
-    }
-    let Some(command) = command_of(alloc, words) else {
-        return Ok(None);
-    };
-    let session = List::from_slice(alloc, name)?;
-    Ok(Some(Line { session, command }))
+    b.iter().filter(|byte| **byte == b'\n').count()
 }
 
-fn command_of(alloc: Global, words: &[u8]) -> Option<Command>
-    ensures { result ≡ command_of words.now }
+// The line feeds before what is left of these bytes.
+fn feeds_before(b: &[u8], rest: &[u8]) -> u32
+    requires within { length rest.now ≤ length b.now }
+    requires limited { length b.now ≤ 67108864 }
+    ensures count { result ≡ feeds_before b.now rest.now }
+    ensures left { result + length rest.now ≤ length b.now }
 {
-    if words == b"SELECT".as_slice() {
-        return Some(Command::Select);
-    }
-    if words == b"NOOP".as_slice() {
-        return Some(Command::Noop);
-    }
-    if words == b"APPEND ()".as_slice() {
-        return Some(Command::Append {
-            flags: 0,
-            keywords: List::new(alloc),
-            message: List::new(alloc),
-        });
-    }
-    None
+    let (taken, _) = b.split_at(b.len() - rest.len());
+    count_feeds(taken) as u32
 }
 
-fn is_session_name(name: &[u8]) -> bool
-    ensures { result ≡ is_session_name name.now }
+fn without_carriage_return(text: &[u8]) -> &[u8]
+    ensures { result.now ≡ strip_carriage_return text.now }
 {
-    if name.is_empty() || name.len() > 16 {
-        return false;
+    match text.strip_suffix(b"\r") {
+        None => text,
+        Some(front) => front,
     }
-    are_session_bytes(name)
 }
 
-fn are_session_bytes(name: &[u8]) -> bool
-    ensures { result ≡ list_all is_session_byte name.now }
+// The first line without its end, and what stands behind that.
+fn first_line(b: &[u8]) -> (&[u8], &[u8])
+    ensures text { result.0.now ≡ (first_line b.now).0 }
+    ensures rest { result.1.now ≡ (first_line b.now).1 }
+    ensures shorter { 0 < length b.now → length result.1.now < length b.now }
 {
-    name.iter().all(|b| is_session_byte(*b))
-}
-
-fn is_session_byte(b: u8) -> bool
-    ensures { result ≡ is_session_byte b }
-{
-    b.is_ascii_lowercase() || b.is_ascii_digit()
-}
-
-// Whether a line of this session may follow these.
-fn may_follow(before: &List<Line>, name: &[u8]) -> bool
-    ensures { result ≡ may_follow before.now name.now }
-{
-    match before.as_slice().first() {
-        None => true,
-        Some(first) => name == first.session.as_slice(),
+    let (front, end) = split_at_byte(b, b'\n');
+    match behind(end, b"\n") {
+        None => (b, &[]),
+        Some(rest) => (without_carriage_return(front), rest),
     }
 }
 
@@ -127,52 +136,164 @@ fn is_skipped(text: &[u8]) -> bool
     }
 }
 
-// What stands before the first space, and what stands behind it.
-fn split_word(text: &[u8]) -> (&[u8], &[u8])
-    ensures word { result.0.now ≡ before_first is_space text.now }
-    ensures behind { result.1.now ≡ after_first is_space text.now }
+// A line without its end, behind which these bytes stand.
+#[tactic(auto, unfolding(dv_formats::specs::Parsing::line_at))]
+fn read_line<'a>(
+    alloc: Global,
+    names: &mut List<Bytes>,
+    text: &[u8],
+    b: &'a [u8],
+) -> Result<(Option<Line>, &'a [u8]), LineEnd>
+    ensures line { LineGives (λ x. (may_name x.0, names.new, x.1.now)) result
+        (line_at names.old text.now b.now) }
+    ensures within { IfOk result (λ x. length x.1.now ≤ length b.now) }
 {
-    let at = place_or_end(text, b' ');
-    if at == text.len() {
-        return (text, &text[at..]);
+    if text.len() > MAX_LINE {
+        return Err(LineEnd::Bad);
     }
-    (&text[..at], &text[at + 1..])
-}
-
-#[tactic(auto, using(crate::proofs::LinesOf::split_alone, crate::proofs::LinesOf::split_first))]
-// The first line without its end, and what stands behind it.
-fn split_line(text: &[u8]) -> (&[u8], &[u8])
-    requires { 0 < length text.now }
-    ensures lines { lines text.now ≡ result.0.now ∷ lines result.1.now }
-    ensures shorter { length result.1.now < length text.now }
-{
-    let at = place_or_end(text, b'\n');
-    if at == text.len() {
-        return (text, &text[at..]);
+    if is_skipped(text) {
+        return Ok((None, b));
     }
-    (without_carriage_return(&text[..at]), &text[at + 1..])
-}
-
-#[tactic(auto, using(crate::proofs::LinesOf::place_or_end))]
-// The place of the first such byte, or the text's length where there is none.
-fn place_or_end(text: &[u8], byte: u8) -> usize
-    ensures place { result ≡ position_or_len (λ b. nat_eq b byte) text.now }
-    ensures within { result ≤ length text.now }
-{
-    first_place(text, byte).unwrap_or(text.len())
-}
-
-fn first_place(text: &[u8], byte: u8) -> Option<usize>
-    ensures { result ≡ position (λ b. nat_eq b byte) text.now }
-{
-    text.iter().position(|b| *b == byte)
-}
-
-fn without_carriage_return(text: &[u8]) -> &[u8]
-    ensures { result.now ≡ strip_carriage_return text.now }
-{
-    match text.strip_suffix(b"\r") {
-        None => text,
-        Some(front) => front,
+    let Some((name, words)) = split_session(text) else {
+        return Err(LineEnd::Bad);
+    };
+    if !add_session(alloc, names, name)? {
+        return Err(LineEnd::Bad);
     }
+    let (line, next) = read_command(alloc, name, words, b)?;
+    Ok((Some(line), next))
+}
+
+fn is_session_byte(b: u8) -> bool
+    ensures { result ≡ is_session_byte b }
+{
+    b.is_ascii_lowercase() || b.is_ascii_digit()
+}
+
+fn are_session_bytes(name: &[u8]) -> bool
+    ensures { result ≡ list_all is_session_byte name.now }
+{
+    name.iter().all(|b| is_session_byte(*b))
+}
+
+#[tactic(auto, unfolding(dv_formats::specs::Parsing::is_session_name))]
+fn is_session_name(name: &[u8]) -> bool
+    ensures { result ≡ is_session_name name.now }
+{
+    if name.is_empty() || name.len() > 16 {
+        return false;
+    }
+    are_session_bytes(name)
+}
+
+// The session's name, and what stands behind its space.
+fn split_session(text: &[u8]) -> Option<(&[u8], &[u8])>
+    ensures { MatchOption result (session_at text.now ≡ None)
+        (λ x. session_at text.now ≡ Some (x.0.now, x.1.now)) }
+{
+    let (name, rest) = split_at_byte(text, b' ');
+    if !is_session_name(name) {
+        return None;
+    }
+    match behind(rest, b" ") {
+        None => None,
+        Some(words) => Some((name, words)),
+    }
+}
+
+fn is_known(names: &[Bytes], name: &[u8]) -> bool
+    ensures { result ≡ list_any (bytes_eq name.now) names.now }
+{
+    names.iter().any(|known| name == known.as_slice())
+}
+
+// Adds the session where it is new, unless there are 64 others.
+fn add_session(alloc: Global, names: &mut List<Bytes>, name: &[u8]) -> Result<bool, NoMemory>
+    ensures { IfOk result (λ fits. MatchBool fits (with_session names.old name.now ≡ Some names.new)
+        (with_session names.old name.now ≡ None)) }
+{
+    if is_known(names.as_slice(), name) {
+        return Ok(true);
+    }
+    if names.len() >= MAX_SESSIONS {
+        return Ok(false);
+    }
+    names.push(List::from_slice(alloc, name)?)?;
+    Ok(true)
+}
+
+// What a session's command says, and what stands behind its line.
+#[tactic(auto, unfolding(dv_formats::specs::Parsing::command_at))]
+fn read_command<'a>(
+    alloc: Global,
+    name: &[u8],
+    text: &[u8],
+    b: &'a [u8],
+) -> Result<(Line, &'a [u8]), LineEnd>
+    ensures line { (names : List (List ℕ)) → LineGives (λ x. (Some (named x.0), names, x.1.now))
+        result (command_at name.now names text.now b.now) }
+    ensures within { IfOk result (λ x. length x.1.now ≤ length b.now) }
+{
+    if let Some(rest) = behind(text, b"APPEND ") {
+        return match parse_append(alloc, rest) {
+            Ok((flags, size)) => read_literal(alloc, name, flags, size, b),
+            Err(ParseEnd::Bad) => Err(LineEnd::Bad),
+            Err(ParseEnd::NoMemory) => Err(LineEnd::NoMemory),
+        };
+    }
+    match parse_command(alloc, text) {
+        Ok(command) => {
+            let session = List::from_slice(alloc, name)?;
+            Ok((Line { session, command }, b))
+        }
+        Err(ParseEnd::Bad) => Err(LineEnd::Bad),
+        Err(ParseEnd::NoMemory) => Err(LineEnd::NoMemory),
+    }
+}
+
+// A line end, or the script's end.
+fn behind_line_end(b: &[u8]) -> Option<&[u8]>
+    ensures rest { MatchOption result (behind_line_end b.now ≡ None)
+        (λ rest. behind_line_end b.now ≡ Some rest.now) }
+    ensures within { IfSome result (λ rest. length rest.now ≤ length b.now) }
+{
+    if b.is_empty() {
+        return Some(b);
+    }
+    match behind(b, b"\n") {
+        Some(rest) => Some(rest),
+        None => behind(b, b"\r\n"),
+    }
+}
+
+// So many bytes are the message, and then the line ends.
+#[tactic(auto, unfolding(dv_formats::specs::Parsing::literal_at))]
+fn read_literal<'a>(
+    alloc: Global,
+    name: &[u8],
+    flags: (u8, List<Bytes>),
+    size: u32,
+    b: &'a [u8],
+) -> Result<(Line, &'a [u8]), LineEnd>
+    ensures line { (names : List (List ℕ)) → LineGives (λ x. (Some (named x.0), names, x.1.now))
+        result (literal_at name.now names (flags, size) b.now) }
+    ensures within { IfOk result (λ x. length x.1.now ≤ length b.now) }
+{
+    let size = size as usize;
+    if b.len() < size {
+        return Err(LineEnd::Short);
+    }
+    let (message, end) = b.split_at(size);
+    let Some(next) = behind_line_end(end) else {
+        return Err(LineEnd::Bad);
+    };
+    let session = List::from_slice(alloc, name)?;
+    let message = List::from_slice(alloc, message)?;
+    let (flags, keywords) = flags;
+    let command = Command::Append {
+        flags,
+        keywords,
+        message,
+    };
+    Ok((Line { session, command }, next))
 }

@@ -4,7 +4,7 @@ use Rattle.dv_model.specs.Counts.{Rose}
 use Rattle.dv_script.specs.declared.types.Line.{Line}
 use Rattle.dv_script.specs.declared.types.ScriptEnd.{ScriptEnd}
 use Rattle.dv_script.specs.declared.types.ScriptEnd.TheVariants as script_end
-use Rattle.dv_script.specs.Scripts.{parsed}
+use Rattle.dv_cli.specs.Scripts.{parsed}
 use Rattle.dv_cli.specs.Endings.{Concludes}
 use Rattle.dv_cli.specs.Found.{IsNew, FindsAt}
 use Rattle.dv_cli.specs.Running.{log_of}

@@ -1,5 +1,5 @@
 use Rattle.std.proofs.Common.{◌∙◌, ap, sym, ⊎_elim, inl, inr}
-use Rattle.dv_script.specs.Scripts.{parsed}
+use Rattle.dv_cli.specs.Scripts.{parsed}
 use Rattle.dv_cli.proofs.Parsed.{parsed_all, parsed_front}
 use Rattle.dv_cli.proofs.FolderRuns.{refused_script}
 use Rattle.dv_cli.proofs.top_call.script_lines.Goals as goal

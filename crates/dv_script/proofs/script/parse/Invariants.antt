@@ -1,15 +1,14 @@
 use Rattle.std.proofs.Common.{◌≡◌, ◌+◌, ◌≤◌, [], length}
-use Rattle.std.specs.Str.Lines.{lines}
-use Rattle.dv_script.specs.Scripts.{lines_from}
+use Rattle.dv_script.proofs.Lines.{IsReadTo}
 use Rattle.dv_script.proofs.script.parse.Given as goal
 
-abbrev pub invariant-loop-rest : goal.invariant-loop-rest
-invariant-loop-rest l = record {
+abbrev pub invariant-lines : goal.invariant-lines
+invariant-lines l = record {
   short : length l.b ≤ 67108864;
-  counted : l.line + length l.rest ≤ length l.b + 1;
+  counted : l.number + length l.rest ≤ length l.b + 1;
   few : length l.lines + length l.rest ≤ length l.b;
-  same : lines_from l.line l.lines (lines l.rest) ≡ lines_from 1 [] (lines l.b);
+  same : IsReadTo l.b l.number l.lines l.names l.rest;
 }
 
-abbrev pub decreases-loop-rest : goal.decreases-loop-rest
-decreases-loop-rest l = length l.rest
+abbrev pub decreases-lines : goal.decreases-lines
+decreases-lines l = length l.rest

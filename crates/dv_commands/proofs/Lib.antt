@@ -1,0 +1,15 @@
+pub mod Places
+pub mod Base
+pub mod Numbers
+pub mod Grammar
+pub mod Loops
+pub mod Nested
+pub mod Words
+pub mod KeyWords
+pub mod KeyTrees
+pub mod CommandTexts
+pub mod PrintedKeys
+pub mod PrintedFlags
+pub mod PrintedCommands
+pub mod Plain
+pub mod AppendTexts

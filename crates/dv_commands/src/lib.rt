@@ -1,0 +1,13 @@
+//! A command as text: from a line of a script to what it asks for (RFC 3501, section 9).
+#![tactic(auto)]
+
+mod commands;
+mod items;
+mod keys;
+mod law;
+mod leaves;
+mod text;
+
+pub use commands::{parse_append, parse_command};
+pub use law::{command_is_read, printed_command_is_read};
+pub use text::{behind, split_at_byte};
