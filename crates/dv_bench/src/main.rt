@@ -12,54 +12,35 @@ use std::env;
 use std::io::Read;
 use std::process::ExitCode;
 
-<<<<<<< HEAD
-const USAGE: &str = "usage: dv_bench FIRST [touched|sessions] < RECORDS";
-
-// What the words ask for: how many records come first, and what is done with the others.
-fn asked(rt: HostRuntime) -> Option<(usize, Work)> {
-=======
-const USAGE: &str = "usage: dv_bench FIRST [touched] < RECORDS, or dv_bench script < SCRIPT";
+const USAGE: &str =
+    "usage: dv_bench FIRST [touched|sessions] < RECORDS, or dv_bench script < SCRIPT";
 
 // What the words ask for.
 #[derive(Clone, Copy)]
-enum Work {
-    /// How many records come first, and whether touched UIDs are wanted.
-    Records(usize, bool),
+enum Request {
+    /// How many records come first, and what is done with the others.
+    Records(usize, Work),
     Script,
 }
 
-fn asked(rt: HostRuntime) -> Option<Work> {
->>>>>>> 681c494dbea2569939d673435a956debd88289f0
+fn asked(rt: HostRuntime) -> Option<Request> {
     let mut words = env::args(&rt).ok()?.skip(1);
     let first = words.next()?;
     if first.as_str() == "script" {
-        return Some(Work::Script);
+        return Some(Request::Script);
     }
     let first = first.as_str().parse().ok()?;
     let Some(word) = words.next() else {
-<<<<<<< HEAD
-        return Some((first, Work::Apply));
-=======
-        return Some(Work::Records(first, false));
->>>>>>> 681c494dbea2569939d673435a956debd88289f0
+        return Some(Request::Records(first, Work::Apply));
     };
     if words.next().is_some() {
         return None;
     }
-<<<<<<< HEAD
     match word.as_str() {
-        "touched" => Some((first, Work::Touch)),
-        "sessions" => Some((first, Work::Tell)),
+        "touched" => Some(Request::Records(first, Work::Touch)),
+        "sessions" => Some(Request::Records(first, Work::Tell)),
         _ => None,
     }
-}
-
-// Times standard input's records.
-fn time_input(rt: HostRuntime, first: usize, work: Work) -> Result<(), Fault> {
-    let mut bytes = Vec::new(rt.alloc());
-    rt.stdin().read_to_end(&mut bytes)?;
-=======
-    Some(Work::Records(first, true))
 }
 
 fn input(rt: HostRuntime) -> Result<Vec<u8>, Fault> {
@@ -69,9 +50,8 @@ fn input(rt: HostRuntime) -> Result<Vec<u8>, Fault> {
 }
 
 // Times standard input's records.
-fn time_input(rt: HostRuntime, first: usize, touched: bool) -> Result<(), Fault> {
+fn time_input(rt: HostRuntime, first: usize, work: Work) -> Result<(), Fault> {
     let bytes = input(rt)?;
->>>>>>> 681c494dbea2569939d673435a956debd88289f0
     let records = records::read_all(rt.alloc(), bytes.as_slice())?;
     let times = timing::time_records(rt, &records, first, work)?;
     let count = records.len();
@@ -93,23 +73,15 @@ fn time_script(rt: HostRuntime) -> Result<(), Fault> {
 /// Standard input holds records as a log does behind its header, of which FIRST are applied before
 /// the others, or a script. The status is 1 where anything is wrong.
 fn main(rt: HostRuntime) -> ExitCode {
-<<<<<<< HEAD
-    let Some((first, work)) = asked(rt) else {
-        let _ = println!(rt; "{USAGE}");
-        return ExitCode::from(1);
-    };
-    match time_input(rt, first, work) {
-=======
     let done = match asked(rt) {
-        Some(Work::Records(first, touched)) => time_input(rt, first, touched),
-        Some(Work::Script) => time_script(rt),
+        Some(Request::Records(first, work)) => time_input(rt, first, work),
+        Some(Request::Script) => time_script(rt),
         None => {
             let _ = println!(rt; "{USAGE}");
             return ExitCode::from(1);
         }
     };
     match done {
->>>>>>> 681c494dbea2569939d673435a956debd88289f0
         Ok(()) => ExitCode::from(0),
         Err(fault) => {
             let _ = println!(rt; "{fault}");

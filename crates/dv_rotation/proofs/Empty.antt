@@ -11,13 +11,6 @@ use Rattle.dv_logfile.specs.Scans.{Spot, GoodLog, Scanned, Good}
 use Rattle.dv_openings.specs.Openings.{Applied, Gives, Refused, Found, Finds, NoLog, BadLogHeader, BadRecord, BadIndex, Gap, Snapshot, applied_from, at_end, before_log, counted, end_mark, file_applied, file_number, found_in, from_either, from_index, from_nothing, in_log, in_rotated, joining, number_before, raised, records_from, spots_applied, spots_from, then_file, with_numbers}
 use Rattle.dv_chain.proofs.Joins.{index_before, index_gap, index_in_log, index_in_rotated, not_before, not_in_first, not_in_log, not_next, not_there, nothing_alone, nothing_first, nothing_second, nothing_third, there_before, there_in_log, there_in_rotated}
 
-gives_one : (m n : Mailbox) → Gives m ≡ Gives n → m ≡ n
-gives_one m n e = ap mailbox e
-  where
-    mailbox : Applied → Mailbox
-    mailbox (Gives x) = x
-    mailbox (Refused place) = m
-
 module _ (log : GoodLog) where
   -- the log has no record
   abbrev pub IsEmpty : Type 0
@@ -47,7 +40,8 @@ module _ (log : GoodLog) where
       by_result : (a : Applied) → a ≡ spots_applied (raised log.header m) log.spots → GivesNumber a
       by_result (Refused place) e = tt
       by_result (Gives n) e = λ empty.
-          let same : n ≡ raised log.header m = gives_one n (raised log.header m) (e ∙ ap (spots_applied (raised log.header m)) empty.0) in
+          let told : Gives n ≡ Gives (raised log.header m) = e ∙ ap (spots_applied (raised log.header m)) empty.0 in
+          let same : n ≡ raised log.header m = cc in
           ap (raised log.header) same ∙ raised_twice m ∙ sym same
 
   then_gives : (a : Applied) → GivesNumber (then_file log a)
@@ -70,6 +64,10 @@ module _ (log : GoodLog) where
       by_place : (x : Bool) → nat_eq from log.header.hdr_size ≡ x → GivesNumber (if x then file_applied log m else spots_applied m left)
       by_place true at = file_gives m
       by_place false at = elsewhere at (spots_applied m left)
+
+  applied_ends : (a : Applied) → GivesNumber a → FindsEnd (at_end log a)
+  applied_ends (Gives m) number = (refl, number)
+  applied_ends (Refused place) number = tt
 
   -- ---- from a snapshot
 
@@ -116,30 +114,22 @@ module _ (log : GoodLog) where
             let none = not_before log None s at in
             absurd cc
 
-    ended : (a : Applied) → GivesNumber a → FindsEnd (at_end log a)
-    ended (Gives m) number = (refl, number)
-    ended (Refused place) number = tt
-
     index_ends : (rotated : Option GoodLog) → FindsEnd (from_index log rotated s)
     index_ends rotated = by_log (in_log log s) refl
       where
         by_before : in_log log s ≡ None → in_rotated log rotated s ≡ None → (x : Option Applied) → before_log log s ≡ x → FindsEnd (from_index log rotated s)
-        by_before none nowhere (Some a) e = subst FindsEnd (sym (index_before log rotated s a none nowhere e)) (ended a (before_gives a e))
+        by_before none nowhere (Some a) e = subst FindsEnd (sym (index_before log rotated s a none nowhere e)) (applied_ends a (before_gives a e))
         by_before none nowhere None e = subst FindsEnd (sym (index_gap log rotated s none nowhere e)) tt
 
         by_rotated : in_log log s ≡ None → (x : Option Applied) → in_rotated log rotated s ≡ x → FindsEnd (from_index log rotated s)
-        by_rotated none (Some a) e = subst FindsEnd (sym (index_in_rotated log rotated s a none e)) (ended a (rotated_gives rotated a e))
+        by_rotated none (Some a) e = subst FindsEnd (sym (index_in_rotated log rotated s a none e)) (applied_ends a (rotated_gives rotated a e))
         by_rotated none None e = by_before none e (before_log log s) refl
 
         by_log : (x : Option Applied) → in_log log s ≡ x → FindsEnd (from_index log rotated s)
-        by_log (Some a) e = subst FindsEnd (sym (index_in_log log rotated s a e)) (ended a (log_gives a e))
+        by_log (Some a) e = subst FindsEnd (sym (index_in_log log rotated s a e)) (applied_ends a (log_gives a e))
         by_log None e = by_rotated e (in_rotated log rotated s) refl
 
   -- ---- from nothing
-
-  applied_ends : (a : Applied) → GivesNumber a → FindsEnd (at_end log a)
-  applied_ends (Gives m) number = (refl, number)
-  applied_ends (Refused place) number = tt
 
   nothing_ends : (rotated : Option GoodLog) → FindsEnd (from_nothing log rotated)
   nothing_ends rotated = by_first (nat_eq log.header.file_seq 1) refl

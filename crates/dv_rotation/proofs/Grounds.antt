@@ -16,7 +16,7 @@ use Rattle.dv_chain.specs.declared.chain.Chain.{Chain}
 use Rattle.dv_chain.specs.Openings.{found_of}
 use Rattle.dv_chain.specs.Rest.{Holds, HoldsAlone, cut_at}
 use Rattle.dv_chain.proofs.Mended.{ends_of, found_again}
-use Rattle.dv_rotation.specs.Texts.{IsSnapshotOf, closed_at, mark_of}
+use Rattle.dv_rotation.specs.Texts.{IsSnapshotOf, closed_at, place_of}
 use Rattle.dv_rotation.proofs.Empty.{HasNumber, found_end}
 use Rattle.dv_rotation.proofs.Resumed.{IsSnapshotAt, opens_at_end}
 
@@ -71,7 +71,7 @@ module _ (chain : Chain) where
           absurd cc
       by_log (Good log) e =
           let is = holds.opens.is ∙ ap (λ (x : Scanned). found_in x holds.opens.rotated holds.opens.index) e in
-          let ends = found_end log holds.opens.rotated holds.opens.index chain.live.mailbox (mark_of chain) is in
+          let ends = found_end log holds.opens.rotated holds.opens.index chain.live.mailbox (place_of chain) is in
           let good : IsGood log (cut d) = subst (λ (x : Scanned). IsScanned (Some (cut d)) x) e holds.opens.log_file in
           let begins = holds.stands.begins in
           let long : length (cut d) ≡ chain.log.end + 4 = omega (arith, length-append (take chain.log.end b) closing, length-take chain.log.end b, begins.behind.1) in
@@ -91,7 +91,7 @@ module _ (chain : Chain) where
           }
 
   -- its end is that of the log
-  pub place_is : (d : Folder) (g : Ground d) → mark_of chain ≡ end_mark g.log
+  pub place_is : (d : Folder) (g : Ground d) → place_of chain ≡ end_mark g.log
   place_is d g = λ i. record { file_seq = sym g.seq i; offset = sym g.end i }
 
   -- the chain's snapshot is one at that end

@@ -9,7 +9,7 @@ use Rattle.dv_logfile.proofs.Patches.{written_again}
 use Rattle.dv_openings.specs.Openings.{Finds, IsFound}
 use Rattle.dv_chain.specs.declared.chain.Chain.{Chain}
 use Rattle.dv_chain.specs.Openings.{HasBounds, OnlyLooks, found_of}
-use Rattle.dv_chain.specs.Rest.{HoldsAlone, IsResting, Last, Nothing, Rests, next_mark}
+use Rattle.dv_chain.specs.Rest.{HoldsAlone, IsResting, Last, Nothing, Owed, Rests, next_mark}
 use Rattle.dv_rotation.specs.declared.fault.TurnEnd.{TurnEnd}
 use Rattle.dv_rotation.specs.declared.fault.TurnEnd.TheVariants as end
 use Rattle.dv_rotation.specs.declared.texts.Turn.{Turn}
@@ -25,11 +25,8 @@ turned_bounds chain = record { end = omega arith; count = omega arith }
 
 module _ {S : Type 0} (files : S → Folder) (may_leave : S → Folder → Type 0) (moment : S → ℕ) (left_since : S → ℕ → Folder → Type 0) where
   -- a call that only looks
-  pub looked_quiet : (chain : Chain) (old new : S) → Rests may_leave Nothing chain old → OnlyLooks files may_leave moment left_since old new → StaysAtRest may_leave moment left_since chain old new
-  looked_quiet chain old new rests looks = record {
-    since = weaker moment left_since old new (may_leave old) (Opens chain) looks.since (λ c left. alone_found chain c (rests.each c left));
-    rests = record { bounds = rests.bounds; owes = rests.owes; each = λ c left. rests.each c (looks.crash c left) };
-  }
+  pub looked_rests : (chain : Chain) (owed : Owed) (old new : S) → Rests may_leave owed chain old → OnlyLooks files may_leave moment left_since old new → Rests may_leave owed chain new
+  looked_rests chain owed old new rests looks = record { bounds = rests.bounds; owes = rests.owes; each = λ c left. rests.each c (looks.crash c left) }
 
   -- a checkpoint
   pub put_quiet : {T E : Type 0} (chain : Chain) (text : List ℕ) (result : Result T E) (old new : S) → IsSnapshotOf chain text → Rests may_leave Nothing chain old

@@ -11,12 +11,12 @@ use Rattle.dv_chain.specs.declared.chain.Chain.{Chain}
 use Rattle.dv_rotation.specs.declared.texts.Turn.{Turn}
 
 -- a chain's place: its file, and the end of its records there
-abbrev pub mark_of : Chain → Mark
-mark_of chain = record { file_seq = chain.log.file_seq; offset = chain.log.end }
+abbrev pub place_of : Chain → Mark
+place_of chain = record { file_seq = chain.log.file_seq; offset = chain.log.end }
 
 -- the snapshot of the chain's mailbox at its place
 abbrev pub IsSnapshotOf : Chain → List ℕ → Type 0
-IsSnapshotOf chain text = IsSnapshot 2 chain.live.mailbox chain.indexid (mark_of chain) text
+IsSnapshotOf chain text = IsSnapshot 2 chain.live.mailbox chain.indexid (place_of chain) text
 
 -- a log up to a place, with zero bytes where it ends before that, and closed there
 abbrev pub closed_at : ℕ → List ℕ → List ℕ

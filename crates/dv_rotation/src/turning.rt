@@ -2,10 +2,9 @@ ghost use Rattle.std.specs.Prelude.{◌≡◌, ◌^◌, ◌<◌, ◌≤◌, IfEr
 ghost use Rattle.dv_shelf.specs.Folders.{contents, counted};
 ghost use Rattle.dv_shelf.specs.declared.shelf.Name.TheVariants as name;
 ghost use Rattle.dv_chain.specs.Openings.{OnlyLooks};
-ghost use Rattle.dv_chain.specs.Rest.{Nothing, Rests};
+ghost use Rattle.dv_chain.specs.Rest.{Owed, Rests};
 ghost use Rattle.dv_rotation.specs.declared.fault.ChainFault.TheVariants as fault;
 ghost use Rattle.dv_rotation.specs.Leavings.{HasFaultCause};
-ghost use Rattle.dv_rotation.specs.Quiet.{StaysAtRest};
 ghost use Rattle.dv_rotation.specs.Texts.{IsTurnOf, closed_at, next_log};
 
 use crate::{ChainFault, Turn, snapshot};
@@ -63,8 +62,8 @@ fn next_file(alloc: Global, chain: &Chain, now: u32) -> Result<Bytes, ChainFault
     Ok(create(alloc, &header, &List::new(alloc))?)
 }
 
-/// The three texts of a rotation of a chain's log, whose new file is made at `now`, in seconds since
-/// 1970: the snapshot, the old log closed at its end, and the new log. Reads the log once and
+/// The three texts of a rotation of a chain's log, whose new file is made at `now`, in seconds
+/// since 1970: the snapshot, the old log closed at its end, and the new log. Reads the log once and
 /// writes nothing. A log that is missing or shorter than the chain's end counts as filled up with
 /// zero bytes.
 pub fn turn<S: Shelf>(
@@ -80,11 +79,11 @@ pub fn turn<S: Shelf>(
     ensures old { S.tells → IfOk result (λ turn. turn.old
         ≡ closed_at chain.now.log.end (contents (S.files shelf.old) name.Log)) }
     ensures new { IfOk result (λ turn. turn.new ≡ next_log chain.now now) }
-    // Nothing is changed; from rest to rest.
+    // Nothing is changed; from rest to rest, whatever is owed.
     ensures looks { S.tells →
         OnlyLooks S.files S.may_leave S.moment S.left_since shelf.old shelf.new }
-    ensures quiet { S.tells → Rests S.may_leave Nothing chain.now shelf.old →
-        StaysAtRest S.may_leave S.moment S.left_since chain.now shelf.old shelf.new }
+    ensures rests { S.tells → (owed : Owed) → Rests S.may_leave owed chain.now shelf.old →
+        Rests S.may_leave owed chain.now shelf.new }
     // No message file is read; a fault of the disk has its cause.
     ensures mail_reads { S.mail_reads shelf.new ≡ counted (S.mail_reads shelf.old) 0 }
     ensures cause { HasFaultCause (S.fault_count shelf.old) (S.fault_count shelf.new) result }
