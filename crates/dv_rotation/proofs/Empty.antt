@@ -1,6 +1,6 @@
 -- What is found at the end of a good log: its mailbox has at least the number at which a log without
 -- records begins.
-use Rattle.std.proofs.Common.{◌≡◌, ℕ, ◌+◌, max, true, false, Bool, ◌&&◌, nat_eq, List, [], ◌∷◌, Option, Some, None, refl, sym, ◌∙◌, ap, subst, arith}
+use Rattle.std.proofs.Common.{◌≡◌, ℕ, ◌+◌, true, false, Bool, ◌&&◌, nat_eq, List, [], Option, Some, None, refl, sym, ◌∙◌, ap, subst, arith}
 use Rattle.std.specs.Prelude.{if◌then◌else◌, ⊤}
 use Rattle.std.proofs.lemmas.Bool.{eqb-true, eqb-false, eq-eqb}
 use Rattle.std.proofs.lemmas.Option.{same_Some}
@@ -8,7 +8,7 @@ use Rattle.dv_model.specs.declared.types.Mailbox.{Mailbox}
 use Rattle.dv_model.specs.declared.types.Mark.{Mark}
 use Rattle.dv_model.specs.Mailboxes.{empty_mailbox}
 use Rattle.dv_logfile.specs.Scans.{Spot, GoodLog, Scanned, Good}
-use Rattle.dv_openings.specs.Openings.{Applied, Gives, Refused, Found, Finds, NoLog, BadLogHeader, BadRecord, BadIndex, Gap, Snapshot, applied_from, at_end, before_log, counted, end_mark, file_applied, file_number, found_in, from_either, from_index, from_nothing, in_log, in_rotated, joining, number_before, raised, records_from, spots_applied, spots_from, then_file, with_numbers}
+use Rattle.dv_openings.specs.Openings.{Applied, Gives, Refused, Found, Finds, Snapshot, applied_from, at_end, before_log, counted, end_mark, file_applied, file_number, found_in, from_either, from_index, from_nothing, in_log, in_rotated, joining, number_before, raised, records_from, spots_applied, spots_from, then_file, with_numbers}
 use Rattle.dv_chain.proofs.Joins.{index_before, index_gap, index_in_log, index_in_rotated, not_before, not_in_first, not_in_log, not_next, not_there, nothing_alone, nothing_first, nothing_second, nothing_third, there_before, there_in_log, there_in_rotated}
 
 module _ (log : GoodLog) where

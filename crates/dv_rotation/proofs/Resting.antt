@@ -1,5 +1,5 @@
 -- What the calls on a chain at rest leave: a folder that opens to its mailbox, and a chain at rest.
-use Rattle.std.proofs.Common.{◌≡◌, ◌⊎◌, inl, inr, ⊎_elim, ℕ, ◌+◌, ◌<◌, List, Some, Result, Ok, Err, OnOk, refl, sym, ◌∙◌, ap, subst, arith}
+use Rattle.std.proofs.Common.{◌≡◌, inl, inr, ⊎_elim, ℕ, ◌<◌, List, Some, Result, Ok, Err, OnOk, refl, sym, ◌∙◌, ap, subst, arith}
 use Rattle.dv_model.specs.declared.types.Mailbox.{Mailbox}
 use Rattle.dv_shelf.specs.declared.shelf.Name.TheVariants as name
 use Rattle.dv_shelf.specs.Folders.{Folder, with_file}
@@ -8,12 +8,12 @@ use Rattle.dv_shelf.proofs.Moments.{weaker}
 use Rattle.dv_logfile.proofs.Patches.{written_again}
 use Rattle.dv_openings.specs.Openings.{Finds, IsFound}
 use Rattle.dv_chain.specs.declared.chain.Chain.{Chain}
-use Rattle.dv_chain.specs.Openings.{HasBounds, OnlyLooks, found_of}
+use Rattle.dv_chain.specs.Openings.{HasBounds, OnlyLooks}
 use Rattle.dv_chain.specs.Rest.{HoldsAlone, IsResting, Last, Nothing, Owed, Rests, next_mark}
 use Rattle.dv_rotation.specs.declared.fault.TurnEnd.{TurnEnd}
 use Rattle.dv_rotation.specs.declared.fault.TurnEnd.TheVariants as end
 use Rattle.dv_rotation.specs.declared.texts.Turn.{Turn}
-use Rattle.dv_rotation.specs.Leavings.{IsBeforeLast, IsPut, IsTurning, Leaves, Puts, Turns, with_new, with_old}
+use Rattle.dv_rotation.specs.Leavings.{IsPut, IsTurning, Leaves, Puts, Turns, with_new}
 use Rattle.dv_rotation.specs.Quiet.{FinishesQuietly, Opens, OpensEither, RestsFinished, RestsTurned, StaysAtRest, TurnsQuietly}
 use Rattle.dv_rotation.specs.Texts.{Advances, ClosesLog, IsSnapshotOf, IsTurnOf, turned}
 use Rattle.dv_rotation.proofs.Grounds.{alone_found}

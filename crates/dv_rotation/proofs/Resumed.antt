@@ -3,13 +3,12 @@ use Rattle.std.proofs.Common.{◌≡◌, ℕ, ◌+◌, ◌*◌, ◌≤◌, true,
 use Rattle.std.specs.Prelude.{if◌then◌else◌}
 use Rattle.std.proofs.lemmas.Bool.{eqb-true, eq-eqb}
 use Rattle.dv_model.specs.declared.types.Mailbox.{Mailbox}
-use Rattle.dv_model.specs.declared.types.Mark.{Mark}
 use Rattle.dv_shelf.specs.declared.shelf.Name.TheVariants as name
 use Rattle.dv_shelf.specs.Folders.{Folder, with_file}
 use Rattle.dv_logfile.specs.Scans.{Spot, GoodLog, Scanned, Good, IsGood, IsScanned}
 use Rattle.dv_logfile.proofs.OneScan.{scans_one}
 use Rattle.dv_formats.specs.Snapshots.{IsSnapshot}
-use Rattle.dv_openings.specs.Openings.{Applied, Gives, Finds, IfGood, IsFound, IsIndex, Snapshot, applied_from, at_end, counted, end_mark, file_applied, found_in, from_either, from_index, joining, joins, raised, records_from, spots_applied, then_file}
+use Rattle.dv_openings.specs.Openings.{Gives, Finds, IfGood, IsFound, IsIndex, Snapshot, applied_from, at_end, counted, end_mark, file_applied, found_in, from_either, from_index, joining, joins, raised, records_from, spots_applied, then_file}
 use Rattle.dv_chain.proofs.Joins.{index_in_log, index_in_rotated, not_in_log, there_in_log, there_in_rotated}
 use Rattle.dv_rotation.proofs.Empty.{HasNumber, found_end}
 use Rattle.dv_rotation.proofs.Places.{none_at_end, spots_rise}

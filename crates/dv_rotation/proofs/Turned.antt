@@ -1,5 +1,5 @@
 -- The folders of a rotation.
-use Rattle.std.proofs.Common.{◌≡◌, ◌⊎◌, inl, inr, ⊎_elim, ℕ, ◌+◌, ◌<◌, ◌≤◌, max, min, All, lit<, lit≤, List, [], ◌++◌, length, take, Option, Some, refl, sym, ◌∙◌, ap, subst, arith}
+use Rattle.std.proofs.Common.{◌≡◌, inl, inr, ⊎_elim, ℕ, ◌<◌, ◌≤◌, max, min, lit<, lit≤, List, [], ◌++◌, take, Option, Some, refl, sym, ◌∙◌, ap, subst, arith}
 use Rattle.std.specs.Prelude.{unwrap_or}
 use Rattle.std.proofs.lemmas.List.Elements.{All-nil}
 use Rattle.dv_model.specs.declared.types.Mailbox.{Mailbox}
@@ -8,20 +8,19 @@ use Rattle.dv_model.specs.Spelling.{IsRecord}
 use Rattle.dv_shelf.specs.declared.shelf.Name.TheVariants as name
 use Rattle.dv_shelf.specs.Folders.{Folder, contents, with_file}
 use Rattle.dv_shelf.proofs.FolderLemmas.{with_same}
-use Rattle.dv_logfile.specs.Layout.{Begins, IsGoodHeader, IsLog, closing}
+use Rattle.dv_logfile.specs.Layout.{IsGoodHeader, IsLog, closing}
 use Rattle.dv_logfile.specs.Reading.{HasShutGate}
-use Rattle.dv_logfile.specs.Scans.{GoodLog, IsGood, IsScanned, Good}
+use Rattle.dv_logfile.specs.Scans.{GoodLog, IsGood, Good}
 use Rattle.dv_logfile.proofs.Logs.{log_begins, written_log}
 use Rattle.dv_logfile.proofs.Reading.{written_gate}
 use Rattle.dv_openings.specs.Openings.{Finds, IsFound}
 use Rattle.dv_chain.specs.declared.chain.Chain.{Chain}
-use Rattle.dv_chain.specs.Openings.{found_of}
-use Rattle.dv_chain.specs.Rest.{HoldsAlone, IsResting, Last, cut_at, next_mark}
+use Rattle.dv_chain.specs.Rest.{HoldsAlone, IsResting, Last, next_mark}
 use Rattle.dv_rotation.specs.declared.texts.Turn.{Turn}
-use Rattle.dv_rotation.specs.Leavings.{IsBeforeLast, IsPut, IsTurning, with_index, with_new, with_old}
+use Rattle.dv_rotation.specs.Leavings.{IsBeforeLast, IsPut, IsTurning, with_new, with_old}
 use Rattle.dv_rotation.specs.Quiet.{OpensEither}
 use Rattle.dv_rotation.specs.Texts.{ClosesLog, IsSnapshotOf, IsTurnOf, next_header, next_log, turned}
-use Rattle.dv_rotation.proofs.Grounds.{Ground, alone_found, alone_with, closed_long, cut, ground, snapshot_there}
+use Rattle.dv_rotation.proofs.Grounds.{Ground, alone_found, alone_with, closed_long, ground, snapshot_there}
 use Rattle.dv_rotation.proofs.Resumed.{IsNext, opens_next}
 
 -- ---- the snapshot alone
