@@ -100,12 +100,26 @@ module _ (chain : Chain) (c : Folder) (holds : Holds chain c) where
   cut_else : (n : Name) → n ≢ name.Log → cut_at e c n ≡ c n
   cut_else n other = with_else c name.Log (Some (take e b ++ closing)) n other
 
-  -- no record begins behind the end
+  -- the folder's log is a good file of the chain's records
+  pub record Alone : Type 0 where
+    pub file : GoodLog
+    pub scanned : IsScanned (c name.Log) (Good file)
+    pub header : file.header ≡ holds.stands.header
+    pub end : file.end ≡ chain.log.end
+    pub spots : length file.spots ≡ length holds.stands.records
+
+  good_alone : HasShutGate e b → IsScanned (c name.Log) (Good file)
+  good_alone shut =
+      let good : IsGood file b = record { taken = begun.header; rest = drop e b; records = old.are; closed = shut_closed e b shut } in
+      subst (λ (x : Option (List ℕ)). IsScanned x (Good file)) (sym there) good
+
+  -- where no record begins behind the end
+  pub alone_file : HasShutGate e b → Alone
+  alone_file shut = record { file = file; scanned = good_alone shut; header = refl; end = refl; spots = sym (length-map old.spots (λ (s : Spot). s.is)) ∙ ap length old.records }
+
   pub alone_opens : HasShutGate e b → IsFound c (found_of chain)
   alone_opens shut =
-      let good : IsGood file b = record { taken = begun.header; rest = drop e b; records = old.are; closed = shut_closed e b shut } in
-      let scanned : IsScanned (c name.Log) (Good file) = subst (λ (x : Option (List ℕ)). IsScanned x (Good file)) (sym there) good in
-      found_again (cut_at e c) c file cut_is scanned (sym (cut_else name.Log2 (λ q. cc))) (sym (cut_else name.Index (λ q. cc))) (found_of chain) holds.opens
+      found_again (cut_at e c) c file cut_is (good_alone shut) (sym (cut_else name.Log2 (λ q. cc))) (sym (cut_else name.Index (λ q. cc))) (found_of chain) holds.opens
 
   -- a group stands there
   module _ (text : List ℕ) (after : Mailbox) (pending : IsPending text after chain) (group : bytes_at e (length text) b ≡ text) where

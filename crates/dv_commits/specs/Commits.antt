@@ -12,6 +12,7 @@ use Rattle.dv_logfile.specs.declared.commit.Debt.TheVariants as debt
 use Rattle.dv_logfile.specs.Gates.{FromOneOf}
 use Rattle.dv_apply.specs.Preparing.{Makes, Ready}
 use Rattle.dv_chain.specs.declared.chain.Chain.{Chain}
+use Rattle.dv_chain.specs.Openings.{HasBounds}
 use Rattle.dv_chain.specs.Rest.{IsPending, Last, Nothing, Owed, Pending, Rests}
 use Rattle.dv_commits.specs.declared.committing.Committed.{Committed}
 use Rattle.dv_commits.specs.Opening.{MayOpen, mark_behind}
@@ -39,6 +40,7 @@ pub record AdvancesChain (text : List ℕ) (old new : Chain) {E : Type 0} (resul
       × (new.log.count ≡ old.log.count))
   pub file : (new.log.file_seq ≡ old.log.file_seq) × (new.indexid ≡ old.indexid)
       × (new.records ≡ old.records)
+  pub bounds : HasBounds old → HasBounds new
 
 -- Behind Ok nothing is owed in the log, behind an error what was; the rest of the chain stays.
 pub record HealsChain (old new : Chain) {T E : Type 0} (result : Result T E) : Type 0 where

@@ -5,7 +5,7 @@ use Rattle.dv_shelf.specs.Folders.{Folder}
 use Rattle.dv_logfile.specs.Layout.{closing}
 use Rattle.dv_openings.specs.Openings.{Finds, Found, IsFound}
 use Rattle.dv_chain.specs.declared.chain.Chain.{Chain}
-use Rattle.dv_chain.specs.Openings.{HasBounds, found_of}
+use Rattle.dv_chain.specs.Openings.{HasBounds, IsChainOf, found_of}
 use Rattle.dv_chain.specs.Rest.{IsResting, Last, Nothing, Owed, Owes, Pending, next_mark}
 
 -- the place behind a group's text that stands at the chain's end; its four zero bytes are no record
@@ -32,13 +32,19 @@ RestOpens =
     → IsResting owed chain c
     → MayOpen owed chain c
 
--- What is opened and what is kept are equal where nothing is owed: two chains whose folder is one
--- have one mailbox at one place.
+-- two chains are equal, but for spare rows and hidden names
+pub record AreEqual (one other : Chain) : Type 0 where
+  pub mailbox : one.live.mailbox ≡ other.live.mailbox
+  pub log : one.log ≡ other.log
+  pub indexid : one.indexid ≡ other.indexid
+  pub records : one.records ≡ other.records
+
+-- what is opened of a folder equals what is kept of it, where nothing is owed
 abbrev pub OpenedAreKept : Type 0
 OpenedAreKept =
     (kept opened : Chain) (c : Folder)
-    → HasBounds kept
     → Owes kept Nothing
     → IsResting Nothing kept c
+    → IsChainOf c opened
     → IsFound c (found_of opened)
-    → found_of opened ≡ found_of kept
+    → AreEqual opened kept

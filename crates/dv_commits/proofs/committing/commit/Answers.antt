@@ -16,6 +16,7 @@ pub returns-clause-value : goal.returns-clause-value
 returns-clause-value g c =
     let ready = c.requires.ready in
     let value = c.in_ok-mark.ensures.value in
+    let end = value.end in
     let behind : c.in_ok-mark.mark.offset ≡ c.args.chain.now.log.end + length c.args.text.now - 4 = omega (arith, value.mark.1, value.end) in
     record {
       mailbox = λ after pending. c.complete-touched.ensures.is ready.after ready.makes ∙ pending_one c.args.text.now ready.after after c.args.chain.now ready.pending pending;
@@ -24,6 +25,7 @@ returns-clause-value g c =
       debt = value.debt;
       failed = tt;
       file = (value.file_seq, refl, refl);
+      bounds = λ bounds. record { end = omega (arith, end, ready.pending.room); count = (value.counted bounds.count ready.pending.records ready.pending.spelled).1 };
     }
 
 pub returns-clause-opens : goal.returns-clause-opens

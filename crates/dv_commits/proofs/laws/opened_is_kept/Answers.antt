@@ -2,4 +2,4 @@ use Rattle.dv_commits.proofs.Resting.{kept_is_opened}
 use Rattle.dv_commits.proofs.laws.opened_is_kept.Goals as goal
 
 pub returns : goal.returns
-returns c = λ kept opened folder bounds owes rest found. kept_is_opened kept opened folder owes rest found
+returns c = λ kept opened folder owes rest of found. kept_is_opened kept opened folder owes rest of found
