@@ -42,17 +42,22 @@ def flags(ranges):
     return record(FLAG_UPDATE, b"".join(struct.pack("<IIBB2x", a, b, 8, 0) for a, b in ranges))
 
 
-def keyword(name, uid):
+def keywords(name, ranges):
     padded = name + bytes(-len(name) % 4)
-    return record(KEYWORD_UPDATE, struct.pack("<BxH", 0, len(name)) + padded + struct.pack("<II", uid, uid))
+    pairs = b"".join(struct.pack("<II", a, b) for a, b in ranges)
+    return record(KEYWORD_UPDATE, struct.pack("<BxH", 0, len(name)) + padded + pairs)
+
+
+def keyword(name, uid):
+    return keywords(name, [(uid, uid)])
 
 
 def expunge(uid):
     return record(EXPUNGE, struct.pack("<II", uid, uid))
 
 
-def intro(name):
-    fixed = struct.pack("<IIIHHHH", 0xFFFFFFFF, 0, 0, 4, 4, 0, len(name))
+def intro(name, header=0):
+    fixed = struct.pack("<IIIHHHH", 0xFFFFFFFF, 0, header, 4, 4, 0, len(name))
     return record(EXT_INTRO, fixed + name + bytes(-len(name) % 4))
 
 
@@ -127,6 +132,12 @@ def main():
     wide = 65_536
     table(program, "one flag update of 65,536 ranges in disorder, over so many rows", (100_000,),
           lambda n: (appends(n), [flags([(u * 40_503 % n + 1,) * 2 for u in range(wide)])]))
+    table(program, "one keyword update of 65,536 equal ranges of one row, over so many rows", (100_000,),
+          lambda n: (appends(n), [keywords(b"k1", [(5, 5)] * wide)]))
+    table(program, "one keyword update of so many ranges that each name all 10,000 rows", (16, 256),
+          lambda n: (appends(10_000), [keywords(b"k1", [(1, 10_000)] * n)]))
+    table(program, "n introductions that each grow an extension's header by a byte, over 100,000 rows", (100, 400),
+          lambda n: (appends(100_000) + [intro(b"cache")], [intro(b"cache", size) for size in range(1, n + 1)]))
     table(program, "one flag update of 65,536 equal ranges of one row, over so many rows", (100_000,),
           lambda n: (appends(n), [flags([(5, 5)] * wide)]))
 

@@ -153,6 +153,14 @@ const UPDATE: &[u8] = b"\x80\x80\x80\x84\0\x02\0\0\x01\0\0\0\x07\x08\0\0";
 // The extension 0, once more with the same sizes.
 const AGAIN: &[u8] = b"\x80\x80\x80\x87\x40\0\0\0\0\0\0\0\x05\0\0\0\x04\0\0\0\x02\0\x01\0\0\0\0\0";
 
+// The extension 0 with a header of eight bytes, and the same two bytes of each row.
+const LONGER: &[u8] =
+    b"\x80\x80\x80\x87\x40\0\0\0\0\0\0\0\x05\0\0\0\x08\0\0\0\x02\0\x01\0\0\0\0\0";
+
+// The extension 0 with four bytes of each row.
+const WIDER: &[u8] =
+    b"\x80\x80\x80\x87\x40\0\0\0\0\0\0\0\x05\0\0\0\x04\0\0\0\x04\0\x01\0\0\0\0\0";
+
 // The reset number 6, and zero bytes.
 const RESET: &[u8] = b"\x80\x80\x80\x84\x80\0\0\0\x06\0\0\0\0\0\0\0";
 
@@ -180,15 +188,17 @@ type Further = (
     &'static [(u32, u8, &'static [u32], u64)],
 );
 
-const FURTHER: [Further; 8] = [
+const FURTHER: [Further; 10] = [
     (TWO, b"", &[(1, 0, &[], 2), (2, 8, &[], 2)]),
     (OLD, b"", &[(1, 0, &[], 2), (2, 8, &[0], 3)]),
     (INTRO, b"\0\0", &[(1, 0, &[], 2), (2, 8, &[0], 3)]),
     (UPDATE, b"\x07\x08", &[(1, 0, &[], 2), (2, 8, &[0], 3)]),
     (AGAIN, b"\x07\x08", &[(1, 0, &[], 2), (2, 8, &[0], 3)]),
-    (RESET, b"\0\0", &[(1, 0, &[], 2), (2, 8, &[0], 3)]),
-    (NO_KEYWORDS, b"\0\0", &[(1, 0, &[], 2), (2, 8, &[], 8)]),
-    (NAMED, b"\0\0", &[(2, 8, &[], 8)]),
+    (LONGER, b"\x07\x08", &[(1, 0, &[], 2), (2, 8, &[0], 3)]),
+    (WIDER, b"\x07\x08\0\0", &[(1, 0, &[], 2), (2, 8, &[0], 3)]),
+    (RESET, b"\0\0\0\0", &[(1, 0, &[], 2), (2, 8, &[0], 3)]),
+    (NO_KEYWORDS, b"\0\0\0\0", &[(1, 0, &[], 2), (2, 8, &[], 10)]),
+    (NAMED, b"\0\0\0\0", &[(2, 8, &[], 10)]),
 ];
 
 #[test]
@@ -199,6 +209,19 @@ fn records_of_extensions_and_removals_are_applied(rt: HostRuntime) -> Result<(),
         assert!(rt; has_part(&live, part));
         assert!(rt; has_rows(&live, rows));
     }
+    Ok(())
+}
+
+#[test]
+fn a_header_that_grows_leaves_the_rows(rt: HostRuntime) -> Result<(), Fail> {
+    let mut live = Live::empty(rt.alloc(), 1000);
+    for bytes in [TWO, INTRO, UPDATE, LONGER] {
+        assert_eq!(rt; apply(rt.alloc(), &mut live, bytes), Ok(()));
+    }
+    let extensions = live.extensions().list().as_slice();
+    assert!(rt; extensions.len() == 1);
+    assert_eq!(rt; extensions[0].header.as_slice(), [0; 8].as_slice());
+    assert!(rt; has_part(&live, b"\x07\x08"));
     Ok(())
 }
 
@@ -259,5 +282,32 @@ fn touched_uids_are_gathered(rt: HostRuntime) -> Result<(), Fail> {
         assert!(rt; touches(rt.alloc(), &mut live, bytes, &mut touched));
         assert_eq!(rt; touched.uids(), uids);
     }
+    Ok(())
+}
+
+fn prepares(alloc: Global, live: &mut Live, one: &[u8], other: &[u8]) -> Result<(), ApplyFault> {
+    let Ok((one, _)) = decode(alloc, one, 0) else {
+        return Err(ApplyFault::NoMemory);
+    };
+    let Ok((other, _)) = decode(alloc, other, 0) else {
+        return Err(ApplyFault::NoMemory);
+    };
+    match live.prepare(&[one, other]) {
+        Ok(_) => Ok(()),
+        Err(e) => Err(e),
+    }
+}
+
+#[test]
+fn a_refused_row_behind_another_record_is_named(rt: HostRuntime) -> Result<(), Fail> {
+    let mut live = Live::empty(rt.alloc(), 1000);
+    assert_eq!(rt; apply(rt.alloc(), &mut live, TWO), Ok(()));
+    let refused = ApplyFault::BadAppend {
+        uid: 3,
+        next_uid: 4,
+    };
+    assert_eq!(rt; prepares(rt.alloc(), &mut live, THREE, THREE), Err(refused));
+    assert_eq!(rt; prepares(rt.alloc(), &mut live, SEEN, THREE), Ok(()));
+    assert_eq!(rt; counts(&live), (2, 3, 2, 1, 0));
     Ok(())
 }
