@@ -23,9 +23,9 @@ word_again inner (Key-F.Uid set) b rest is stops = ap (λ t. key_layer inner (t 
 word_again inner (Key-F.Larger n) b rest is stops = ap (λ t. key_layer inner (t ++ rest)) is.1 ∙ larger_again inner n rest is.0 stops ∙ ap (λ k. Some (k, rest)) (sym (rolls-Larger n))
 word_again inner (Key-F.Header name text) b rest is stops =
     let same : b ++ rest ≡ codes "HEADER " ++ (name ++ 32 ∷ 34 ∷ (text ++ 34 ∷ rest)) = ap (λ t. t ++ rest) (is.1.2 ∙ ap (λ q. codes "HEADER " ++ name ++ codes " " ++ q) is.1.1.1)
-        ∙ append_assoc (codes "HEADER " ++ name ++ codes " ") (34 ∷ (text ++ 34 ∷ [])) rest
-        ∙ ap (λ t. codes "HEADER " ++ t) (append_assoc name (32 ∷ []) (34 ∷ ((text ++ 34 ∷ []) ++ rest)))
-        ∙ ap (λ t. codes "HEADER " ++ (name ++ 32 ∷ 34 ∷ t)) (append_assoc text (34 ∷ []) rest) in
+    ∙ append_assoc (codes "HEADER " ++ name ++ codes " ") (34 ∷ (text ++ 34 ∷ [])) rest
+    ∙ ap (λ t. codes "HEADER " ++ t) (append_assoc name (32 ∷ []) (34 ∷ ((text ++ 34 ∷ []) ++ rest)))
+    ∙ ap (λ t. codes "HEADER " ++ (name ++ 32 ∷ 34 ∷ t)) (append_assoc text (34 ∷ []) rest) in
     ap (key_layer inner) same ∙ header_again inner name text rest is.0 is.1.1.0 ∙ ap (λ k. Some (k, rest)) (sym (rolls-Header name text))
 word_again inner (Key-F.Not k) b rest is stops = absurd is
 word_again inner (Key-F.Or k l) b rest is stops = absurd is

@@ -78,7 +78,7 @@ abbrev pub IsDigit : ℕ → Type 0
 IsDigit b = (48 ≤ b) × (b ≤ 57)
 
 pub digits_are : (n : ℕ) → n < 2 ^ 64 → All IsDigit (decimal n)
-digits_are n small = λ k d less. 
+digits_are n small = λ k d less.
     let at = digit_at (decimal n) k (decimal_is_IsNumeral n small).0.1 less in
     subst IsDigit (get_or_default (decimal n) k 0 d less) (omega (arith, at), omega (arith, at))
 
