@@ -1,5 +1,5 @@
 -- What the grammar has is read: keys in keys.
-use Rattle.std.proofs.Common.{◌≡◌, ◌⊎◌, inl, inr, ℕ, zero, suc, Bool, ◌+◌, ◌-◌, ◌^◌, ◌<◌, ◌≤◌, List, [], ◌∷◌, ◌++◌, length, Option, Some, None, codes, refl, sym, ◌∙◌, ap, subst, arith, append_assoc}
+use Rattle.std.proofs.Common.{◌≡◌, inl, inr, ℕ, zero, suc, Bool, ◌-◌, ◌≤◌, List, [], ◌∷◌, ◌++◌, length, Option, Some, codes, refl, sym, ◌∙◌, ap, arith, append_assoc}
 use Rattle.std.proofs.lemmas.List.{append-nil, length-append}
 use Rattle.dv_model.specs.declared.types.Command.TheVariants as command
 use Rattle.dv_model.specs.declared.types.Key.{Key, out-Key, roll-Key, roll-out-Key}
@@ -8,7 +8,7 @@ use Rattle.dv_model.specs.declared.types.Key.TheVariants as key
 use Rattle.dv_model.specs.declared.types.Key.TheVariants.{rolls-All, rolls-Has, rolls-Lacks, rolls-Keyword, rolls-Uid, rolls-Larger, rolls-Header, rolls-Not, rolls-Or, rolls-And}
 use Rattle.dv_model.specs.Texts.{spaced}
 use Rattle.dv_formats.specs.Scripts.{AreKeys, AreSought, IsKey, IsWord, key_levels}
-use Rattle.dv_formats.specs.Parsing.{◌>>=◌, after, is_stop, key_at, key_layer, one_of, plain_key, search_of, several, valued_key, word_key}
+use Rattle.dv_formats.specs.Parsing.{is_stop, key_at, key_layer, one_of, plain_key, search_of, several, valued_key, word_key}
 use Rattle.dv_commands.proofs.KeyWords.{all_again, has_again, header_again, keyword_again, lacks_again, larger_again, nested_again, not_again, or_again, uid_again}
 use Rattle.dv_commands.proofs.Words.{IsBehind, Stops, one_again, spaced_long}
 
