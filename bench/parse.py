@@ -3,8 +3,8 @@
 
 Usage: bench/parse.py PROGRAM
 
-PROGRAM is the built binary, crates/dv_bench/out/dv_bench. Each script is made here and handed over as
-standard input; the program tells how many lines it has and the microseconds that parsing takes. A
+PROGRAM is the built binary, crates/dv_timing/out/dv_timing. Each script is made here and handed over
+as standard input; the program tells how many lines it has and the microseconds that parsing takes. A
 script that is refused has 0 lines. The shortest of three runs counts.
 """
 
@@ -49,7 +49,7 @@ def run(program, script):
     """The lines of a script, and the microseconds that it takes."""
     shortest = None
     for _ in range(RUNS):
-        done = subprocess.run([program, "script"], input=script, stdout=subprocess.PIPE, check=True)
+        done = subprocess.run([program], input=script, stdout=subprocess.PIPE, check=True)
         words = done.stdout.decode().split()
         lines, time = int(words[0]), int(words[2])
         shortest = time if shortest is None else min(shortest, time)

@@ -1,4 +1,4 @@
-//! Applies the records of a log to a live mailbox, or parses a script, and says how long it took.
+//! Applies the records of a log to a live mailbox, and says how long it took.
 #![tactic(auto)]
 
 mod fault;
@@ -12,46 +12,29 @@ use std::env;
 use std::io::Read;
 use std::process::ExitCode;
 
-const USAGE: &str =
-    "usage: dv_bench FIRST [touched|sessions] < RECORDS, or dv_bench script < SCRIPT";
+const USAGE: &str = "usage: dv_bench FIRST [touched|sessions] < RECORDS";
 
-// What the words ask for.
-#[derive(Clone, Copy)]
-enum Request {
-    /// How many records come first, and what is done with the others.
-    Records(usize, Work),
-    Script,
-}
-
-fn asked(rt: HostRuntime) -> Option<Request> {
+// What the words ask for: how many records come first, and what is done with the others.
+fn asked(rt: HostRuntime) -> Option<(usize, Work)> {
     let mut words = env::args(&rt).ok()?.skip(1);
-    let first = words.next()?;
-    if first.as_str() == "script" {
-        return Some(Request::Script);
-    }
-    let first = first.as_str().parse().ok()?;
+    let first = words.next()?.as_str().parse().ok()?;
     let Some(word) = words.next() else {
-        return Some(Request::Records(first, Work::Apply));
+        return Some((first, Work::Apply));
     };
     if words.next().is_some() {
         return None;
     }
     match word.as_str() {
-        "touched" => Some(Request::Records(first, Work::Touch)),
-        "sessions" => Some(Request::Records(first, Work::Tell)),
+        "touched" => Some((first, Work::Touch)),
+        "sessions" => Some((first, Work::Tell)),
         _ => None,
     }
 }
 
-fn input(rt: HostRuntime) -> Result<Vec<u8>, Fault> {
-    let mut bytes = Vec::new(rt.alloc());
-    rt.stdin().read_to_end(&mut bytes)?;
-    Ok(bytes)
-}
-
 // Times standard input's records.
 fn time_input(rt: HostRuntime, first: usize, work: Work) -> Result<(), Fault> {
-    let bytes = input(rt)?;
+    let mut bytes = Vec::new(rt.alloc());
+    rt.stdin().read_to_end(&mut bytes)?;
     let records = records::read_all(rt.alloc(), bytes.as_slice())?;
     let times = timing::time_records(rt, &records, first, work)?;
     let count = records.len();
@@ -62,26 +45,14 @@ fn time_input(rt: HostRuntime, first: usize, work: Work) -> Result<(), Fault> {
     Ok(())
 }
 
-// Times the script on standard input.
-fn time_script(rt: HostRuntime) -> Result<(), Fault> {
-    let bytes = input(rt)?;
-    let parsed = timing::time_script(rt, bytes.as_slice())?;
-    println!(rt; "{} lines, {} us", parsed.lines, parsed.time)?;
-    Ok(())
-}
-
-/// Standard input holds records as a log does behind its header, of which FIRST are applied before
-/// the others, or a script. The status is 1 where anything is wrong.
+/// Standard input holds records as a log does behind its header. FIRST of them are applied before
+/// the others. The status is 1 where anything is wrong.
 fn main(rt: HostRuntime) -> ExitCode {
-    let done = match asked(rt) {
-        Some(Request::Records(first, work)) => time_input(rt, first, work),
-        Some(Request::Script) => time_script(rt),
-        None => {
-            let _ = println!(rt; "{USAGE}");
-            return ExitCode::from(1);
-        }
+    let Some((first, work)) = asked(rt) else {
+        let _ = println!(rt; "{USAGE}");
+        return ExitCode::from(1);
     };
-    match done {
+    match time_input(rt, first, work) {
         Ok(()) => ExitCode::from(0),
         Err(fault) => {
             let _ = println!(rt; "{fault}");

@@ -5,7 +5,6 @@ use crate::fault::Fault;
 use crate::sessions::tell_all;
 use dv_apply::Live;
 use dv_model::Record;
-use dv_script::parse;
 use dv_touched::Touched;
 use std::time::Instant;
 
@@ -69,24 +68,4 @@ pub fn time_records(
         Work::Tell => tell_all(rt, &mut live, behind)?,
     };
     Ok(Times { first, others })
-}
-
-/// How many lines a script has, none where it isn't good, and how long that took, in microseconds.
-#[derive(Clone, Copy)]
-pub struct Parsed {
-    pub lines: usize,
-    pub time: u128,
-}
-
-/// Parses a script.
-pub fn time_script(rt: HostRuntime, script: &[u8]) -> Result<Parsed, Fault> {
-    let start = Instant::now(&rt)?;
-    let lines = match parse(rt.alloc(), script) {
-        Ok(lines) => lines.len(),
-        Err(_) => 0,
-    };
-    Ok(Parsed {
-        lines,
-        time: start.elapsed(&rt)?.as_micros(),
-    })
 }

@@ -1,14 +1,14 @@
 -- What the grammar has is read: the line of an APPEND.
-use Rattle.std.proofs.Common.{◌≡◌, ◌⊎◌, inl, inr, ℕ, zero, suc, ◌+◌, ◌^◌, ◌<◌, ◌≤◌, Bool, true, false, not, cond, List, [], ◌∷◌, ◌++◌, length, All, take, drop, Option, Some, None, position, nat_lt, codes, refl, sym, ◌∙◌, ap, subst, arith, append_assoc}
-use Rattle.std.specs.List.{list_all, position_or_len}
+use Rattle.std.proofs.Common.{◌≡◌, inl, inr, ℕ, ◌+◌, ◌^◌, ◌<◌, true, List, [], ◌∷◌, ◌++◌, length, All, take, drop, Some, position, codes, refl, sym, ◌∙◌, ap, arith, append_assoc}
+use Rattle.std.specs.List.{position_or_len}
 use Rattle.std.specs.Fmt.{decimal}
 use Rattle.std.proofs.lemmas.Bool.{lt-ltb, ne_eqb}
 use Rattle.std.proofs.lemmas.List.{drop_at, length-append, take_at}
 use Rattle.std.proofs.lemmas.List.Elements.{All-head, All-tail}
 use Rattle.dv_model.specs.Names.{IsName, IsNameByte}
 use Rattle.dv_model.specs.Texts.{spaced}
-use Rattle.dv_formats.specs.Scripts.{AreFlags, IsAppendStart, IsFlag}
-use Rattle.dv_formats.specs.Parsing.{◌>>=◌, after, ahead_of, append_of, flags_of, is_byte, list_at, number_of}
+use Rattle.dv_formats.specs.Scripts.{AreFlags, IsFlag}
+use Rattle.dv_formats.specs.Parsing.{append_of, is_byte, list_at}
 use Rattle.dv_commands.proofs.Base.{ahead_again}
 use Rattle.dv_commands.proofs.Grammar.{flags_complete}
 use Rattle.dv_commands.proofs.Numbers.{number_complete}

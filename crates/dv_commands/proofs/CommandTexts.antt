@@ -1,9 +1,7 @@
 -- What the grammar has is read: commands.
-use Rattle.std.proofs.Common.{◌≡◌, ◌⊎◌, inl, inr, ℕ, zero, suc, ◌+◌, ◌-◌, ◌^◌, ◌<◌, ◌≤◌, Bool, true, false, not, List, [], ◌∷◌, ◌++◌, length, All, Contains, take, drop, Option, Some, None, codes, refl, sym, ◌∙◌, ap, subst, arith, nat_eq, append_assoc}
-use Rattle.std.specs.List.{AllZip, list_all, position_or_len}
+use Rattle.std.proofs.Common.{◌≡◌, ℕ, suc, ◌^◌, ◌<◌, ◌≤◌, Bool, true, false, List, [], ◌∷◌, ◌++◌, length, Option, Some, None, codes, refl, ◌∙◌, ap, arith, append_assoc}
+use Rattle.std.specs.List.{AllZip}
 use Rattle.std.specs.Fmt.{decimal}
-use Rattle.std.proofs.lemmas.Bool.{lt-ltb, ne_eqb}
-use Rattle.std.proofs.lemmas.List.{append-nil, drop_at, length-append, take_at}
 use Rattle.dv_model.specs.declared.types.Command.{Command}
 use Rattle.dv_model.specs.declared.types.Command.TheVariants as command
 use Rattle.dv_model.specs.declared.types.How.{How}
@@ -12,8 +10,8 @@ use Rattle.dv_model.specs.declared.types.Item.{Item}
 use Rattle.dv_model.specs.declared.types.Span.{Span}
 use Rattle.dv_model.specs.Mailboxes.{last_modseq}
 use Rattle.dv_model.specs.Texts.{spaced}
-use Rattle.dv_formats.specs.Scripts.{AreFlags, AreItems, AreSought, IsCommand, IsFetch, IsItem, IsModifier, IsSet, IsStore, how_text, uid_text}
-use Rattle.dv_formats.specs.Parsing.{◌>>=◌, after, before, command_of, fetch_of, from, how_at, is_stop, item_at, item_limit, modifier_at, search_of, set_command, set_of, several, store_of, uid_command}
+use Rattle.dv_formats.specs.Scripts.{AreFlags, IsCommand, IsItem, IsModifier, IsSet, how_text, uid_text}
+use Rattle.dv_formats.specs.Parsing.{command_of, fetch_of, how_at, is_stop, item_at, item_limit, modifier_at, search_of, set_command, set_of, store_of, uid_command}
 use Rattle.dv_commands.proofs.Grammar.{flags_complete, set_complete}
 use Rattle.dv_commands.proofs.KeyTrees.{sought_again}
 use Rattle.dv_commands.proofs.Numbers.{number_complete}

@@ -1,5 +1,5 @@
 -- What the grammar has is read: keys in keys.
-use Rattle.std.proofs.Common.{◌≡◌, ◌⊎◌, inl, inr, ℕ, zero, suc, Bool, ◌+◌, ◌-◌, ◌^◌, ◌<◌, ◌≤◌, List, [], ◌∷◌, ◌++◌, length, Option, Some, None, codes, refl, sym, ◌∙◌, ap, subst, arith, append_assoc}
+use Rattle.std.proofs.Common.{◌≡◌, inl, inr, ℕ, zero, suc, Bool, ◌-◌, ◌≤◌, List, [], ◌∷◌, ◌++◌, length, Option, Some, codes, refl, sym, ◌∙◌, ap, arith, append_assoc}
 use Rattle.std.proofs.lemmas.List.{append-nil, length-append}
 use Rattle.dv_model.specs.declared.types.Command.TheVariants as command
 use Rattle.dv_model.specs.declared.types.Key.{Key, out-Key, roll-Key, roll-out-Key}
@@ -8,7 +8,7 @@ use Rattle.dv_model.specs.declared.types.Key.TheVariants as key
 use Rattle.dv_model.specs.declared.types.Key.TheVariants.{rolls-All, rolls-Has, rolls-Lacks, rolls-Keyword, rolls-Uid, rolls-Larger, rolls-Header, rolls-Not, rolls-Or, rolls-And}
 use Rattle.dv_model.specs.Texts.{spaced}
 use Rattle.dv_formats.specs.Scripts.{AreKeys, AreSought, IsKey, IsWord, key_levels}
-use Rattle.dv_formats.specs.Parsing.{◌>>=◌, after, is_stop, key_at, key_layer, one_of, plain_key, search_of, several, valued_key, word_key}
+use Rattle.dv_formats.specs.Parsing.{is_stop, key_at, key_layer, one_of, plain_key, search_of, several, valued_key, word_key}
 use Rattle.dv_commands.proofs.KeyWords.{all_again, has_again, header_again, keyword_again, lacks_again, larger_again, nested_again, not_again, or_again, uid_again}
 use Rattle.dv_commands.proofs.Words.{IsBehind, Stops, one_again, spaced_long}
 
@@ -23,9 +23,9 @@ word_again inner (Key-F.Uid set) b rest is stops = ap (λ t. key_layer inner (t 
 word_again inner (Key-F.Larger n) b rest is stops = ap (λ t. key_layer inner (t ++ rest)) is.1 ∙ larger_again inner n rest is.0 stops ∙ ap (λ k. Some (k, rest)) (sym (rolls-Larger n))
 word_again inner (Key-F.Header name text) b rest is stops =
     let same : b ++ rest ≡ codes "HEADER " ++ (name ++ 32 ∷ 34 ∷ (text ++ 34 ∷ rest)) = ap (λ t. t ++ rest) (is.1.2 ∙ ap (λ q. codes "HEADER " ++ name ++ codes " " ++ q) is.1.1.1)
-        ∙ append_assoc (codes "HEADER " ++ name ++ codes " ") (34 ∷ (text ++ 34 ∷ [])) rest
-        ∙ ap (λ t. codes "HEADER " ++ t) (append_assoc name (32 ∷ []) (34 ∷ ((text ++ 34 ∷ []) ++ rest)))
-        ∙ ap (λ t. codes "HEADER " ++ (name ++ 32 ∷ 34 ∷ t)) (append_assoc text (34 ∷ []) rest) in
+    ∙ append_assoc (codes "HEADER " ++ name ++ codes " ") (34 ∷ (text ++ 34 ∷ [])) rest
+    ∙ ap (λ t. codes "HEADER " ++ t) (append_assoc name (32 ∷ []) (34 ∷ ((text ++ 34 ∷ []) ++ rest)))
+    ∙ ap (λ t. codes "HEADER " ++ (name ++ 32 ∷ 34 ∷ t)) (append_assoc text (34 ∷ []) rest) in
     ap (key_layer inner) same ∙ header_again inner name text rest is.0 is.1.1.0 ∙ ap (λ k. Some (k, rest)) (sym (rolls-Header name text))
 word_again inner (Key-F.Not k) b rest is stops = absurd is
 word_again inner (Key-F.Or k l) b rest is stops = absurd is

@@ -1,22 +1,19 @@
 -- What the grammar has is read: search keys.
-use Rattle.std.proofs.Common.{◌≡◌, ◌⊎◌, inl, inr, ℕ, zero, suc, ◌+◌, ◌^◌, ◌<◌, ◌≤◌, Bool, true, false, not, cond, ◌&&◌, ◌||◌, List, [], ◌∷◌, ◌++◌, length, All, take, drop, Option, Some, None, codes, refl, sym, ◌∙◌, ap, subst, arith, nat_eq, nat_le, append_assoc}
+use Rattle.std.proofs.Common.{◌≡◌, ℕ, ◌^◌, ◌<◌, Bool, true, false, cond, List, [], ◌∷◌, ◌++◌, length, All, Option, Some, None, codes, refl, sym, ◌∙◌, subst, arith, nat_eq}
 use Rattle.std.specs.List.{list_all}
 use Rattle.std.specs.Fmt.{decimal}
 use Rattle.std.proofs.lemmas.Bool.{eqb-true, ne_eqb}
-use Rattle.std.proofs.lemmas.List.{append-nil, length-append}
 use Rattle.std.proofs.lemmas.List.Elements.{All-head, All-tail}
-use Rattle.dv_model.specs.declared.types.Key.{Key, out-Key, roll-Key, roll-out-Key}
-use Rattle.dv_model.specs.declared.types.Key.TheOpen.{Key-F}
+use Rattle.dv_model.specs.declared.types.Key.{Key}
 use Rattle.dv_model.specs.declared.types.Key.TheVariants as key
 use Rattle.dv_model.specs.declared.types.Span.{Span}
 use Rattle.dv_model.specs.Names.{IsName}
-use Rattle.dv_model.specs.Texts.{spaced}
-use Rattle.dv_formats.specs.Scripts.{AreKeys, AreSought, IsFieldName, IsKey, IsQuoted, IsSet, IsWord, flag_key, is_quotable, key_levels}
-use Rattle.dv_formats.specs.Parsing.{◌>>=◌, after, at_word, before, from, header_key, is_byte, is_stop, key_at, key_layer, keyword_key, larger_key, one_of, plain_key, several, uid_key, valued_key, word_key}
+use Rattle.dv_formats.specs.Scripts.{IsFieldName, IsSet, flag_key, is_quotable}
+use Rattle.dv_formats.specs.Parsing.{after, at_word, header_key, is_byte, is_stop, key_layer, keyword_key, larger_key, one_of, plain_key, several, uid_key, valued_key, word_key}
 use Rattle.dv_commands.proofs.Base.{some_is}
 use Rattle.dv_commands.proofs.Grammar.{name_complete, set_complete}
 use Rattle.dv_commands.proofs.Numbers.{number_complete}
-use Rattle.dv_commands.proofs.Words.{IsBehind, Stops, all_goes_on, before_again, field_goes_on, field_test, from_again, goes_on, name_goes_on, number_goes_on, one_again, set_goes_on, spaced_long}
+use Rattle.dv_commands.proofs.Words.{Stops, all_goes_on, before_again, field_goes_on, field_test, from_again, goes_on, name_goes_on, number_goes_on, set_goes_on}
 
 abbrev Reader : Type 0
 Reader = List ℕ → Option (Key × List ℕ)

@@ -1,9 +1,8 @@
 -- Reading several, as a loop does.
 use Rattle.std.proofs.Common.{◌≡◌, ℕ, suc, ◌-◌, ◌+◌, ◌≤◌, ◌<◌, List, [], ◌∷◌, ◌++◌, Option, Some, None, codes, refl, sym, ap, ◌∙◌, append_assoc, arith}
-use Rattle.std.proofs.lemmas.List.{append-nil}
 use Rattle.dv_sets.specs.declared.end.ParseEnd.{ParseEnd}
 use Rattle.dv_sets.specs.declared.end.ParseEnd.TheVariants.{Bad, NoMemory}
-use Rattle.dv_formats.specs.Parsing.{◌>>=◌, after, several, with_others}
+use Rattle.dv_formats.specs.Parsing.{◌>>=◌, after, several}
 use Rattle.dv_commands.specs.Reads.{Fails}
 
 -- what was read before, and what is still read

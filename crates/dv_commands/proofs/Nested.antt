@@ -1,9 +1,9 @@
 -- Keys in parentheses.
-use Rattle.std.proofs.Common.{◌≡◌, ℕ, zero, suc, ◌-◌, List, [], ◌∷◌, length, Option, Some, None, codes, refl, sym, subst, arith}
+use Rattle.std.proofs.Common.{◌≡◌, ℕ, suc, ◌-◌, List, length, Option, Some, codes, refl, sym, subst, arith}
 use Rattle.dv_model.specs.declared.types.Key.{Key}
 use Rattle.dv_sets.specs.declared.end.ParseEnd.{ParseEnd}
 use Rattle.dv_sets.specs.declared.end.ParseEnd.TheVariants.{Bad, NoMemory}
-use Rattle.dv_formats.specs.Parsing.{◌>>=◌, after, key_at, key_layer, one_of, several}
+use Rattle.dv_formats.specs.Parsing.{after, key_at, key_layer, one_of, several}
 use Rattle.dv_commands.specs.Reads.{Fails}
 
 layer_keys : (e : ParseEnd) (inner : List ℕ → Option (Key × List ℕ)) (b rest : List ℕ) → after (codes "(") b ≡ Some rest

@@ -1,9 +1,9 @@
 -- The texts of commands have no control byte.
-use Rattle.std.proofs.Common.{◌≡◌, ◌⊎◌, inl, inr, ℕ, zero, suc, ◌^◌, ◌<◌, ◌≤◌, Bool, true, false, not, cond, ◌&&◌, ◌||◌, List, [], ◌∷◌, ◌++◌, length, All, Option, Some, None, codes, refl, sym, ◌∙◌, ap, subst, arith, nat_eq, nat_le}
+use Rattle.std.proofs.Common.{◌≡◌, inl, inr, ℕ, ◌^◌, ◌<◌, ◌≤◌, Bool, true, false, cond, ◌&&◌, List, [], ◌∷◌, ◌++◌, All, Option, Some, None, codes, refl, sym, ◌∙◌, ap, subst, arith, nat_eq, nat_le}
 use Rattle.std.specs.List.{AllZip, list_all}
 use Rattle.std.specs.Fmt.{decimal}
 use Rattle.std.specs.Str.{bytes_eq}
-use Rattle.std.proofs.lemmas.Bool.{le-leb, leb-true, ne_eqb}
+use Rattle.std.proofs.lemmas.Bool.{le-leb, leb-true}
 use Rattle.std.proofs.lemmas.Bool.Decides.{nat_tests}
 use Rattle.std.proofs.lemmas.List.Elements.{All-head, All-tail}
 use Rattle.std.proofs.lemmas.List.Folds.{list_all-append}
@@ -21,7 +21,7 @@ use Rattle.dv_model.specs.declared.types.Key.TheOpen.{Key-F}
 use Rattle.dv_model.specs.declared.types.Span.{Span}
 use Rattle.dv_model.specs.Names.{IsName, IsNameByte}
 use Rattle.dv_model.specs.Texts.{spaced}
-use Rattle.dv_formats.specs.Scripts.{AreFlags, AreKeys, AreSought, IsAppendStart, IsCommand, IsEnd, IsFieldName, IsFlag, IsItem, IsKey, IsModifier, IsSet, IsSpan, IsWord, flag_bit, flag_key, how_text, is_field_byte, is_quotable, joined, uid_text}
+use Rattle.dv_formats.specs.Scripts.{AreFlags, AreKeys, AreSought, IsAppendStart, IsCommand, IsEnd, IsFieldName, IsFlag, IsItem, IsKey, IsModifier, IsSet, IsSpan, IsWord, flag_bit, how_text, is_field_byte, is_quotable, joined, uid_text}
 use Rattle.dv_commands.proofs.Base.{both}
 use Rattle.dv_commands.proofs.KeyWords.{flag_word}
 use Rattle.dv_commands.proofs.Words.{digits_are}

@@ -1,5 +1,5 @@
 -- What is printed of a command is read back.
-use Rattle.std.proofs.Common.{◌≡◌, ℕ, Bool, true, false, List, [], ◌∷◌, ◌++◌, length, map, Option, Some, None, codes, refl, sym, ◌∙◌, ap, append_assoc}
+use Rattle.std.proofs.Common.{ℕ, List, [], ◌∷◌, ◌++◌, map, Option, Some, None, codes, refl, sym, ◌∙◌, append_assoc}
 use Rattle.std.specs.List.{AllZip}
 use Rattle.dv_model.specs.declared.types.Command.{Command}
 use Rattle.dv_model.specs.declared.types.Command.TheVariants as command
@@ -7,8 +7,7 @@ use Rattle.dv_model.specs.declared.types.Item.{Item}
 use Rattle.dv_model.specs.declared.types.Item.TheVariants as item
 use Rattle.dv_model.specs.Texts.{spaced}
 use Rattle.dv_formats.specs.Printing.{command_text, flags_text, item_text, modifier_text, set_text, sought_text}
-use Rattle.dv_formats.specs.Scripts.{IsCommand, IsItem, IsModifier, how_text, uid_text}
-use Rattle.dv_formats.specs.Parsing.{command_of}
+use Rattle.dv_formats.specs.Scripts.{IsCommand, IsItem, IsModifier, uid_text}
 use Rattle.dv_sets.proofs.Reread.{printed_set}
 use Rattle.dv_commands.proofs.PrintedFlags.{flags_printed}
 use Rattle.dv_commands.proofs.PrintedKeys.{sought_printed}

@@ -1,14 +1,12 @@
 -- What is printed of flags is a text of those flags.
-use Rattle.std.proofs.Common.{◌≡◌, ◌⊎◌, inl, inr, ℕ, zero, suc, ◌+◌, ◌<◌, ◌≤◌, Bool, true, false, cond, ◌&&◌, ◌||◌, List, [], ◌∷◌, ◌++◌, length, get_or, All, Contains, fold, Option, Some, None, codes, refl, sym, ◌∙◌, ap, subst, arith, nat_eq, nat_lt, append_assoc}
+use Rattle.std.proofs.Common.{◌≡◌, inl, inr, ℕ, zero, suc, ◌<◌, Bool, true, false, cond, ◌&&◌, List, [], ◌∷◌, ◌++◌, length, All, fold, Option, Some, None, codes, refl, sym, ◌∙◌, ap, subst, arith, nat_eq, nat_lt}
 use Rattle.std.specs.Prelude.{bit_and, bit_or}
 use Rattle.std.specs.List.{list_all, list_any}
 use Rattle.std.specs.Str.{bytes_eq}
-use Rattle.std.proofs.lemmas.Bool.{eq-eqb, eqb-true, false≢true, lt-ltb, ltb-true, ne_eqb}
-use Rattle.std.proofs.lemmas.List.{append-nil}
+use Rattle.std.proofs.lemmas.Bool.{eq-eqb, eqb-true, false≢true, ltb-true}
 use Rattle.std.proofs.lemmas.List.Elements.{All-append, All-cons, All-head, All-nil, All-tail}
-use Rattle.std.proofs.lemmas.Slice.Eq.{bytes_eq-Decides}
-use Rattle.dv_model.specs.Names.{IsName, IsNameByte}
-use Rattle.dv_model.specs.Texts.{flag_when, flag_words, spaced}
+use Rattle.dv_model.specs.Names.{IsName}
+use Rattle.dv_model.specs.Texts.{flag_when, flag_words}
 use Rattle.dv_formats.specs.Printing.{flags_text}
 use Rattle.dv_formats.specs.Scripts.{AreFlags, IsFlag, flag_bit, with_flag}
 

@@ -1,11 +1,11 @@
 -- What is printed of a key is a text of that key.
-use Rattle.std.proofs.Common.{◌≡◌, ◌⊎◌, inl, inr, ℕ, zero, suc, ◌<◌, ◌≤◌, Bool, true, false, List, [], ◌∷◌, ◌++◌, length, map, Option, Some, None, codes, refl, sym, ◌∙◌, ap, subst, arith, append_assoc}
-use Rattle.std.specs.Prelude.{decimal, unwrap_or}
+use Rattle.std.proofs.Common.{◌≡◌, inl, inr, ℕ, suc, ◌≤◌, List, [], ◌++◌, length, map, codes, refl, sym, ◌∙◌, ap, subst, append_assoc}
+use Rattle.std.specs.Prelude.{unwrap_or}
 use Rattle.dv_model.specs.declared.types.Key.{Key, fold-roll-Key, out-Key, roll-Key, roll-out-Key}
 use Rattle.dv_model.specs.declared.types.Key.TheOpen.{Key-F}
 use Rattle.dv_model.specs.Texts.{spaced}
 use Rattle.dv_formats.specs.Printing.{key_step, key_text, set_text, sought_text}
-use Rattle.dv_formats.specs.Scripts.{AreKeys, AreSought, IsKey, IsWord, flag_key, key_levels}
+use Rattle.dv_formats.specs.Scripts.{AreKeys, AreSought, IsKey, IsWord, key_levels}
 use Rattle.dv_sets.proofs.Reread.{printed_set}
 
 -- a key's text, by its outermost layer

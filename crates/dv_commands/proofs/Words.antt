@@ -1,13 +1,10 @@
 -- What the grammar has is read: words, items and lists.
-use Rattle.std.proofs.Common.{◌≡◌, ◌⊎◌, inl, inr, ℕ, zero, suc, ◌+◌, ◌^◌, ◌<◌, ◌≤◌, Bool, true, false, not, cond, ◌&&◌, ◌||◌, List, [], ◌∷◌, ◌++◌, length, get_or, All, Contains, take, drop, Option, Some, None, codes, refl, sym, ◌∙◌, ap, subst, arith, nat_eq, nat_le, nat_lt, append_assoc}
+use Rattle.std.proofs.Common.{◌≡◌, inl, inr, ℕ, zero, suc, ◌^◌, ◌<◌, ◌≤◌, Bool, true, false, not, List, [], ◌∷◌, ◌++◌, length, All, take, drop, Option, Some, None, codes, refl, sym, ◌∙◌, ap, subst, arith, nat_eq, append_assoc}
 use Rattle.std.specs.List.{AllZip, list_all, position_or_len}
 use Rattle.std.specs.Fmt.{decimal}
-use Rattle.std.specs.Str.{bytes_eq}
-use Rattle.std.specs.Str.Parse.{AllDigits}
-use Rattle.std.proofs.lemmas.Bool.{eq-eqb, eqb-true, le-leb, ne_eqb}
-use Rattle.std.proofs.lemmas.Bool.Decides.{nat_tests}
+use Rattle.std.proofs.lemmas.Bool.{le-leb, ne_eqb}
 use Rattle.std.proofs.lemmas.Fmt.{decimal_is_IsNumeral}
-use Rattle.std.proofs.lemmas.List.{append-nil, drop_at, length-append, get_or_default, take_at}
+use Rattle.std.proofs.lemmas.List.{drop_at, length-append, get_or_default, take_at}
 use Rattle.std.proofs.lemmas.List.Elements.{All-head, All-tail}
 use Rattle.std.proofs.lemmas.List.Folds.{list_all-append}
 use Rattle.std.proofs.lemmas.Str.Parse.{digit_at}
@@ -19,8 +16,8 @@ use Rattle.dv_model.specs.declared.types.Span.{Span}
 use Rattle.dv_model.specs.Names.{IsName, IsNameByte}
 use Rattle.dv_model.specs.Texts.{spaced}
 use Rattle.dv_formats.specs.Scripts.{IsEnd, IsFieldName, IsItem, IsSet, IsSpan, is_field_byte, joined}
-use Rattle.dv_formats.specs.Parsing.{◌>>=◌, after, before, field_at, from, is_field_name, is_stop, item_at, plain_item, several, with_others}
-use Rattle.dv_commands.proofs.Base.{after_again, both}
+use Rattle.dv_formats.specs.Parsing.{after, before, field_at, from, is_field_name, is_stop, item_at, plain_item, several}
+use Rattle.dv_commands.proofs.Base.{both}
 
 -- ---- up to what stops a word
 
@@ -78,7 +75,7 @@ abbrev pub IsDigit : ℕ → Type 0
 IsDigit b = (48 ≤ b) × (b ≤ 57)
 
 pub digits_are : (n : ℕ) → n < 2 ^ 64 → All IsDigit (decimal n)
-digits_are n small = λ k d less. 
+digits_are n small = λ k d less.
     let at = digit_at (decimal n) k (decimal_is_IsNumeral n small).0.1 less in
     subst IsDigit (get_or_default (decimal n) k 0 d less) (omega (arith, at), omega (arith, at))
 

@@ -155,7 +155,10 @@ fn read_key(alloc: Global, levels: u32, b: &[u8]) -> Result<(Key, &[u8]), ParseE
         let (one, rest) = read_key(alloc, levels - 1, rest)?;
         let rest = expect(rest, b" ")?;
         let (other, end) = read_key(alloc, levels - 1, rest)?;
-        return Ok((Key::Or(Boxed::new(alloc, one)?, Boxed::new(alloc, other)?), end));
+        return Ok((
+            Key::Or(Boxed::new(alloc, one)?, Boxed::new(alloc, other)?),
+            end,
+        ));
     }
     if let Some(rest) = behind(b, b"HEADER ") {
         return read_header(alloc, rest);

@@ -1,6 +1,7 @@
 use crate::draws::draw;
 use crate::script;
 use dv_model::{Command, End, How, Item};
+use dv_script::{parse, print_script};
 use std::process::Abort;
 use std::test::Fail;
 
@@ -74,6 +75,25 @@ fn a_noop_is_the_first_command_of_seed_seven(rt: HostRuntime) -> Result<(), Fail
     assert_eq!(rt; appended(&lines.get(9).command), Some(80));
     assert_eq!(rt; fetched(&lines.get(10).command), Some((3, 12)));
     assert_eq!(rt; fetched(&lines.get(11).command), Some((4, 13)));
+    Ok(())
+}
+
+// The text's FNV-1a hash of 64 bits.
+fn hash_of(text: &[u8]) -> u64 {
+    let mut hash: u64 = 0xcbf2_9ce4_8422_2325;
+    for byte in text {
+        hash = (hash ^ u64::from(*byte)).wrapping_mul(0x100_0000_01b3);
+    }
+    hash
+}
+
+#[test]
+fn the_first_hundred_commands_of_seed_seven_have_this_text(rt: HostRuntime) -> Result<(), Fail> {
+    let lines = script(rt.alloc(), 7, 100, 3)?;
+    let text = print_script(rt.alloc(), &lines)?;
+    assert_eq!(rt; text.len(), 4324);
+    assert_eq!(rt; hash_of(text.as_slice()), 0xccb9_3ee9_669b_5079);
+    assert_eq!(rt; parse(rt.alloc(), text.as_slice())?.len(), 103);
     Ok(())
 }
 

@@ -39,3 +39,6 @@ or_text one other = ap key_text (sym (rolls-Or one other)) ∙ fold-roll-Key (Li
 
 pub and_text : (keys : List Key) → key_text (key.And keys) ≡ codes "(" ++ spaced (map key_text keys) ++ codes ")"
 and_text keys = ap key_text (sym (rolls-And keys)) ∙ fold-roll-Key (List ℕ) key_step (Key-F.And keys)
+
+-- the texts of all keys
+pub ruleset key_texts = (all_text, has_text, lacks_text, keyword_text, uid_key_text, larger_text, header_text, not_text, or_text, and_text)

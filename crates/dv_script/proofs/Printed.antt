@@ -182,12 +182,12 @@ append_first name flags keywords message b rest is short has small =
     let next = message ++ 10 ∷ rest in
     let command_is : command_text (command.Append flags keywords message) ≡ text ++ 10 ∷ message = ap (λ t. t ++ 10 ∷ message) same_head in
     let same : line_text (name, command.Append flags keywords message) ++ rest ≡ (name ++ 32 ∷ text) ++ 10 ∷ next =
-        append_assoc (name ++ codes " " ++ command_text (command.Append flags keywords message)) (10 ∷ []) rest
-        ∙ ap (λ t. (name ++ codes " " ++ t) ++ 10 ∷ rest) command_is
-        ∙ append_assoc (name ++ codes " ") (text ++ 10 ∷ message) (10 ∷ rest)
-        ∙ ap (λ t. (name ++ codes " ") ++ t) (append_assoc text (10 ∷ message) (10 ∷ rest))
-        ∙ append_assoc name (codes " ") (text ++ 10 ∷ next)
-        ∙ sym (append_assoc name (32 ∷ text) (10 ∷ next)) in
+    append_assoc (name ++ codes " " ++ command_text (command.Append flags keywords message)) (10 ∷ []) rest
+    ∙ ap (λ t. (name ++ codes " " ++ t) ++ 10 ∷ rest) command_is
+    ∙ append_assoc (name ++ codes " ") (text ++ 10 ∷ message) (10 ∷ rest)
+    ∙ ap (λ t. (name ++ codes " ") ++ t) (append_assoc text (10 ∷ message) (10 ∷ rest))
+    ∙ append_assoc name (codes " ") (text ++ 10 ∷ next)
+    ∙ sym (append_assoc name (32 ∷ text) (10 ∷ next)) in
     first_is (name, command.Append flags keywords message) rest text next is short_text plain_text same
     (λ names. start_here name names (list ++ (codes " {" ++ (number ++ codes "}"))) next ((flags, keywords), length message) (append_again flags keywords (length message) list printed small) ∙ literal_here name names flags keywords message rest)
 

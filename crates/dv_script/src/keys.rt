@@ -34,7 +34,7 @@ fn put_header(text: &mut Bytes, name: &[u8], quoted: &[u8]) -> Result<(), NoMemo
 
 // A key that stands inside another one.
 #[cycle(key)]
-#[tactic(auto, using(crate::proofs::KeyTexts::all_text, crate::proofs::KeyTexts::has_text, crate::proofs::KeyTexts::lacks_text, crate::proofs::KeyTexts::keyword_text, crate::proofs::KeyTexts::uid_key_text, crate::proofs::KeyTexts::larger_text, crate::proofs::KeyTexts::header_text, crate::proofs::KeyTexts::not_text, crate::proofs::KeyTexts::or_text, crate::proofs::KeyTexts::and_text))]
+#[tactic(auto, using(crate::proofs::KeyTexts::key_texts))]
 fn put_key(alloc: Global, text: &mut Bytes, key: &Key) -> Result<(), NoMemory>
     ensures { OnOk result (text.new ≡ text.old ++ key_text key.now) }
 {

@@ -65,7 +65,10 @@ fn a_lone_carriage_return_ends_no_line(rt: HostRuntime) {
 #[test]
 fn a_literal_has_its_bytes_and_a_line_end(rt: HostRuntime) -> Result<(), Fail> {
     let script = b"a APPEND (\\Seen k \\Seen k) {6}\r\na\nb\r\n\n\na NOOP\nb NOPE";
-    assert_eq!(rt; end_of(rt.alloc(), script), Some(ScriptEnd::BadLine { line: 7 }));
+    assert_eq!(rt;
+        end_of(rt.alloc(), script),
+        Some(ScriptEnd::BadLine { line: 7 })
+    );
     let lines = parse(rt.alloc(), &script[..46])?;
     assert_eq!(rt; lines.len(), 2);
     let holds = match &lines.get(0).command {
@@ -112,7 +115,10 @@ fn a_script_of_67108865_bytes_is_too_long(rt: HostRuntime) -> Result<(), Fail> {
 #[test]
 fn a_session_has_at_most_sixteen_letters(rt: HostRuntime) {
     assert_eq!(rt; end_of(rt.alloc(), b"abcdefghijklmn09 NOOP\n"), None);
-    assert_eq!(rt; end_of(rt.alloc(), b"abcdefghijklmn091 NOOP\n"), Some(FIRST));
+    assert_eq!(rt;
+        end_of(rt.alloc(), b"abcdefghijklmn091 NOOP\n"),
+        Some(FIRST)
+    );
     assert_eq!(rt; end_of(rt.alloc(), b" NOOP\n"), Some(FIRST));
     assert_eq!(rt; end_of(rt.alloc(), b"A NOOP\n"), Some(FIRST));
 }
@@ -238,7 +244,8 @@ fn a_printed_script_is_printed_again(rt: HostRuntime) -> Result<(), Fail> {
     let lines = parse(rt.alloc(), PRINTED)?;
     assert_eq!(rt; lines.len(), 14);
     same(&rt, print_script(rt.alloc(), &lines)?, PRINTED);
-    let loose = b"#\na SEARCH ((ALL)) (SEEN (DRAFT UID 7:7))\r\na STORE 1 FLAGS (k \\Draft \\Seen k)";
+    let loose =
+        b"#\na SEARCH ((ALL)) (SEEN (DRAFT UID 7:7))\r\na STORE 1 FLAGS (k \\Draft \\Seen k)";
     let lines = parse(rt.alloc(), loose)?;
     let tight = b"a SEARCH ALL (SEEN (DRAFT UID 7))\na STORE 1 FLAGS (\\Seen \\Draft k)\n";
     same(&rt, print_script(rt.alloc(), &lines)?, tight);

@@ -1,4 +1,3 @@
-use Rattle.std.proofs.Common.{sym}
 use Rattle.std.proofs.lemmas.Result.{err_from_is_err_and}
 use Rattle.dv_formats.specs.Parsing.{item_at, item_limit, several}
 use Rattle.dv_commands.proofs.Loops.{ends, fails, goes_on, too_many}

@@ -1,7 +1,7 @@
-use Rattle.std.proofs.Common.{◌≡◌, ◌-◌, length, sym, rules}
+use Rattle.std.proofs.Common.{length, rules}
 use Rattle.std.proofs.lemmas.Result.{err_from_is_err_and}
 use Rattle.dv_formats.specs.Parsing.{key_at, several}
-use Rattle.dv_commands.proofs.Loops.{ends, fails, goes_on, starts, too_many}
+use Rattle.dv_commands.proofs.Loops.{ends, fails, goes_on, too_many}
 use Rattle.dv_commands.proofs.Nested.{nested, no_end, no_keys}
 use Rattle.dv_commands.proofs.keys.+key.Goals as goal
 

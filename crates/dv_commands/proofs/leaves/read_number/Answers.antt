@@ -1,4 +1,4 @@
-use Rattle.std.proofs.Common.{◌^◌, ◌<◌, ◌≤◌, arith, rules}
+use Rattle.std.proofs.Common.{arith, rules}
 use Rattle.dv_commands.proofs.Numbers.{is_above, number_complete, number_none}
 use Rattle.dv_commands.proofs.leaves.read_number.Goals as goal
 
