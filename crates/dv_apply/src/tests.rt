@@ -2,6 +2,7 @@ use super::*;
 use dv_records::decode;
 use dv_touched::Touched;
 use std::alloc::Global;
+use std::slice;
 use std::test::*;
 
 // A record's bytes, the answer, the counts (rows, UIDNEXT, highest modification sequence, Seen,
@@ -285,29 +286,26 @@ fn touched_uids_are_gathered(rt: HostRuntime) -> Result<(), Fail> {
     Ok(())
 }
 
-fn prepares(alloc: Global, live: &mut Live, one: &[u8], other: &[u8]) -> Result<(), ApplyFault> {
-    let Ok((one, _)) = decode(alloc, one, 0) else {
+fn prepares(alloc: Global, live: &mut Live, bytes: &[u8]) -> Result<(), ApplyFault> {
+    let Ok((record, _)) = decode(alloc, bytes, 0) else {
         return Err(ApplyFault::NoMemory);
     };
-    let Ok((other, _)) = decode(alloc, other, 0) else {
-        return Err(ApplyFault::NoMemory);
-    };
-    match live.prepare(&[one, other]) {
+    match live.prepare(slice::from_ref(&record)) {
         Ok(_) => Ok(()),
         Err(e) => Err(e),
     }
 }
 
 #[test]
-fn a_refused_row_behind_another_record_is_named(rt: HostRuntime) -> Result<(), Fail> {
+fn a_refused_row_is_named_before_the_mailbox_changes(rt: HostRuntime) -> Result<(), Fail> {
     let mut live = Live::empty(rt.alloc(), 1000);
     assert_eq!(rt; apply(rt.alloc(), &mut live, TWO), Ok(()));
     let refused = ApplyFault::BadAppend {
-        uid: 3,
-        next_uid: 4,
+        uid: 1,
+        next_uid: 3,
     };
-    assert_eq!(rt; prepares(rt.alloc(), &mut live, THREE, THREE), Err(refused));
-    assert_eq!(rt; prepares(rt.alloc(), &mut live, SEEN, THREE), Ok(()));
+    assert_eq!(rt; prepares(rt.alloc(), &mut live, TWO), Err(refused));
+    assert_eq!(rt; prepares(rt.alloc(), &mut live, THREE), Ok(()));
     assert_eq!(rt; counts(&live), (2, 3, 2, 1, 0));
     Ok(())
 }
