@@ -8,8 +8,6 @@ mod lines;
 mod numbers;
 mod sends;
 mod session;
-#[cfg(test)]
-mod tests;
 
 pub use laws::{refusal_goes_on, sessions_keep_up};
 pub use session::Session;

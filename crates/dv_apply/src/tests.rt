@@ -155,12 +155,10 @@ const UPDATE: &[u8] = b"\x80\x80\x80\x84\0\x02\0\0\x01\0\0\0\x07\x08\0\0";
 const AGAIN: &[u8] = b"\x80\x80\x80\x87\x40\0\0\0\0\0\0\0\x05\0\0\0\x04\0\0\0\x02\0\x01\0\0\0\0\0";
 
 // The extension 0 with a header of eight bytes, and the same two bytes of each row.
-const LONGER: &[u8] =
-    b"\x80\x80\x80\x87\x40\0\0\0\0\0\0\0\x05\0\0\0\x08\0\0\0\x02\0\x01\0\0\0\0\0";
+const LONGER: &[u8] = b"\x80\x80\x80\x87\x40\0\0\0\0\0\0\0\x05\0\0\0\x08\0\0\0\x02\0\x01\0\0\0\0\0";
 
 // The extension 0 with four bytes of each row.
-const WIDER: &[u8] =
-    b"\x80\x80\x80\x87\x40\0\0\0\0\0\0\0\x05\0\0\0\x04\0\0\0\x04\0\x01\0\0\0\0\0";
+const WIDER: &[u8] = b"\x80\x80\x80\x87\x40\0\0\0\0\0\0\0\x05\0\0\0\x04\0\0\0\x04\0\x01\0\0\0\0\0";
 
 // The reset number 6, and zero bytes.
 const RESET: &[u8] = b"\x80\x80\x80\x84\x80\0\0\0\x06\0\0\0\0\0\0\0";

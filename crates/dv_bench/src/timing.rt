@@ -2,22 +2,10 @@ ghost use Rattle.std.specs.Prelude.{All};
 ghost use Rattle.dv_model.specs.Spelling.{IsRecord};
 
 use crate::fault::Fault;
-use crate::sessions::tell_all;
 use dv_apply::Live;
 use dv_model::Record;
 use dv_touched::Touched;
 use std::time::Instant;
-
-/// What is done with each record.
-#[derive(Clone, Copy)]
-pub enum Work {
-    /// It is applied.
-    Apply,
-    /// The UIDs that it touches are handed out, too.
-    Touch,
-    /// Four sessions are told of these, too, and each has a NOOP answered.
-    Tell,
-}
 
 /// How long the first records took, and the others, in microseconds.
 #[derive(Clone, Copy)]
@@ -50,22 +38,22 @@ fn touch_all(rt: HostRuntime, live: &mut Live, records: &[Record]) -> Result<u12
 }
 
 /// Applies them all to a new mailbox; the first so many of them, where there are as many, are timed
-/// alone.
+/// alone. The others may be applied with the UIDs that they touch.
 pub fn time_records(
     rt: HostRuntime,
     records: &[Record],
     first: usize,
-    work: Work,
+    touched: bool,
 ) -> Result<Times, Fault>
     requires { All IsRecord records.now }
 {
     let mut live = Live::empty(rt.alloc(), 1);
     let (front, behind) = records.split_at(first.min(records.len()));
     let first = apply_all(rt, &mut live, front)?;
-    let others = match work {
-        Work::Apply => apply_all(rt, &mut live, behind)?,
-        Work::Touch => touch_all(rt, &mut live, behind)?,
-        Work::Tell => tell_all(rt, &mut live, behind)?,
+    let others = if touched {
+        touch_all(rt, &mut live, behind)?
+    } else {
+        apply_all(rt, &mut live, behind)?
     };
     Ok(Times { first, others })
 }
