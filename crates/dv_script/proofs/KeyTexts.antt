@@ -1,5 +1,5 @@
 -- The texts of keys, layer by layer.
-use Rattle.std.proofs.Common.{◌≡◌, ℕ, List, [], ◌∷◌, ◌++◌, map, ap, sym, ◌∙◌}
+use Rattle.std.proofs.Common.{◌≡◌, ℕ, List, [], ◌++◌, map, ap, sym, ◌∙◌}
 use Rattle.std.specs.Prelude.{codes, decimal, unwrap_or}
 use Rattle.dv_model.specs.declared.types.Key.{Key, fold-roll-Key}
 use Rattle.dv_model.specs.declared.types.Key.TheOpen.{Key-F}

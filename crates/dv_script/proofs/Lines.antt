@@ -1,10 +1,9 @@
 -- Reading line by line.
-use Rattle.std.proofs.Common.{◌≡◌, ℕ, zero, suc, ◌+◌, ◌≤◌, ◌<◌, Bool, true, false, cond, List, [], ◌∷◌, ◌++◌, length, map, Option, Some, None, Result, Ok, Err, refl, sym, ap, ◌∙◌, arith, nat_lt}
+use Rattle.std.proofs.Common.{◌≡◌, ℕ, zero, suc, ◌+◌, ◌≤◌, ◌<◌, List, [], ◌∷◌, ◌++◌, length, Option, Some, None, Ok, Err, refl, sym, ap, ◌∙◌, arith}
 use Rattle.std.proofs.lemmas.Bool.{le-ltb, lt-ltb}
 use Rattle.dv_formats.specs.Scripts.{NamedLine, script_limit}
-use Rattle.dv_formats.specs.Parsing.{LineFault, ScriptFault, as_list, behind_line, fault_at, feeds_before, first_line, line_at, lines_at, parsed}
+use Rattle.dv_formats.specs.Parsing.{LineFault, ScriptFault, as_list, fault_at, feeds_before, first_line, line_at, lines_at, parsed}
 use Rattle.dv_script.specs.declared.types.Line.{Line}
-use Rattle.dv_script.specs.declared.types.ScriptEnd.{ScriptEnd}
 use Rattle.dv_script.specs.declared.script.LineEnd.{LineEnd}
 use Rattle.dv_script.specs.declared.script.LineEnd.TheVariants as line_end
 use Rattle.dv_script.specs.Sources.{LineFails, ScriptFails, all_named, may_name, named, script_end_of}

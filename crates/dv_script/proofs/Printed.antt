@@ -1,10 +1,10 @@
 -- A script that is printed is parsed as the same lines.
-use Rattle.std.proofs.Common.{◌≡◌, ◌⊎◌, inl, inr, ℕ, zero, suc, ◌+◌, ◌-◌, ◌^◌, ◌<◌, ◌≤◌, Bool, true, false, not, cond, ◌&&◌, ◌||◌, List, [], ◌∷◌, ◌++◌, length, All, get_or, take, drop, fold, Option, Some, None, Result, Ok, Err, codes, refl, sym, ◌∙◌, ap, subst, arith, nat_eq, nat_le, nat_lt, append_assoc}
-use Rattle.std.specs.Prelude.{decimal, flat_map}
+use Rattle.std.proofs.Common.{◌≡◌, ℕ, zero, suc, ◌+◌, ◌-◌, ◌^◌, ◌<◌, ◌≤◌, Bool, true, false, cond, List, [], ◌∷◌, ◌++◌, length, All, get_or, fold, Some, None, Ok, codes, refl, sym, ◌∙◌, ap, subst, arith, nat_le, nat_lt, append_assoc}
+use Rattle.std.specs.Prelude.{decimal}
 use Rattle.std.specs.List.{AllByRecursion, list_all, list_any}
 use Rattle.std.specs.Str.{bytes_eq}
 use Rattle.std.specs.Str.Lines.{strip_carriage_return}
-use Rattle.std.proofs.lemmas.Bool.{eqb-true, le-leb, le-ltb, leb-true, lt-ltb, ne_eqb}
+use Rattle.std.proofs.lemmas.Bool.{le-leb, le-ltb, leb-true, lt-ltb, ne_eqb}
 use Rattle.std.proofs.lemmas.Bool.Decides.{nat_tests}
 use Rattle.std.proofs.lemmas.List.{append-nil, drop_at, length-append, take_at}
 use Rattle.std.proofs.lemmas.List.Concat.{flat_map-cons}
@@ -12,8 +12,8 @@ use Rattle.std.proofs.lemmas.List.Elements.{All-head, All-tail}
 use Rattle.dv_model.specs.declared.types.Command.{Command}
 use Rattle.dv_model.specs.declared.types.Command.TheVariants as command
 use Rattle.dv_formats.specs.Printing.{command_text, flags_text, line_text, script_text}
-use Rattle.dv_formats.specs.Scripts.{AreFlags, IsCommand, IsSession, NamedLine, and_session, is_session_byte, line_limit, script_limit, session_limit, sessions_of}
-use Rattle.dv_formats.specs.Parsing.{◌>>=◌, LineFault, ScriptFault, TakenLine, after, append_of, as_list, before, behind_line, command_at, command_of, feeds_before, first_line, from, is_byte, is_session_name, is_skipped, line_at, lines_at, literal_at, parsed, session_at, with_session}
+use Rattle.dv_formats.specs.Scripts.{AreFlags, IsCommand, IsSession, NamedLine, and_session, is_session_byte, line_limit, session_limit}
+use Rattle.dv_formats.specs.Parsing.{after, append_of, before, command_at, command_of, feeds_before, first_line, is_byte, is_session_name, is_skipped, line_at, lines_at, literal_at, parsed, session_at, with_session}
 use Rattle.dv_commands.proofs.AppendTexts.{append_again}
 use Rattle.dv_commands.proofs.Base.{both}
 use Rattle.dv_commands.proofs.CommandTexts.{command_again}

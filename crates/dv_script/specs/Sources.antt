@@ -1,7 +1,7 @@
 -- Lines and faults of a script as the program has them.
 use Rattle.std.specs.Prelude.{◌≡◌, ℕ, List, map, Option, Some, None, Result, Ok, Err}
 use Rattle.dv_formats.specs.Scripts.{NamedLine}
-use Rattle.dv_formats.specs.Parsing.{LineFault, ScriptFault, TakenLine}
+use Rattle.dv_formats.specs.Parsing.{LineFault, ScriptFault}
 use Rattle.dv_script.specs.declared.types.Line.{Line}
 use Rattle.dv_script.specs.declared.types.ScriptEnd.{ScriptEnd}
 use Rattle.dv_script.specs.declared.types.ScriptEnd.TheVariants as script_end

@@ -1,5 +1,4 @@
-use Rattle.std.proofs.Common.{◌≡◌, ◌∷◌, List, rules}
-use Rattle.dv_model.specs.declared.types.Item.{Item}
+use Rattle.std.proofs.Common.{◌≡◌, ◌∷◌, rules}
 use Rattle.dv_formats.specs.Printing.{item_text}
 use Rattle.dv_script.proofs.SpacedLemmas.{listed}
 use Rattle.dv_script.proofs.printing.put_items.Goals as goal

@@ -1,6 +1,6 @@
-use Rattle.std.proofs.Common.{◌≡◌, ◌∙◌, ◌<◌, ◌≤◌, ◌+◌, Ok, length, ap, sym, subst, arith, rules}
+use Rattle.std.proofs.Common.{◌≡◌, ◌∙◌, ◌<◌, ◌+◌, length, sym, subst, arith, rules}
 use Rattle.dv_formats.specs.Parsing.{feeds_before, first_line, line_at, parsed}
-use Rattle.dv_script.specs.Sources.{LineFails, ScriptFails, may_name}
+use Rattle.dv_script.specs.Sources.{LineFails, ScriptFails}
 use Rattle.dv_script.proofs.Lines.{IsReadTo, beyond, done, fails, goes_on, same_line}
 use Rattle.dv_script.proofs.script.parse.Goals as goal
 

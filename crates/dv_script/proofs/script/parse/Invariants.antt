@@ -1,4 +1,4 @@
-use Rattle.std.proofs.Common.{◌≡◌, ◌+◌, ◌≤◌, [], length}
+use Rattle.std.proofs.Common.{◌+◌, ◌≤◌, length}
 use Rattle.dv_script.proofs.Lines.{IsReadTo}
 use Rattle.dv_script.proofs.script.parse.Given as goal
 
