@@ -2,7 +2,7 @@
 use Rattle.std.proofs.Common.{◌≡◌, ◌⊎◌, inl, inr, ℕ, ◌<◌, ◌≤◌, Bool, true, false, cond, not, ◌&&◌, ◌||◌, List, [], ◌∷◌, length, Some, None, Option, refl, sym, ◌∙◌, ap, subst, arith}
 use Rattle.std.specs.Prelude.{◌↔◌, All, Contains, IsSome, filter, is_some, map, nat_eq, option_and_then, option_map}
 use Rattle.std.specs.List.Sorted.{IsStrictlyIncreasing}
-use Rattle.std.proofs.lemmas.Bool.{cases_lt}
+use Rattle.std.proofs.lemmas.Bool.{and_cases, cases_lt}
 use Rattle.std.proofs.lemmas.List.Elements.{All-contains, All-filter, All-nil, All-weaker}
 use Rattle.std.proofs.lemmas.List.Kept.{IsStrictlyIncreasing-filter}
 use Rattle.dv_model.specs.declared.types.Fresh.{Fresh}
@@ -192,9 +192,9 @@ moved_next : (step : Step) (m : Mailbox) (view : View) → (moved step view m).n
 moved_next Held m view = omega arith
 moved_next Full m view = omega arith
 
-and_true : (b : Bool) → b ≡ (b && true)
-and_true true = refl
-and_true false = refl
+hidden : (b : Bool) → (b ≡ false) ⊎ (true ≡ false) → b ≡ false
+hidden b (inl e) = e
+hidden b (inr e) = absurd cc
 
 module _ (step : Step) (m : Mailbox) (view : View) (touched : List ℕ) (valid : IsValid m) (tracks : Tracks m view touched) where
   abbrev behind : View
@@ -202,12 +202,11 @@ module _ (step : Step) (m : Mailbox) (view : View) (touched : List ℕ) (valid :
 
   by_touched : (u : ℕ) → is_in u (untold m behind touched) ≡ false → row_of m u ≡ None → (b : Bool) → is_in u touched ≡ b → at_uid u behind.rows ≡ None
   by_touched u out none false t = moved_none m view touched tracks valid step u t (ap (option_map shown) none)
-  by_touched u out none true t = none_shown behind u (
-      and_true (shows_uid behind u)
-      ∙ ap (λ (o : Option Row). shows_uid behind u && not (is_some o)) (sym none)
+  by_touched u out none true t = none_shown behind u (hidden (shows_uid behind u) (and_cases (shows_uid behind u) true (
+      ap (λ (o : Option Row). shows_uid behind u && not (is_some o)) (sym none)
       ∙ ap (λ b. b && is_untold m behind u) (sym t)
       ∙ sym (in_filter (is_untold m behind) u touched)
-      ∙ out)
+      ∙ out)))
 
   by_row : (u : ℕ) → is_in u (untold m behind touched) ≡ false → (o : Option Row) → row_of m u ≡ o → at_uid u behind.rows ≡ shown_of m u
   by_row u out (Some row) e =

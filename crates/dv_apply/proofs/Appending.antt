@@ -1,5 +1,6 @@
 -- An append is each of its rows in turn, or is refused.
 use Rattle.std.proofs.Common.{◌≡◌, ℕ, ◌+◌, ◌≤◌, Bool, true, false, cond, List, [], ◌∷◌, ◌++◌, nat_lt, Some, None, refl, sym, ◌∙◌, ap, append_assoc, arith}
+use Rattle.std.proofs.lemmas.Bool.{ltb-false}
 use Rattle.std.specs.Prelude.{All, fold, map, option_map}
 use Rattle.std.proofs.lemmas.Bool.Decides.{nat_tests}
 use Rattle.std.proofs.lemmas.List.{append-nil}
@@ -13,9 +14,6 @@ use Rattle.dv_model.specs.Mailboxes.{IsValid}
 use Rattle.dv_validity.proofs.Comparisons.{stamped_with_more}
 use Rattle.dv_validity.proofs.Rows.{map_map}
 use Rattle.dv_apply.specs.Bodies.{Refused, after_body, first_refused, next_after}
-
-not_below : (a b : ℕ) → nat_lt a b ≡ false → b ≤ a
-not_below a b e = grind (arith, nat_tests)
 
 -- ---- refused or not
 
@@ -45,7 +43,7 @@ new_by : (next : ℕ) (row : NewRow) (rows : List NewRow) (b : Bool) → nat_lt 
     → cond b (Some (record { uid = row.uid; next_uid = next })) (first_refused (row.uid + 1) rows) ≡ None → All (λ (x : NewRow). next ≤ x.uid) (row ∷ rows)
 new_by next row rows true lt later e = absurd cc
 new_by next row rows false lt later e =
-    let le : next ≤ row.uid = not_below row.uid next lt in
+    let le : next ≤ row.uid = ltb-false row.uid next lt in
     All-cons (λ (x : NewRow). next ≤ x.uid) row rows le (All-weaker (λ (x : NewRow). row.uid + 1 ≤ x.uid) (λ (x : NewRow). next ≤ x.uid) (λ x h. omega arith) rows (later e))
 
 -- no UID of them was given out before

@@ -1,5 +1,6 @@
 -- What is made ready of records is what they make of the mailbox.
 use Rattle.std.proofs.Common.{◌≡◌, ◌≢◌, ◌⊎◌, inl, inr, ◌↔◌, ℕ, ◌<◌, ◌≤◌, Bool, true, false, List, ◌++◌, length, get_or, nat_eq, nat_le, Option, Some, None, refl, sym, ◌∙◌, ap, subst, arith}
+use Rattle.std.proofs.lemmas.Bool.{false_from_ne_true, eqb-true, or_left, or_right, le-leb}
 use Rattle.std.specs.Prelude.{◌||◌, All, Contains, IsSomeAnd, count_by, filter, find, map, not, option_map, take, Result, Ok, Err, IfOk}
 use Rattle.std.specs.List.Sorted.{IsStrictlyIncreasing}
 use Rattle.std.proofs.lemmas.Bool.Decides.{nat_tests}
@@ -53,18 +54,8 @@ refused_whole test m rs x new (k, d, n, less, at, is) =
 
 -- ---- UIDs that are among others
 
-no_by : (b : Bool) → (b ≡ true → ⊥) → b ≡ false
-no_by true h = absurd (h refl)
-no_by false h = refl
-
-same_number : (a b : ℕ) → nat_eq a b ≡ true → a ≡ b
-same_number a b e = grind (arith, nat_tests)
-
 number_itself : (a b : ℕ) → a ≡ b → nat_eq b a ≡ true
 number_itself a b e = grind (arith, nat_tests)
-
-is_at_least : (a b : ℕ) → a ≤ b → nat_le a b ≡ true
-is_at_least a b h = grind (arith, nat_tests)
 
 -- a UID in the list passes
 pub among : (uids : List ℕ) (uid : ℕ) → Contains uids uid → is_among uids uid ≡ true
@@ -72,18 +63,10 @@ among uids uid (k, h, at) = list_any_at (nat_eq uid) uids k uid h (number_itself
 
 -- and only such
 pub among_only : (uids : List ℕ) (uid : ℕ) → is_among uids uid ≡ true → Contains uids uid
-among_only uids uid e = let (k, x, h, at, same) = Any-from_list_any (nat_eq uid) uids e in (k, h, get_or_default uids k uid x h ∙ at ∙ sym (same_number uid x same))
-
-or_left : (a b : Bool) → a ≡ true → (a || b) ≡ true
-or_left true b e = refl
-or_left false b e = absurd cc
-
-or_right : (a b : Bool) → b ≡ true → (a || b) ≡ true
-or_right true b e = refl
-or_right false b e = e
+among_only uids uid e = let (k, x, h, at, same) = Any-from_list_any (nat_eq uid) uids e in (k, h, get_or_default uids k uid x h ∙ at ∙ sym (eqb-true uid x same))
 
 pub holds_new : (uids : List ℕ) (bound : ℕ) → HoldsNew (is_parted uids bound) bound
-holds_new uids bound uid h = or_right (is_among uids uid) (nat_le bound uid) (is_at_least bound uid h)
+holds_new uids bound uid h = or_right (is_among uids uid) (nat_le bound uid) (le-leb bound uid h)
 
 has_row : (rows : List Row) (row : Row) (uid : ℕ) → Contains rows row → row.uid ≡ uid → HasUid rows uid
 has_row rows row uid (k, h, at) same = subst (HasUid rows) (ap (λ (r : Row). r.uid) at ∙ same) (has_at rows k row h)
@@ -100,7 +83,7 @@ pub all_spare : (m : Mailbox) (rs : List Record) (named uids : List ℕ) → Are
 all_spare m rs named uids are kept k d n less at valid =
     let test : ℕ → Bool = is_parted uids m.next_uid in
     All-weaker (λ (row : Row). Contains m.rows row × (not (test row.uid) ≡ true)) (λ (row : Row). may_change (table_of n) (get_or rs k d).body row.uid ≡ false)
-    (λ row (there, outside). no_by (may_change (table_of n) (get_or rs k d).body row.uid)
+    (λ row (there, outside). false_from_ne_true (may_change (table_of n) (get_or rs k d).body row.uid)
     (λ may. not_true (test row.uid) (or_left (is_among uids row.uid) (nat_le m.next_uid row.uid) (among uids row.uid (kept row.uid (are k d n less less at row.uid (has_row m.rows row row.uid there refl) may)))) outside))
     (rest test m.rows)
     (both_all (Contains m.rows) (λ (row : Row). not (test row.uid) ≡ true) (rest test m.rows) (All-filter (λ (row : Row). not (test row.uid)) (Contains m.rows) m.rows (All-contains_itself m.rows)) (filter_passes (λ (row : Row). not (test row.uid)) m.rows))

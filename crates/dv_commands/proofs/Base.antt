@@ -18,10 +18,6 @@ pub if_some : {A : Type 0} (t : Bool) (x y : A) → cond t (Some x) None ≡ Som
 if_some true x y e = (refl, cc)
 if_some false x y e = absurd cc
 
--- both tests hold
-pub both : (p q : Bool) → (p && q) ≡ true → (p ≡ true) × (q ≡ true)
-both true q e = (refl, e)
-both false q e = absurd cc
 
 -- ---- texts at the front and at the end
 

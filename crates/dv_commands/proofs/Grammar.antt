@@ -3,7 +3,7 @@ use Rattle.std.proofs.Common.{◌≡◌, ◌↔◌, IsTrue, inl, inr, ℕ, ◌^�
 use Rattle.std.specs.List.{AllZip, list_all, list_any}
 use Rattle.std.specs.Fmt.{decimal}
 use Rattle.std.specs.Str.{bytes_eq}
-use Rattle.std.proofs.lemmas.Bool.{eqb-true, false≢true, ne_eqb, eq-eqb, leb-true, le-leb}
+use Rattle.std.proofs.lemmas.Bool.{eqb-true, false≢true, ne_eqb, eq-eqb, leb-true, le-leb, and_parts}
 use Rattle.std.proofs.lemmas.Bool.Decides.{nat_tests}
 use Rattle.std.proofs.lemmas.List.Folds.{list_any_at}
 use Rattle.std.proofs.lemmas.Map.Views.{Contains-from_any}
@@ -24,7 +24,7 @@ use Rattle.dv_sets.proofs.Pieces.{joined_split, only_piece, some_piece, split}
 use Rattle.dv_sets.proofs.Reading.{SpanPieces, set_each, span_pieces}
 use Rattle.dv_sets.proofs.Words.{spaced_joined, words_in, words_of}
 use Rattle.dv_commands.specs.Reads.{Gives}
-use Rattle.dv_commands.proofs.Base.{after_again, after_is, ahead_again, ahead_is, bind_some, both, if_some, some_is}
+use Rattle.dv_commands.proofs.Base.{after_again, after_is, ahead_again, ahead_is, bind_some, if_some, some_is}
 use Rattle.dv_commands.proofs.Numbers.{number_complete, number_sound}
 
 -- ---- ends
@@ -132,8 +132,8 @@ set_gives b (Err Bad) found bad = by_case (set_of b) refl
 
 name_byte_sound : (n : ℕ) → is_name_byte n ≡ true → IsNameByte n
 name_byte_sound n e =
-    let all = both (nat_le 0x21 n && nat_le n 0x7e) (cond (list_any (nat_eq n) (codes "(){\"\\%*")) false true) e in
-    let bounds = both (nat_le 0x21 n) (nat_le n 0x7e) all.0 in
+    let all = and_parts (nat_le 0x21 n && nat_le n 0x7e) (cond (list_any (nat_eq n) (codes "(){\"\\%*")) false true) e in
+    let bounds = and_parts (nat_le 0x21 n) (nat_le n 0x7e) all.0 in
     record {
       printable = (leb-true 0x21 n bounds.0, leb-true n 0x7e bounds.1);
       plain = λ is. not_both (list_any (nat_eq n) (codes "(){\"\\%*")) (list_any_at (nat_eq n) (codes "(){\"\\%*") is.0 n is.1 (eq-eqb n _ (sym is.2))) all.1;
@@ -153,7 +153,7 @@ name_byte_complete n is = by_test (list_any (nat_eq n) (codes "(){\"\\%*")) refl
 
 all_sound : (p : ℕ → Bool) (P : ℕ → Type 0) → ((n : ℕ) → p n ≡ true → P n) → (xs : List ℕ) → list_all p xs ≡ true → All P xs
 all_sound p P each [] e = All-nil P
-all_sound p P each (x ∷ xs) e = let is = both (p x) (list_all p xs) e in All-cons P x xs (each x is.0) (all_sound p P each xs is.1)
+all_sound p P each (x ∷ xs) e = let is = and_parts (p x) (list_all p xs) e in All-cons P x xs (each x is.0) (all_sound p P each xs is.1)
 
 all_complete : (p : ℕ → Bool) (P : ℕ → Type 0) → ((n : ℕ) → P n → p n ≡ true) → (xs : List ℕ) → All P xs → list_all p xs ≡ true
 all_complete p P each [] all = refl
@@ -162,8 +162,8 @@ all_complete p P each (x ∷ xs) all = rw (each x (All-head P x xs all), all_com
 pub name_sound : (name : List ℕ) → is_name name ≡ true → IsName name
 unfolding is_name
 name_sound name e =
-    let all = both (nat_le 1 (length name) && nat_le (length name) 255) (list_all is_name_byte name) e in
-    let bounds = both (nat_le 1 (length name)) (nat_le (length name) 255) all.0 in
+    let all = and_parts (nat_le 1 (length name) && nat_le (length name) 255) (list_all is_name_byte name) e in
+    let bounds = and_parts (nat_le 1 (length name)) (nat_le (length name) 255) all.0 in
     record { size = (leb-true 1 (length name) bounds.0, leb-true (length name) 255 bounds.1); bytes = all_sound is_name_byte IsNameByte name_byte_sound name all.1 }
 
 pub name_complete : (name : List ℕ) → IsName name → is_name name ≡ true
@@ -197,7 +197,7 @@ flag_complete word (inr is) = by_bit (flag_bit word) refl
 
 flags_all : (words : List (List ℕ)) → list_all is_flag words ≡ true → All IsFlag words
 flags_all [] e = All-nil IsFlag
-flags_all (w ∷ ws) e = let is = both (is_flag w) (list_all is_flag ws) e in All-cons IsFlag w ws (flag_sound w is.0) (flags_all ws is.1)
+flags_all (w ∷ ws) e = let is = and_parts (is_flag w) (list_all is_flag ws) e in All-cons IsFlag w ws (flag_sound w is.0) (flags_all ws is.1)
 
 all_flags : (words : List (List ℕ)) → All IsFlag words → list_all is_flag words ≡ true
 all_flags [] all = refl

@@ -3,7 +3,7 @@ use Rattle.std.proofs.Common.{◌≡◌, inl, inr, ℕ, ◌^◌, ◌<◌, ◌≤
 use Rattle.std.specs.List.{AllZip, list_all}
 use Rattle.std.specs.Fmt.{decimal}
 use Rattle.std.specs.Str.{bytes_eq}
-use Rattle.std.proofs.lemmas.Bool.{le-leb, leb-true}
+use Rattle.std.proofs.lemmas.Bool.{le-leb, leb-true, and_parts}
 use Rattle.std.proofs.lemmas.Bool.Decides.{nat_tests}
 use Rattle.std.proofs.lemmas.List.Elements.{All-head, All-tail}
 use Rattle.std.proofs.lemmas.List.Folds.{list_all-append}
@@ -22,7 +22,6 @@ use Rattle.dv_model.specs.declared.types.Span.{Span}
 use Rattle.dv_model.specs.Names.{IsName, IsNameByte}
 use Rattle.dv_model.specs.Texts.{spaced}
 use Rattle.dv_formats.specs.Scripts.{AreFlags, AreKeys, AreSought, IsAppendStart, IsCommand, IsEnd, IsFieldName, IsFlag, IsItem, IsKey, IsModifier, IsSet, IsSpan, IsWord, flag_bit, how_text, is_field_byte, is_quotable, joined, uid_text}
-use Rattle.dv_commands.proofs.Base.{both}
 use Rattle.dv_commands.proofs.KeyWords.{flag_word}
 use Rattle.dv_commands.proofs.Words.{digits_are}
 
@@ -73,7 +72,7 @@ field_plain : (name : List ℕ) → IsFieldName name → plain name ≡ true
 field_plain name is = all_plain (λ n. is_field_byte n ≡ true) field_byte name is.bytes
 
 quotable : (b : ℕ) → is_quotable b ≡ true → 32 ≤ b
-quotable b is = leb-true 32 b (both (nat_le 0x20 b) (nat_le b 0x7e) (both (nat_le 0x20 b && nat_le b 0x7e) (cond (nat_eq b 0x22) false (cond (nat_eq b 0x5c) false true)) is).0).0
+quotable b is = leb-true 32 b (and_parts (nat_le 0x20 b) (nat_le b 0x7e) (and_parts (nat_le 0x20 b && nat_le b 0x7e) (cond (nat_eq b 0x22) false (cond (nat_eq b 0x5c) false true)) is).0).0
 
 -- ---- flags
 

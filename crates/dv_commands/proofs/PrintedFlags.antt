@@ -3,7 +3,7 @@ use Rattle.std.proofs.Common.{◌≡◌, inl, inr, ℕ, zero, suc, ◌<◌, Bool
 use Rattle.std.specs.Prelude.{bit_and, bit_or}
 use Rattle.std.specs.List.{list_all, list_any}
 use Rattle.std.specs.Str.{bytes_eq}
-use Rattle.std.proofs.lemmas.Bool.{eq-eqb, eqb-true, false≢true, ltb-true}
+use Rattle.std.proofs.lemmas.Bool.{eqb-true, ltb-true, and_parts, eqb-false}
 use Rattle.std.proofs.lemmas.List.Elements.{All-append, All-cons, All-head, All-nil, All-tail}
 use Rattle.dv_model.specs.Names.{IsName}
 use Rattle.dv_model.specs.Texts.{flag_when, flag_words}
@@ -20,22 +20,15 @@ abbrev below : ℕ → List ℕ
 below zero = []
 below (suc n) = n ∷ below n
 
-first_of : (t r : Bool) → (t && r) ≡ true → (t ≡ true) × (r ≡ true)
-first_of true r e = (refl, e)
-first_of false r e = absurd cc
-
-differs : (n m : ℕ) → nat_eq n m ≡ false → n ≡ m → ⊥
-differs n m other e = false≢true (sym other ∙ subst (λ k. nat_eq n k ≡ true) e (eq-eqb n n refl))
-
 at_below : (test : ℕ → Bool) (most n : ℕ) → list_all test (below most) ≡ true → n < most → test n ≡ true
 at_below test zero n all less = absurd (omega (arith, less))
 at_below test (suc most) n all less =
-    let is = first_of (test most) (list_all test (below most)) all in
+    let is = and_parts (test most) (list_all test (below most)) all in
     by_last is.0 (at_below test most n is.1) (nat_eq n most) refl
   where
     by_last : test most ≡ true → (n < most → test n ≡ true) → (t : Bool) → nat_eq n most ≡ t → test n ≡ true
     by_last last others true same = subst (λ k. test k ≡ true) (sym (eqb-true n most same)) last
-    by_last last others false other = others (omega (arith, less, differs n most other))
+    by_last last others false other = others (omega (arith, less, eqb-false n most other))
 
 abbrev named_alone : ℕ → Bool
 named_alone n = nat_eq (fold with_flag (0, []) (flag_words n)).0 n && nat_eq (length (fold with_flag (0, []) (flag_words n)).1) 0
@@ -57,7 +50,7 @@ stays bit n all less = ltb-true (bit_or n bit) 32 (at_below (joined_with bit) 32
 
 alone : (n : ℕ) → n < 32 → ◌≡◌ {A = State} (fold with_flag (0, []) (flag_words n)) (n, [])
 alone n less =
-    let is = first_of (nat_eq (fold with_flag (0, []) (flag_words n)).0 n) (nat_eq (length (fold with_flag (0, []) (flag_words n)).1) 0) (at_below named_alone 32 n all_named_alone less) in
+    let is = and_parts (nat_eq (fold with_flag (0, []) (flag_words n)).0 n) (nat_eq (length (fold with_flag (0, []) (flag_words n)).1) 0) (at_below named_alone 32 n all_named_alone less) in
     same (fold with_flag (0, []) (flag_words n)) (eqb-true (fold with_flag (0, []) (flag_words n)).0 n is.0) (eqb-true (length (fold with_flag (0, []) (flag_words n)).1) 0 is.1)
   where
     empty : (xs : List (List ℕ)) → length xs ≡ 0 → xs ≡ []

@@ -2,7 +2,7 @@
 use Rattle.std.proofs.Common.{◌≡◌, inl, inr, ℕ, zero, suc, ◌^◌, ◌<◌, ◌≤◌, Bool, true, false, not, List, [], ◌∷◌, ◌++◌, length, All, take, drop, Option, Some, None, codes, refl, sym, ◌∙◌, ap, subst, arith, nat_eq, append_assoc}
 use Rattle.std.specs.List.{AllZip, list_all, position_or_len}
 use Rattle.std.specs.Fmt.{decimal}
-use Rattle.std.proofs.lemmas.Bool.{le-leb, ne_eqb}
+use Rattle.std.proofs.lemmas.Bool.{le-leb, ne_eqb, and_parts}
 use Rattle.std.proofs.lemmas.Fmt.{decimal_is_IsNumeral}
 use Rattle.std.proofs.lemmas.List.{drop_at, length-append, get_or_default, take_at}
 use Rattle.std.proofs.lemmas.List.Elements.{All-head, All-tail}
@@ -17,7 +17,6 @@ use Rattle.dv_model.specs.Names.{IsName, IsNameByte}
 use Rattle.dv_model.specs.Texts.{spaced}
 use Rattle.dv_formats.specs.Scripts.{IsEnd, IsFieldName, IsItem, IsSet, IsSpan, is_field_byte, joined}
 use Rattle.dv_formats.specs.Parsing.{after, before, field_at, from, is_field_name, is_stop, item_at, plain_item, several}
-use Rattle.dv_commands.proofs.Base.{both}
 
 -- ---- up to what stops a word
 
@@ -34,7 +33,7 @@ pub place_again : (test : ℕ → Bool) (w rest : List ℕ) → goes_on test w �
 place_again test [] [] all stops = refl
 place_again test [] (b ∷ rest) all stops = rw stops refl
 place_again test (x ∷ w) rest all stops =
-    let is = both (not (test x)) (goes_on test w) all in
+    let is = and_parts (not (test x)) (goes_on test w) all in
     let others = place_again test w rest is.1 stops in
     rw is.0 (omega (arith, others))
 

@@ -4,7 +4,7 @@ use Rattle.std.specs.Prelude.{decimal}
 use Rattle.std.specs.List.{AllByRecursion, list_all, list_any}
 use Rattle.std.specs.Str.{bytes_eq}
 use Rattle.std.specs.Str.Lines.{strip_carriage_return}
-use Rattle.std.proofs.lemmas.Bool.{le-leb, le-ltb, leb-true, lt-ltb, ne_eqb}
+use Rattle.std.proofs.lemmas.Bool.{le-leb, le-ltb, leb-true, lt-ltb, ne_eqb, and_parts}
 use Rattle.std.proofs.lemmas.Bool.Decides.{nat_tests}
 use Rattle.std.proofs.lemmas.List.{append-nil, drop_at, length-append, take_at}
 use Rattle.std.proofs.lemmas.List.Concat.{flat_map-cons}
@@ -15,7 +15,6 @@ use Rattle.dv_formats.specs.Printing.{command_text, flags_text, line_text, scrip
 use Rattle.dv_formats.specs.Scripts.{AreFlags, IsCommand, IsSession, NamedLine, and_session, is_session_byte, line_limit, session_limit}
 use Rattle.dv_formats.specs.Parsing.{after, append_of, before, command_at, command_of, feeds_before, first_line, is_byte, is_session_name, is_skipped, line_at, lines_at, literal_at, parsed, session_at, with_session}
 use Rattle.dv_commands.proofs.AppendTexts.{append_again}
-use Rattle.dv_commands.proofs.Base.{both}
 use Rattle.dv_commands.proofs.CommandTexts.{command_again}
 use Rattle.dv_commands.proofs.Plain.{all_plain, and_plain, append_plain, command_plain, plain}
 use Rattle.dv_commands.proofs.PrintedCommands.{command_printed}
@@ -29,14 +28,14 @@ use Rattle.dv_script.proofs.Lines.{within}
 plain_open : (b : List ℕ) (byte : ℕ) → byte < 32 → plain b ≡ true → goes_on (is_byte byte) b ≡ true
 plain_open [] byte low is = refl
 plain_open (x ∷ b) byte low is =
-    let first = both (nat_le 32 x) (plain b) is in
+    let first = and_parts (nat_le 32 x) (plain b) is in
     let above : 32 ≤ x = leb-true 32 x first.0 in
     rw (ne_eqb x byte (λ e. omega (arith, above, low, e)), plain_open b byte low first.1) refl
 
 plain_at : (b : List ℕ) (k : ℕ) → plain b ≡ true → get_or b k 0 ≡ 13 → ⊥
 plain_at [] k is e = omega (arith, e)
-plain_at (x ∷ b) zero is e = omega (arith, leb-true 32 x (both (nat_le 32 x) (plain b) is).0, e)
-plain_at (x ∷ b) (suc k) is e = plain_at b k (both (nat_le 32 x) (plain b) is).1 e
+plain_at (x ∷ b) zero is e = omega (arith, leb-true 32 x (and_parts (nat_le 32 x) (plain b) is).0, e)
+plain_at (x ∷ b) (suc k) is e = plain_at b k (and_parts (nat_le 32 x) (plain b) is).1 e
 
 no_return : (b : List ℕ) → plain b ≡ true → strip_carriage_return b ≡ b
 no_return b is = rw (ne_eqb (get_or b (length b - 1) 0) 13 (plain_at b (length b - 1) is)) refl

@@ -169,8 +169,8 @@ fn put_store_start(
     set: &List<Span>,
     since: Option<u64>,
 ) -> Result<(), NoMemory>
-    ensures { OnOk result (text.new ≡ text.old
-        ++ (uid_text by_uid ++ codes "STORE " ++ set_text set.now ++ codes " " ++ modifier_text since)) }
+    ensures { OnOk result (text.new ≡ text.old ++ (uid_text by_uid
+        ++ codes "STORE " ++ set_text set.now ++ codes " " ++ modifier_text since)) }
 {
     put(text, uid_text(by_uid))?;
     put(text, b"STORE ")?;
