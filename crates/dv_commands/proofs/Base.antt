@@ -18,7 +18,6 @@ pub if_some : {A : Type 0} (t : Bool) (x y : A) → cond t (Some x) None ≡ Som
 if_some true x y e = (refl, cc)
 if_some false x y e = absurd cc
 
-
 -- ---- texts at the front and at the end
 
 pub after_is : (text b rest : List ℕ) → after text b ≡ Some rest → b ≡ text ++ rest
