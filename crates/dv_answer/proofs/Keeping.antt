@@ -2,7 +2,7 @@
 use Rattle.std.proofs.Common.{◌≡◌, ◌⊎◌, inl, inr, ℕ, ◌<◌, ◌≤◌, Bool, true, false, cond, not, ◌&&◌, ◌||◌, List, [], ◌∷◌, length, Some, None, Option, refl, sym, ◌∙◌, ap, subst, arith}
 use Rattle.std.specs.Prelude.{◌↔◌, All, Contains, IsSome, filter, is_some, map, nat_eq, option_and_then, option_map}
 use Rattle.std.specs.List.Sorted.{IsStrictlyIncreasing}
-use Rattle.std.proofs.lemmas.Bool.{and_cases, cases_lt}
+use Rattle.std.proofs.lemmas.Bool.{and_cases, cases_lt, eqb-true}
 use Rattle.std.proofs.lemmas.List.Elements.{All-contains, All-filter, All-nil, All-weaker}
 use Rattle.std.proofs.lemmas.List.Kept.{IsStrictlyIncreasing-filter}
 use Rattle.dv_model.specs.declared.types.Fresh.{Fresh}
@@ -23,7 +23,7 @@ use Rattle.dv_view.specs.Orders.{IsOrdered}
 use Rattle.dv_view.proofs.Finding.{any_is_found}
 use Rattle.dv_view.proofs.Followed.{find_shown}
 use Rattle.dv_view.proofs.Moving.{ordered_after}
-use Rattle.dv_view.proofs.Patching.{at_uid, same_is}
+use Rattle.dv_view.proofs.Patching.{at_uid}
 use Rattle.dv_answer.specs.Following.{Leads, Tracks, fresh_of, is_untold, untold}
 use Rattle.dv_answer.specs.Laws.{FullTellsAll, MoveTracks, RecordsLead, SelectTracks, StayLeads, TouchTracks}
 use Rattle.dv_answer.proofs.Tracking.{all_by_contains, each_row, is_in, is_in_same, moved_none, moved_some, not_in, row_found, row_passes, rows_by_uid, same_by, same_is_in, tracked_fresh, tracked_patched, untouched_same}
@@ -179,9 +179,9 @@ in_filter q u (v ∷ uids) = by_test (q v) refl (nat_eq v u) refl (in_filter q u
   where
     by_test : (c : Bool) → q v ≡ c → (b : Bool) → nat_eq v u ≡ b → is_in u (filter q uids) ≡ (is_in u uids && q u)
         → is_in u (cond c (v ∷ filter q uids) (filter q uids)) ≡ ((b || is_in u uids) && q u)
-    by_test true e true f rest = ap (λ b. b || is_in u (filter q uids)) f ∙ sym (ap q (sym (same_is v u f)) ∙ e)
+    by_test true e true f rest = ap (λ b. b || is_in u (filter q uids)) f ∙ sym (ap q (sym (eqb-true v u f)) ∙ e)
     by_test true e false f rest = ap (λ b. b || is_in u (filter q uids)) f ∙ rest
-    by_test false e true f rest = let fails : q u ≡ false = ap q (sym (same_is v u f)) ∙ e in rest ∙ ap (λ b. is_in u uids && b) fails ∙ and_false (is_in u uids) ∙ sym fails
+    by_test false e true f rest = let fails : q u ≡ false = ap q (sym (eqb-true v u f)) ∙ e in rest ∙ ap (λ b. is_in u uids && b) fails ∙ and_false (is_in u uids) ∙ sym fails
     by_test false e false f rest = rest
 
 moved_ordered : (step : Step) (m : Mailbox) (view : View) → IsOrdered view → IsValid m → view.next_uid ≤ m.next_uid → IsOrdered (moved step view m)

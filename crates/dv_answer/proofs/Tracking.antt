@@ -4,7 +4,7 @@ use Rattle.std.specs.Prelude.{All, Contains, IfSome, IsSome, bytes_eq, is_some, 
 use Rattle.std.specs.List.{AllByRecursion, list_any}
 use Rattle.std.specs.Option.{option_or}
 use Rattle.std.specs.List.Sorted.{IsStrictlyIncreasing}
-use Rattle.std.proofs.lemmas.Bool.{and_parts}
+use Rattle.std.proofs.lemmas.Bool.{and_parts, eqb-true, eq-eqb}
 use Rattle.std.proofs.lemmas.List.Elements.{All-contains_itself, All-weaker}
 use Rattle.std.proofs.lemmas.List.Folds.{list_any_at}
 use Rattle.std.proofs.lemmas.Slice.Eq.{bytes_eq-Decides}
@@ -23,7 +23,7 @@ use Rattle.dv_view.specs.Orders.{IsOrdered}
 use Rattle.dv_view.proofs.Finding.{any_is_found}
 use Rattle.dv_view.proofs.Followed.{find_each, find_shown, kept, moved_is_after, rise_of_ordered, some_at}
 use Rattle.dv_view.proofs.Moving.{all_of_each}
-use Rattle.dv_view.proofs.Patching.{Rises, at_uid, change_of, is_same, now, patched_above, patched_at, same_is, same_rows}
+use Rattle.dv_view.proofs.Patching.{Rises, at_uid, change_of, now, patched_above, patched_at, same_rows}
 use Rattle.dv_view.proofs.Placing.{rises_of, rises_told}
 use Rattle.dv_answer.specs.Following.{Tracks, fresh_of}
 
@@ -33,7 +33,7 @@ abbrev pub is_in : ℕ → List ℕ → Bool
 is_in u uids = list_any (λ v. nat_eq v u) uids
 
 pub is_in_same : (u : ℕ) (uids : List ℕ) → Contains uids u → is_in u uids ≡ true
-is_in_same u uids (k, less, at) = list_any_at (λ v. nat_eq v u) uids k u less (is_same (get_or uids k u) u at)
+is_in_same u uids (k, less, at) = list_any_at (λ v. nat_eq v u) uids k u less (eq-eqb (get_or uids k u) u at)
 
 contains_cons : (v u : ℕ) (uids : List ℕ) → (v ≡ u) ⊎ Contains uids u → Contains (v ∷ uids) u
 contains_cons v u uids (inl e) = (0, omega arith, e)
@@ -44,7 +44,7 @@ same_is_in u [] e = false_is_not_true e
 same_is_in u (v ∷ uids) e = contains_cons v u uids (by_test (nat_eq v u) refl e (same_is_in u uids))
   where
     by_test : (b : Bool) → nat_eq v u ≡ b → (b || is_in u uids) ≡ true → (is_in u uids ≡ true → Contains uids u) → (v ≡ u) ⊎ Contains uids u
-    by_test true t f rest = inl (same_is v u t)
+    by_test true t f rest = inl (eqb-true v u t)
     by_test false t f rest = inr (rest f)
 
 pub not_in : (u : ℕ) (uids : List ℕ) → (Contains uids u → ⊥) → is_in u uids ≡ false
@@ -68,10 +68,10 @@ alike_is a b e =
     let last = and_parts (nat_eq a.uid b.uid && nat_eq a.flags b.flags && bytes_eq a.keywords b.keywords) (nat_eq a.modseq b.modseq) e in
     let third = and_parts (nat_eq a.uid b.uid && nat_eq a.flags b.flags) (bytes_eq a.keywords b.keywords) last.0 in
     let second = and_parts (nat_eq a.uid b.uid) (nat_eq a.flags b.flags) third.0 in
-    let uid : a.uid ≡ b.uid = same_is a.uid b.uid second.0 in
-    let flags : a.flags ≡ b.flags = same_is a.flags b.flags second.1 in
+    let uid : a.uid ≡ b.uid = eqb-true a.uid b.uid second.0 in
+    let flags : a.flags ≡ b.flags = eqb-true a.flags b.flags second.1 in
     let keywords : a.keywords ≡ b.keywords = (bytes_eq-Decides a.keywords b.keywords).0 third.1 in
-    let modseq : a.modseq ≡ b.modseq = same_is a.modseq b.modseq last.1 in
+    let modseq : a.modseq ≡ b.modseq = eqb-true a.modseq b.modseq last.1 in
     ap (λ n. record { uid = n; flags = a.flags; keywords = a.keywords; modseq = a.modseq }) uid
     ∙ ap (λ n. record { uid = b.uid; flags = n; keywords = a.keywords; modseq = a.modseq }) flags
     ∙ ap (λ ns. record { uid = b.uid; flags = b.flags; keywords = ns; modseq = a.modseq }) keywords
@@ -79,7 +79,7 @@ alike_is a b e =
 
 alike_itself : (a : Shown) → alike a a ≡ true
 alike_itself a =
-    rw (is_same a.uid a.uid refl, is_same a.flags a.flags refl, (bytes_eq-Decides a.keywords a.keywords).1 refl, is_same a.modseq a.modseq refl) refl
+    rw (eq-eqb a.uid a.uid refl, eq-eqb a.flags a.flags refl, (bytes_eq-Decides a.keywords a.keywords).1 refl, eq-eqb a.modseq a.modseq refl) refl
 
 -- what doesn't differ is the same
 pub same_by : (o p : Option Shown) → (o ≢ p → ⊥) → o ≡ p
@@ -98,7 +98,7 @@ same_by (Some s) (Some t) never = ap Some (by_test (alike s t) refl)
 pub row_passes : (P : Row → Type 0) (m : Mailbox) (u : ℕ) (row : Row) → All P m.rows → row_of m u ≡ Some row → P row × (row.uid ≡ u)
 row_passes P m u row all e =
     let found = find_each P (λ (r : Row). nat_eq r.uid u) m.rows (each_of_all P m.rows all) (Some row) e in
-    (found.0, same_is row.uid u found.1)
+    (found.0, eqb-true row.uid u found.1)
 
 any_row : (m : Mailbox) → All (λ (row : Row). Unit {0}) m.rows
 any_row m k d less = tt
@@ -107,7 +107,7 @@ any_row m k d less = tt
 pub row_found : (m : Mailbox) (row : Row) → Contains m.rows row → is_some (row_of m row.uid) ≡ true
 row_found m row (k, less, at) =
     sym (any_is_found (λ (r : Row). nat_eq r.uid row.uid) m.rows)
-    ∙ list_any_at (λ (r : Row). nat_eq r.uid row.uid) m.rows k row less (is_same (get_or m.rows k row).uid row.uid (ap (λ (r : Row). r.uid) at))
+    ∙ list_any_at (λ (r : Row). nat_eq r.uid row.uid) m.rows k row less (eq-eqb (get_or m.rows k row).uid row.uid (ap (λ (r : Row). r.uid) at))
 
 pub each_row : (P : Row → Type 0) (m : Mailbox) → ((row : Row) → Contains m.rows row → P row) → All P m.rows
 each_row P m each = All-weaker (Contains m.rows) P each m.rows (All-contains_itself m.rows)
@@ -148,7 +148,7 @@ fresh_now m u before (v ∷ uids) = by_test (nat_eq v u) refl (fresh_now m u bef
   where
     by_test : (b : Bool) → nat_eq v u ≡ b → now (change_of u (fresh_of m uids)) before ≡ cond (is_in u uids) (shown_of m u) before
         → now (cond b (Some (fresh m v)) (change_of u (fresh_of m uids))) before ≡ cond (b || is_in u uids) (shown_of m u) before
-    by_test true e rest = ap (shown_of m) (same_is v u e)
+    by_test true e rest = ap (shown_of m) (eqb-true v u e)
     by_test false e rest = rest
 
 -- no row leaves by a Held step
@@ -162,7 +162,7 @@ held_now m u before (v ∷ uids) = by_test (nat_eq v u) refl (held_now m u befor
 
     by_test : (b : Bool) → nat_eq v u ≡ b → now (kept (change_of u (fresh_of m uids))) before ≡ cond (is_in u uids) (option_or (shown_of m u) before) before
         → now (kept (cond b (Some (fresh m v)) (change_of u (fresh_of m uids)))) before ≡ cond (b || is_in u uids) (option_or (shown_of m u) before) before
-    by_test true e rest = by_row (shown_of m v) refl ∙ ap (λ w. option_or (shown_of m w) before) (same_is v u e)
+    by_test true e rest = by_row (shown_of m v) refl ∙ ap (λ w. option_or (shown_of m w) before) (eqb-true v u e)
     by_test false e rest = rest
 
 module _ (m : Mailbox) (view : View) (uids : List ℕ) (ordered : IsOrdered view) (rising : IsStrictlyIncreasing uids) where
