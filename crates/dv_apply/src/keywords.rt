@@ -8,6 +8,7 @@ ghost use Rattle.dv_apply.specs.States.{Becomes, IsKept, kept_of};
 use crate::changes::higher;
 use crate::state::State;
 use dv_model::{How, NoMemory, Pair};
+use dv_overlaps::change_keywords;
 
 // Changes a keyword that the table has.
 fn change_known(
@@ -24,7 +25,7 @@ fn change_known(
     ensures err { OnErr result (state.new ≡ state.old) }
 {
     let modseq = higher(state.highest);
-    state.rows.change_keywords(pairs, how, place, modseq)?;
+    change_keywords(state.alloc, &mut state.rows, pairs, how, place, modseq)?;
     state.highest = modseq;
     Ok(())
 }
@@ -41,7 +42,7 @@ fn change_new(state: &mut State, how: How, name: &[u8], pairs: &[Pair]) -> Resul
     let modseq = higher(state.highest);
     let count = state.names.count();
     let place = state.names.add(name)?;
-    match state.rows.change_keywords(pairs, how, place, modseq) {
+    match change_keywords(state.alloc, &mut state.rows, pairs, how, place, modseq) {
         Ok(()) => {}
         Err(e) => {
             state.names.hide(count);
@@ -85,5 +86,5 @@ pub fn clear_keywords(state: &mut State, pairs: &[Pair])
     ensures { Becomes state.old (KeywordReset pairs.now) state.new }
 {
     state.highest = higher(state.highest);
-    state.rows.clear_keywords(pairs, state.highest);
+    dv_overlaps::clear_keywords(state.alloc, &mut state.rows, pairs, state.highest);
 }

@@ -13,6 +13,7 @@ ghost use Rattle.std.specs.Prelude.{Some};
 
 use dv_ext::{Extensions, RowUpdates};
 use dv_model::{Body, Current, NoMemory, Pair, Record};
+use dv_overlaps::{name_changed, name_pairs};
 use dv_rows::Rows;
 use std::alloc::Global;
 
@@ -68,6 +69,7 @@ fn name_updated(
 // Adds the UIDs of the rows that a record with this body may change, where this extension is
 // current before it, and it is known or not that introductions leave each row's parts.
 fn name_rows(
+    alloc: Global,
     rows: &Rows,
     current: Option<Current>,
     stay: bool,
@@ -79,11 +81,11 @@ fn name_rows(
     ensures adds { Adds rows.now.rows uids.old.items uids.new.items }
 {
     match body {
-        Body::Expunge(pairs) => rows.name_uids(pairs.as_slice(), uids),
+        Body::Expunge(pairs) => name_pairs(alloc, rows, pairs.as_slice(), uids),
         Body::ExpungeGuid(named) => rows.name_uids(named.as_slice(), uids),
-        Body::FlagUpdate(changes) => rows.name_uids(changes.as_slice(), uids),
-        Body::KeywordUpdate { pairs, .. } => rows.name_uids(pairs.as_slice(), uids),
-        Body::KeywordReset(pairs) => rows.name_uids(pairs.as_slice(), uids),
+        Body::FlagUpdate(changes) => name_changed(alloc, rows, changes.as_slice(), uids),
+        Body::KeywordUpdate { pairs, .. } => name_pairs(alloc, rows, pairs.as_slice(), uids),
+        Body::KeywordReset(pairs) => name_pairs(alloc, rows, pairs.as_slice(), uids),
         Body::ExtIntro(_) => {
             if stay {
                 return Ok(());
@@ -134,7 +136,7 @@ pub fn named_rows(
     for record in records {
         let current = extensions.current();
         let stay = move_on(&mut extensions, &record.body)?;
-        name_rows(rows, current, stay, &record.body, &mut uids)?;
+        name_rows(alloc, rows, current, stay, &record.body, &mut uids)?;
     }
     Ok(uids)
 }

@@ -8,4 +8,4 @@ use Rattle.dv_apply.proofs.changes.change_flags.Goals as goal
 pub returns : goal.returns
 returns c =
     let s = c.args.state.now in
-    rows_become s (FlagUpdate c.args.changes.now) _ c.change_flags.new.self c.higher-state.result c.requires tt (flags_changed (mailbox_of s) c.args.changes.now c.higher-state.result c.requires.valid c.higher-state.ensures) c.change_flags.ensures.rows c.higher-state.ensures refl (omega (arith, c.change_flags.ensures.room))
+    rows_become s (FlagUpdate c.args.changes.now) _ c.change_flags.new.rows c.higher-state.result c.requires tt (flags_changed (mailbox_of s) c.args.changes.now c.higher-state.result c.requires.valid c.higher-state.ensures) c.change_flags.ensures.rows c.higher-state.ensures refl (omega (arith, c.change_flags.ensures.room))

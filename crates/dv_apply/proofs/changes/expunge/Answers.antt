@@ -8,4 +8,4 @@ use Rattle.dv_apply.proofs.changes.expunge.Goals as goal
 pub returns : goal.returns
 returns c =
     let s = c.args.state.now in
-    rows_become s (Expunge c.args.pairs.now) _ c.expunge.new.self c.higher-state.result c.requires tt (expunged (mailbox_of s) c.args.pairs.now) c.expunge.ensures.rows c.higher-state.ensures refl (omega (arith, c.expunge.ensures.room))
+    rows_become s (Expunge c.args.pairs.now) _ c.expunge.new.rows c.higher-state.result c.requires tt (expunged (mailbox_of s) c.args.pairs.now) c.expunge.ensures.rows c.higher-state.ensures refl (omega (arith, c.expunge.ensures.room))

@@ -8,4 +8,4 @@ use Rattle.dv_apply.proofs.keywords.change_known.Goals as goal
 pub returns-clause-ok : goal.returns-clause-ok
 returns-clause-ok c =
     let s = c.args.state.now in
-    rows_become s (KeywordUpdate c.args.how c.args.name.now c.args.pairs.now) _ c.change_keywords.new.self c.higher-modseq.result c.requires.kept c.requires.name (known_changed (mailbox_of s) c.args.how c.args.name.now c.args.pairs.now c.args.place c.higher-modseq.result c.requires.kept.valid c.requires.known c.higher-modseq.ensures) c.in_ok-change_keywords.ensures.ok c.higher-modseq.ensures refl (omega (arith, c.change_keywords.ensures.room))
+    rows_become s (KeywordUpdate c.args.how c.args.name.now c.args.pairs.now) _ c.change_keywords.new.rows c.higher-modseq.result c.requires.kept c.requires.name (known_changed (mailbox_of s) c.args.how c.args.name.now c.args.pairs.now c.args.place c.higher-modseq.result c.requires.kept.valid c.requires.known c.higher-modseq.ensures) c.in_ok-change_keywords.ensures.ok c.higher-modseq.ensures refl (omega (arith, c.change_keywords.ensures.room))
