@@ -142,12 +142,16 @@ module _ (n : ℕ) (some : 1 ≤ n) (small : n < 2 ^ 32) where
       pub created_alone : (chain : Chain) → IsFirst n chain → HoldsAlone chain new
       created_alone chain is = first_alone new put_log chain is put_index put_log2
 
-pub created_rests : {S : Type 0} (files : S → Folder) (may_leave : S → Folder → Type 0) (now : S) (n : ℕ) (chain : Chain) → IsFirst n chain → HoldsAlone chain (files now) → Only (files now) (may_leave now) → Rests may_leave Nothing chain now
-created_rests files may_leave now n chain is alone only =
+pub first_bounds : (n : ℕ) (chain : Chain) → 1 ≤ n → IsFirst n chain → HasBounds chain
+first_bounds n chain some is =
     let end : chain.log.end ≡ 56 = ap (λ (l : LogFile). l.end) is.log in
     let count : chain.log.count ≡ 1 = ap (λ (l : LogFile). l.count) is.log in
+    record { end = omega (arith, end); count = omega (arith, end, count); named = omega (arith, some, is.indexid) }
+
+pub created_rests : {S : Type 0} (files : S → Folder) (may_leave : S → Folder → Type 0) (now : S) (n : ℕ) (chain : Chain) → 1 ≤ n → IsFirst n chain → HoldsAlone chain (files now) → Only (files now) (may_leave now) → Rests may_leave Nothing chain now
+created_rests files may_leave now n chain some is alone only =
     record {
-      bounds = record { end = omega (arith, end); count = omega (arith, end, count) };
+      bounds = first_bounds n chain some is;
       owes = ap (λ (l : LogFile). l.debt) is.log;
       each = λ c left. subst (HoldsAlone chain) (sym (only c left)) alone;
     }

@@ -31,6 +31,7 @@ reads_good b h end count taken measured =
         count = w.count_is;
         whole = record {
           header = taken.size.1;
+          named = taken.numbers.0;
           inside = w.inside;
           fits = w.fits;
           count = omega (arith, w.bound);

@@ -16,9 +16,10 @@ good_file file spots = record { header = file.header; spots = spots; end = file.
 abbrev pub HasHeader : File → Type 0
 HasHeader file = file.header.hdr_size ≤ length file.bytes
 
--- and so do the records, each of eight bytes at least
+-- and names an index; so do the records, each of eight bytes at least
 pub record IsWhole (file : File) : Type 0 where
   pub header : HasHeader file
+  pub named : 1 ≤ file.header.indexid
   pub inside : file.end ≤ length file.bytes
   pub fits : file.end ≤ last_end
   pub count : 8 * file.count ≤ file.end

@@ -58,10 +58,11 @@ pub record IsChainOf (folder : Folder) (chain : Chain) : Type 0 where
   pub indexid : chain.indexid ≡ file.header.indexid
   pub records : chain.records ≡ file.header.initial_modseq
 
--- four bytes more fit behind its end, and each record has eight at least
+-- four bytes more fit behind its end, each record has eight at least, and the index has a number
 pub record HasBounds (chain : Chain) : Type 0 where
   pub end : chain.log.end ≤ last_end
   pub count : 8 * chain.log.count ≤ chain.log.end
+  pub named : 1 ≤ chain.indexid
 
 -- the other folder opens to the same, and the files but the log are as they were
 pub record IsQuiet (old new : Folder) : Type 0 where

@@ -7,7 +7,7 @@ ghost use Rattle.dv_logfile.specs.Layout.{log_text, new_header};
 ghost use Rattle.dv_openings.specs.Openings.{IsFound};
 ghost use Rattle.dv_openings.specs.Rebuilds.{stamp_of};
 ghost use Rattle.dv_chain.specs.Creations.{HasNone, IsFirst, IsOldOrCreated, LeavesCreated, first_log};
-ghost use Rattle.dv_chain.specs.Openings.{HasCause, IsChainOf, IsOutside, found_of};
+ghost use Rattle.dv_chain.specs.Openings.{HasBounds, HasCause, IsChainOf, IsOutside, found_of};
 ghost use Rattle.dv_chain.specs.Rest.{Nothing, Rests};
 
 use crate::Chain;
@@ -83,8 +83,8 @@ fn first_chain(alloc: Global, indexid: u32) -> Chain
 /// errors. The folder has neither log nor rotated log nor index before, where clauses speak of what
 /// is found.
 pub fn create<S: Shelf>(alloc: Global, shelf: &mut S, now: u32) -> Result<Chain, OpenFault>
-    // What is answered is found, and the chain stands on the log.
-    ensures first { IfOk result (IsFirst (stamp_of now)) }
+    // What is answered is found, the chain stands on the log and is within its bounds.
+    ensures first { IfOk result (λ chain. IsFirst (stamp_of now) chain × HasBounds chain) }
     ensures found { S.tells → HasNone (S.files shelf.old) →
         IfOk result (λ chain. IsFound (S.files shelf.new) (found_of chain)) }
     ensures chain { S.tells → IfOk result (IsChainOf (S.files shelf.new)) }

@@ -73,7 +73,7 @@ module _ (chain next : Chain) (same : IsSame chain next) where
       ap-found c found = subst (λ (l : Held). IsFound (cut_at chain.log.end c) (Finds l.mailbox (record { file_seq = chain.log.file_seq; offset = chain.log.end }))) (sym same.live) found
 
   pub same_bounds : HasBounds chain → HasBounds next
-  same_bounds bounds = record { end = omega (arith, bounds.end, same.end); count = omega (arith, bounds.count, same.end, same.count) }
+  same_bounds bounds = record { end = omega (arith, bounds.end, same.end); count = omega (arith, bounds.count, same.end, same.count); named = omega (arith, bounds.named, same.indexid) }
 
   pub same_pending : (text : List ℕ) (after : Mailbox) → IsPending text after chain → IsPending text after next
   same_pending text after pending = record {
@@ -123,7 +123,7 @@ module _ {S : Type 0} (files : S → Folder) (may_leave : S → Folder → Type 
       → (next.log.count ≡ chain.log.count + length pending.records) × (8 * next.log.count ≤ next.log.end) → next.log.debt ≡ debt.None → next.indexid ≡ chain.indexid → next.records ≡ chain.records
       → Follows (λ d c. IsOpen d e text c) (may_leave old) (may_leave new) → Rests may_leave Nothing next new
   committed_rests next mailbox seq end count debt indexid records opened = record {
-    bounds = record { end = omega (arith, pending.room, end); count = count.1 };
+    bounds = record { end = omega (arith, pending.room, end); count = count.1; named = omega (arith, rest.bounds.named, indexid) };
     owes = debt;
     each = λ c left.
         let from = opened c left in

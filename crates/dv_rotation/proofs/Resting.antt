@@ -20,8 +20,8 @@ use Rattle.dv_rotation.proofs.Grounds.{alone_found}
 use Rattle.dv_rotation.proofs.Replacing.{puts_either}
 use Rattle.dv_rotation.proofs.Turned.{alone_before, alone_new, alone_put, found_new, opens_turning, rests_last}
 
-turned_bounds : (chain : Chain) → HasBounds (turned chain)
-turned_bounds chain = record { end = omega arith; count = omega arith }
+turned_bounds : (chain : Chain) → HasBounds chain → HasBounds (turned chain)
+turned_bounds chain bounds = record { end = omega arith; count = omega arith; named = bounds.named }
 
 module _ {S : Type 0} (files : S → Folder) (may_leave : S → Folder → Type 0) (moment : S → ℕ) (left_since : S → ℕ → Folder → Type 0) where
   -- a call that only looks
@@ -80,7 +80,7 @@ module _ {S : Type 0} (files : S → Folder) (may_leave : S → Folder → Type 
         rested : (r : Result T TurnEnd) → Advances chain next r → ((c : Folder) → may_leave new c → (d : Folder) × may_leave old d × Turns turn r d c) → RestsTurned may_leave turn next new r
         rested (Ok x) e crash =
             next_rests new (record {
-              bounds = turned_bounds chain;
+              bounds = turned_bounds chain rests.bounds;
               owes = rests.owes;
               each = λ c left.
                   let from = crash c left in
@@ -141,7 +141,7 @@ module _ {S : Type 0} (files : S → Folder) (may_leave : S → Folder → Type 
         rested : (r : Result T E) → Advances chain next r → ((c : Folder) → may_leave new c → (d : Folder) × may_leave old d × Puts name.Log turn.new r d c) → RestsFinished may_leave turn next new r
         rested (Ok x) e crash =
             next_rests new (record {
-              bounds = turned_bounds chain;
+              bounds = turned_bounds chain rests.bounds;
               owes = rests.owes;
               each = λ c left.
                   let from = crash c left in

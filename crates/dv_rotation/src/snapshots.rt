@@ -1,4 +1,5 @@
-ghost use Rattle.std.specs.Prelude.{◌≤◌, IfOk};
+ghost use Rattle.std.specs.Prelude.{IfOk};
+ghost use Rattle.dv_chain.specs.Openings.{HasBounds};
 ghost use Rattle.dv_rotation.specs.Texts.{IsSnapshotOf};
 
 use dv_chain::Chain;
@@ -9,7 +10,7 @@ use std::alloc::Global;
 /// The text of the snapshot of a chain's mailbox at the end of its log. `NoMemory` is the only
 /// error; that is the answer too where the keywords and extensions would pass 4294967295 bytes.
 pub fn snapshot(alloc: Global, chain: &Chain) -> Result<Bytes, NoMemory>
-    requires named { 1 ≤ chain.now.indexid }
+    requires { HasBounds chain.now }
     ensures text { IfOk result (IsSnapshotOf chain.now) }
 {
     let mailbox = chain.live.mailbox(alloc)?;

@@ -1,4 +1,5 @@
-ghost use Rattle.std.specs.Prelude.{◌≤◌, ◌<◌, IfOk};
+ghost use Rattle.std.specs.Prelude.{◌<◌, IfOk};
+ghost use Rattle.dv_chain.specs.Openings.{HasBounds};
 ghost use Rattle.dv_rotation.specs.Texts.{IsTurnOf};
 
 use crate::{ChainFault, Turn, TurnEnd, checkpoint, finish, rotate, snapshot, turn};
@@ -50,11 +51,11 @@ fn folder(alloc: Global, log: &[u8], fails: &[u32], stop: Option<u32>) -> Result
 
 // The chain of a folder that opens, whose log can be rotated.
 fn chain_of(alloc: Global, shelf: &mut MemShelf) -> Result<Chain, Fail>
-    ensures named { IfOk result (λ chain. 1 ≤ chain.indexid) }
+    ensures bounds { IfOk result HasBounds }
     ensures room { IfOk result (λ chain. chain.log.file_seq < 4294967295) }
 {
     let chain = open(alloc, shelf).ok().ok_or("a fault")?;
-    if chain.indexid == 0 || chain.log.file_seq == 4_294_967_295 {
+    if chain.log.file_seq == 4_294_967_295 {
         return Err(Fail::from("no such chain"));
     }
     Ok(chain)
@@ -70,7 +71,7 @@ fn has(alloc: Global, shelf: &mut MemShelf, name: Name, bytes: &[u8]) -> Result<
 
 // The texts of a rotation of the chain, made at 2000.
 fn texts_of(alloc: Global, chain: &Chain, shelf: &mut MemShelf) -> Result<Turn, Fail>
-    requires named { 1 ≤ chain.now.indexid }
+    requires bounds { HasBounds chain.now }
     requires room { chain.now.log.file_seq < 4294967295 }
     ensures { IfOk result (IsTurnOf chain.now) }
 {

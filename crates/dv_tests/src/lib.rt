@@ -4,4 +4,8 @@
 #[cfg(test)]
 mod copies;
 #[cfg(test)]
+mod keywords;
+#[cfg(test)]
 mod prepared;
+#[cfg(test)]
+mod servers;

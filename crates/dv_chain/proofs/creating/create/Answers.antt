@@ -3,10 +3,18 @@ use Rattle.dv_shelf.specs.Crashes.{LeavesOnly}
 use Rattle.dv_shelf.specs.Folders.{Folder, with_file}
 use Rattle.dv_shelf.specs.declared.shelf.Name.TheVariants.{Log}
 use Rattle.dv_openings.specs.Rebuilds.{stamp_of}
-use Rattle.dv_chain.specs.Creations.{first_log}
-use Rattle.dv_chain.proofs.Created.{created_alone, created_chain, created_found, created_rests}
+use Rattle.dv_chain.specs.Creations.{IsFirst, first_log}
+use Rattle.dv_chain.proofs.Created.{created_alone, created_chain, created_found, created_rests, first_bounds}
 use Rattle.dv_chain.proofs.Shelves.{replaced_settled, replaced_since}
 use Rattle.dv_chain.proofs.creating.create.Goals as goal
+
+pub returns-in-Ok-clause-first : goal.returns-in-Ok-clause-first
+returns-in-Ok-clause-first g c =
+    let chain = c.first_chain.result in
+    let is = c.first_chain.ensures in (
+      subst (λ (n : ℕ). IsFirst n chain) c.max-indexid.ensures is,
+      first_bounds c.max-indexid.result chain (omega (arith, c.max-indexid.ensures)) is,
+    )
 
 pub returns-in-Ok-clause-found : goal.returns-in-Ok-clause-found
 returns-in-Ok-clause-found g c = λ tells none.
@@ -43,7 +51,7 @@ returns-in-Ok-clause-rests g c = λ tells none settled.
     let done = c.in-Ok.ensures.ok tells in
     let put = done ∙ ap (λ (t : List ℕ). with_file (S.files c.args.shelf.now) Log (Some t)) text in
     let alone = created_alone n (omega (arith, c.max-indexid.ensures)) (omega (arith, c.max-indexid.ensures, c.ranges.now.fits)) (S.files c.args.shelf.now) (S.files c.replace.new.self) put none chain is in
-    created_rests S.files S.may_leave c.replace.new.self n chain is alone
+    created_rests S.files S.may_leave c.replace.new.self n chain (omega (arith, c.max-indexid.ensures)) is alone
     (replaced_settled S.files S.may_leave S.moment S.left_since c.args.shelf.now c.replace.new.self (Some c.as_slice.result.now) settled done (c.in-Ok.ensures.crash tells) (c.in-Ok.ensures.durable tells))
 
 pub returns-clause-since : goal.returns-clause-since

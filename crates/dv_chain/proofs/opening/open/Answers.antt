@@ -53,5 +53,5 @@ returns-clause-rests g c = λ tells settled.
     let put = opened_put (S.files old) (S.files c.find.new.shelf) (S.files c.mend.new.shelf) c.in_ok-log.log end.is looks.same (c.in_ok-mend.ensures.files tells there) in
     opened_rests S.files S.may_leave old c.mend.new.shelf _
     (chain_of (S.files old) c.in_ok-log.log end.is _ refl refl refl refl refl refl)
-    (record { end = c.in_ok-log.ensures.whole.fits; count = c.in_ok-log.ensures.whole.count })
+    (record { end = c.in_ok-log.ensures.whole.fits; count = c.in_ok-log.ensures.whole.count; named = c.in_ok-log.ensures.whole.named })
     end.found put (c.in_ok-mend.ensures.settled tells still)

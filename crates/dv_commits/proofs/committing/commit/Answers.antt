@@ -25,7 +25,7 @@ returns-clause-value g c =
       debt = value.debt;
       failed = tt;
       file = (value.file_seq, refl, refl);
-      bounds = λ bounds. record { end = omega (arith, end, ready.pending.room); count = (value.counted bounds.count ready.pending.records ready.pending.spelled).1 };
+      bounds = λ bounds. record { end = omega (arith, end, ready.pending.room); count = (value.counted bounds.count ready.pending.records ready.pending.spelled).1; named = bounds.named };
     }
 
 pub returns-clause-opens : goal.returns-clause-opens
