@@ -18,8 +18,8 @@ fn starts_number(b: &[u8]) -> bool
     }
 }
 
-// A number below 2^64 without leading zeros.
-fn read_decimal(b: &[u8]) -> Option<u64>
+/// The number below 2^64 of a text of decimal digits without leading zeros.
+pub fn read_decimal(b: &[u8]) -> Option<u64>
     ensures some { IfSome result (λ n. b.now ≡ decimal n) }
     ensures none { IfNone result ((n : ℕ) → n < 2 ^ 64 → b.now ≡ decimal n → ⊥) }
 {

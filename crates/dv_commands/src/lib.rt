@@ -10,4 +10,5 @@ mod text;
 
 pub use commands::{parse_append, parse_command};
 pub use law::{command_is_read, printed_command_is_read};
-pub use text::{behind, split_at_byte};
+pub use leaves::{is_field_name, read_decimal, read_number};
+pub use text::{behind, expect, split_at_byte, split_word};

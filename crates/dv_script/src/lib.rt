@@ -16,5 +16,5 @@ pub use law::printed_script_is_parsed;
 pub use pieces::decimal_text;
 pub use printing::print_script;
 pub use reply::{mark_text, replies_text, reply_text};
-pub use script::parse;
+pub use script::{parse, split_session};
 pub use types::{Line, ScriptEnd};

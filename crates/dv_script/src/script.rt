@@ -186,8 +186,8 @@ fn is_session_name(name: &[u8]) -> bool
     are_session_bytes(name)
 }
 
-// The session's name, and what stands behind its space.
-fn split_session(text: &[u8]) -> Option<(&[u8], &[u8])>
+/// The session's name that begins a line, and what stands behind its space.
+pub fn split_session(text: &[u8]) -> Option<(&[u8], &[u8])>
     ensures { MatchOption result (session_at text.now ≡ None)
         (λ x. session_at text.now ≡ Some (x.0.now, x.1.now)) }
 {

@@ -1,0 +1,9 @@
+pub mod Steps
+pub mod Loops
+pub mod Marks
+pub mod Flags
+pub mod Names
+pub mod Values
+pub mod Endings
+pub mod Replies
+pub mod Exact
