@@ -1,0 +1,4 @@
+pub mod Feeds
+pub mod Ends
+pub mod Rule
+pub mod Steps
