@@ -54,7 +54,7 @@ module _ (g : Generation) where
     small_room = h.small_room;
     feed = h.feed;
     small = h.small;
-    fits = each_set (λ j u. u.live ≡ true → Fits g h.seat h.put h.published h.sealed j u) views id w (λ j u apart e. h.fits j u e) own
+    fits = each_set (λ j u. u.live ≡ true → Fits g h.seat h.put h.published h.sealed j u) views id w (λ j u apart e. h.fits j u e) own;
   }
 
   published_fit : (words : List ℕ) (views : List SeatView) (h : IsKept g words views) → length h.published ≤ g.room
@@ -81,7 +81,7 @@ module _ (g : Generation) where
           feed = h.feed;
           last = λ b. let t = own.own.whole b in (t.0, sym t.1);
           generation = sym own.own.generation;
-          now = refl
+          now = refl;
         },
       )
 
@@ -116,7 +116,7 @@ module _ (g : Generation) where
           either = either_begins v.told.words v.own.words h.published own.told.words own.own.words;
           generation = own.told.generation ∙ sym own.own.generation;
           pen = λ p. (subst (λ l. IsPrefix v.told.words l) (sym (own.pen p).words) own.told.words, λ b. (own.pen p).seals ∙ (own.told.whole b).0);
-          now = refl
+          now = refl;
         },
       )
 
@@ -134,7 +134,7 @@ module _ (g : Generation) where
         whole = λ e. ⊎_elim
             (λ is. let t = p.whole is in (t.0, all a.words left t.1))
             (λ off'. let t = q.whole (sym (ap (λ x. x || b.sealed) off') ∙ e) in (t.0, all b.words right t.1))
-            (cases_Bool a.sealed)
+            (cases_Bool a.sealed);
       }
 
   pub learns : (slots id : ℕ) (me : Me ℕ SeatView) → me.0.pen ≡ false → me.0.live ≡ true → Allows H slots id me 0 (λ n. n) (Learned (step slots 0 0 0 none) me)
@@ -156,7 +156,7 @@ module _ (g : Generation) where
           generation = own.told.generation ∙ sym own.own.generation;
           room = omega (arith, ap (λ (x : Generation). x.room) own.own.generation, fits, short);
           feed = known.feed;
-          now = refl
+          now = refl;
         },
       )
 
@@ -170,7 +170,7 @@ module _ (g : Generation) where
   grows seat other put put' published published' sealed id v apart more still f = record {
     own = record { generation = f.own.generation; words = prefix_trans v.own.words published published' f.own.words more; feed = f.own.feed; whole = λ b. let t = f.own.whole b in (t.0, t.1 ∙ still t.0) };
     told = record { generation = f.told.generation; words = prefix_trans v.told.words published published' f.told.words more; feed = f.told.feed; whole = λ b. let t = f.told.whole b in (t.0, t.1 ∙ still t.0) };
-    pen = λ p. absurd (apart (f.pen p).place)
+    pen = λ p. absurd (apart (f.pen p).place);
   }
 
   pub puts : (slots id : ℕ) (me : Me ℕ SeatView) (i n : ℕ) → me.0.pen ≡ true → me.0.live ≡ true → i ≡ length me.0.put + 1 → i ≤ me.0.own.generation.room → n < 2 ^ 32 → Allows H slots id me i (λ _. n) (λ _. WordPut (step slots i n 0 none) me n)
@@ -202,7 +202,7 @@ module _ (g : Generation) where
           small = All-append IsU32 h.put (n ∷ []) h.small (All-cons IsU32 n [] small (All-nil IsU32));
           fits = each_set (λ j u. u.live ≡ true → Fits g h.seat now h.published h.sealed j u) s.views id w
               (λ j u apart e alive. grows h.seat id h.put now h.published h.published h.sealed j u (λ eq. apart (eq ∙ sym mine.place)) (prefix_self h.published) (λ _. refl) (h.fits j u e alive))
-              (λ _. record { own = own.own; told = own.told; pen = λ p. record { place = mine.place; puts = ap (λ l. l ++ n ∷ []) put; words = mine.words; seals = mine.seals } })
+              (λ _. record { own = own.own; told = own.told; pen = λ p. record { place = mine.place; puts = ap (λ l. l ++ n ∷ []) put; words = mine.words; seals = mine.seals } });
         },
         refl,
       )
@@ -239,7 +239,7 @@ module _ (g : Generation) where
           small = h.small;
           fits = each_set (λ j u. u.live ≡ true → Fits g h.seat h.put now h.sealed j u) s.views id w
               (λ j u apart e alive. grows h.seat id h.put h.put h.published now h.sealed j u (λ eq. apart (eq ∙ sym mine.place)) grown (λ b. absurd (off (sym seal ∙ b))) (h.fits j u e alive))
-              (λ _. record { own = known; told = known; pen = λ p. record { place = mine.place; puts = put; words = refl; seals = mine.seals } })
+              (λ _. record { own = known; told = known; pen = λ p. record { place = mine.place; puts = put; words = refl; seals = mine.seals } });
         },
         refl,
       )
@@ -271,7 +271,7 @@ module _ (g : Generation) where
           small = h.small;
           fits = each_set (λ j u. u.live ≡ true → Fits g h.seat h.put h.published true j u) s.views id w
               (λ j u apart e alive. let f = h.fits j u e alive in record { own = behind u.own f.own; told = behind u.told f.told; pen = λ p. absurd (apart ((f.pen p).place ∙ sym mine.place)) })
-              (λ _. record { own = known; told = known; pen = λ p. record { place = mine.place; puts = mine.puts; words = mine.words; seals = refl } })
+              (λ _. record { own = known; told = known; pen = λ p. record { place = mine.place; puts = mine.puts; words = mine.words; seals = refl } });
         },
         refl,
       )
@@ -291,7 +291,7 @@ module _ (g : Generation) where
     small_room = h.small_room;
     feed = h.feed;
     small = h.small;
-    fits = fits
+    fits = fits;
   }
 
   pub notes : (id : ℕ) (v : SeatView) → v.live ≡ true → Splits H id v v (note_of v)
@@ -300,9 +300,9 @@ module _ (g : Generation) where
       let P : ℕ → SeatView → Type 0 = (λ j u. u.live ≡ true → Fits g h.seat h.put h.published h.sealed j u) in
       with_views s.words s.views (set s.views id v ++ note_of v ∷ []) h
       (λ j u e. ⊎_elim
-          (λ was. h.fits j u (subst (λ l. get_elem? l j ≡ some u) (set_again s.views id v at) was))
-          (λ (same : note_of v ≡ u). subst (P j) same (λ _. record { own = own.own; told = own.own; pen = λ p. absurd (off p) }))
-          (at_snoc (set s.views id v) (note_of v) u j e))
+      (λ was. h.fits j u (subst (λ l. get_elem? l j ≡ some u) (set_again s.views id v at) was))
+      (λ (same : note_of v ≡ u). subst (P j) same (λ _. record { own = own.own; told = own.own; pen = λ p. absurd (off p) }))
+      (at_snoc (set s.views id v) (note_of v) u j e))
 
   pub joins : (id : ℕ) (v : SeatView) (other : ℕ) (u : SeatView) → v.live ≡ true → u.live ≡ true → Joins H id v other u (hearing v u) spent_view
   joins id v other u live alive s h at apart there =
@@ -312,8 +312,8 @@ module _ (g : Generation) where
       let theirs = ⊎_elim (λ (t : (other ≡ id) × (w ≡ u)). absurd (apart t.0)) (λ (t : (other ≢ id) × (get_elem? s.views other ≡ some u)). h.fits other u t.1 alive) (at_set s.views id other w u there) in
       with_views s.words s.views (set (set s.views id w) other spent_view) h
       (each_set P (set s.views id w) other spent_view
-          (λ j y _ e. each_set P s.views id w (λ i x _ e'. h.fits i x e') (λ _. record { own = own.own; told = theirs.own; pen = λ p. still v w (own.pen p) refl refl }) j y e)
-          (λ l. absurd (off l)))
+      (λ j y _ e. each_set P s.views id w (λ i x _ e'. h.fits i x e') (λ _. record { own = own.own; told = theirs.own; pen = λ p. still v w (own.pen p) refl refl }) j y e)
+      (λ l. absurd (off l)))
 
 pub begins : (g : Generation) (zeros : List ℕ) → length zeros ≡ g.room → g.room < 2 ^ 32 → IsKept g (0 ∷ zeros) (first_view g ∷ [])
 begins g zeros len small = record {
@@ -328,7 +328,7 @@ begins g zeros len small = record {
   small_room = small;
   feed = feed_nil;
   small = λ k d lt. absurd (omega (arith, lt));
-  fits = one
+  fits = one;
 }
   where
     known : IsTrueOf g [] false (nothing_of g)

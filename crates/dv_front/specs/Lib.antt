@@ -2,3 +2,6 @@ pub mod Feeds
 pub mod Ends
 pub mod Rule
 pub mod Steps
+pub mod Rolls
+pub mod RollRule
+pub mod RollSteps

@@ -50,14 +50,14 @@ impl Model for Pass {
     } };
 
     ghost invariant = { λ p.
-      ((arc_value p.table).shared.table_id ≡ p.seat.table_id)
-      × (p.seat.me.1 ≡ [])
-      × (p.seat.me.0.live ≡ true)
-      × (p.seat.me.0.pen ≡ false)
-      × (p.seat.me.0.told ≡ p.seat.me.0.own)
-      × (p.seat.me.0.own.generation.room + 1 ≡ p.seat.table_id.words)
-      × (length p.seat.me.0.own.words ≤ p.seat.me.0.own.generation.room)
-      × (p.taken ≤ length p.seat.me.0.own.words) };
+        ((arc_value p.table).shared.table_id ≡ p.seat.table_id)
+        × (p.seat.me.1 ≡ [])
+        × (p.seat.me.0.live ≡ true)
+        × (p.seat.me.0.pen ≡ false)
+        × (p.seat.me.0.told ≡ p.seat.me.0.own)
+        × (p.seat.me.0.own.generation.room + 1 ≡ p.seat.table_id.words)
+        × (length p.seat.me.0.own.words ≤ p.seat.me.0.own.generation.room)
+        × (p.taken ≤ length p.seat.me.0.own.words) };
 }
 
 /// Loads the number of published words, which is never less than the pass knew. The words that it

@@ -39,18 +39,18 @@ impl Model for Pen {
     } };
 
     ghost invariant = { λ p.
-      ((arc_value p.table).shared.table_id ≡ p.seat.table_id)
-      × (p.seat.me.1 ≡ [])
-      × (p.seat.me.0.live ≡ true)
-      × (p.seat.me.0.pen ≡ true)
-      × (p.seat.me.0.told ≡ p.seat.me.0.own)
-      × (p.seat.me.0.own.generation.room + 1 ≡ p.seat.table_id.words)
-      × (p.seat.me.0.own.generation.room < 2 ^ 32)
-      × (length p.seat.me.0.put ≤ p.seat.me.0.own.generation.room)
-      × (p.put ≡ length p.seat.me.0.put)
-      × (p.seat.me.0.own.words ≡ take p.published p.seat.me.0.put)
-      × (p.published ≤ p.put)
-      × IsFeed p.seat.me.0.own.words };
+        ((arc_value p.table).shared.table_id ≡ p.seat.table_id)
+        × (p.seat.me.1 ≡ [])
+        × (p.seat.me.0.live ≡ true)
+        × (p.seat.me.0.pen ≡ true)
+        × (p.seat.me.0.told ≡ p.seat.me.0.own)
+        × (p.seat.me.0.own.generation.room + 1 ≡ p.seat.table_id.words)
+        × (p.seat.me.0.own.generation.room < 2 ^ 32)
+        × (length p.seat.me.0.put ≤ p.seat.me.0.own.generation.room)
+        × (p.put ≡ length p.seat.me.0.put)
+        × (p.seat.me.0.own.words ≡ take p.published p.seat.me.0.put)
+        × (p.published ≤ p.put)
+        × IsFeed p.seat.me.0.own.words };
 }
 
 /// A new table for so many data words, of which none is published: its pen, and a pass. The
@@ -99,6 +99,13 @@ pub fn words_put(pen: &Pen) -> u32
     ensures feed { IsFeed pen.now.published }
 {
     pen.put
+}
+
+/// How many words can still be put.
+pub fn words_left(pen: &Pen) -> u32
+    ensures { result + length pen.now.put ≡ pen.now.generation.room }
+{
+    (pen.table.word_count() - 1) as u32 - pen.put
 }
 
 /// Puts a data word at the next place, counted from 1. No pass sees it before it is published.

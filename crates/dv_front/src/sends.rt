@@ -1,3 +1,4 @@
+use crate::listings::{Leaf, Roll};
 use crate::pass::{FrontWord, Pass};
 use crate::pen::Pen;
 
@@ -13,4 +14,12 @@ fn pass_is_send() {
 
 fn front_word_is_send() {
     is_send::<FrontWord>();
+}
+
+fn roll_is_send() {
+    is_send::<Roll>();
+}
+
+fn leaf_is_send() {
+    is_send::<Leaf>();
 }
