@@ -84,6 +84,13 @@ pub fn load_front(p: &mut Pass) -> FrontWord
     }
 }
 
+/// How many words the pass has taken, of those that it knows.
+pub fn words_taken(p: &Pass) -> u32
+    ensures { (result ≡ p.now.taken) × (result ≤ length p.now.known) }
+{
+    p.taken
+}
+
 /// Loads the word at a place, counted from 1. It is taken where it is the next.
 pub fn load_word(p: &mut Pass, at: u32) -> u32
     requires { (1 ≤ at) × (at ≤ length p.old.known) }

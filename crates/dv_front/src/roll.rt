@@ -85,8 +85,8 @@ pub fn leaf(r: &mut Roll) -> Result<Leaf, NoMemory>
     Ok(Leaf { table, seat })
 }
 
-#[tactic(auto, using(crate::proofs::Prefixes::prefix_both))]
 /// Makes the leaf's list the whole one, which begins with what the leaf had.
+#[tactic(auto, using(crate::proofs::Prefixes::prefix_both))]
 pub fn extend(r: &mut Roll, l: &mut Leaf)
     requires { l.old.table ≡ r.old.table }
     ensures leaf { l.new ≡ r.old }
@@ -102,9 +102,9 @@ pub fn extend(r: &mut Roll, l: &mut Leaf)
     r.table.shared.load::<ComparesItems>(&mut r.seat, 0);
 }
 
-#[tactic(auto, using(crate::proofs::Tables::one_table))]
 /// Of the lists of two leaves of one roll, one begins the other. So they name one table for one
 /// generation number.
+#[tactic(auto, using(crate::proofs::Tables::one_table))]
 pub fn agree_leaves(a: &mut Leaf, b: &mut Leaf)
     requires { b.old.table ≡ a.old.table }
     ensures either { IsPrefix a.old.items b.old.items ⊎ IsPrefix b.old.items a.old.items }
