@@ -1,0 +1,12 @@
+use Rattle.std.proofs.Common.{rules}
+use Rattle.dv_front.proofs.Steps.{notes, joins, compares}
+use Rattle.dv_front.proofs.pass.agree.Goals as goal
+
+pub split_seat-note-requires : goal.split_seat-note-requires
+split_seat-note-requires c = (search rules, search rules, notes _ _ _ (search rules))
+
+pub join_seat-requires : goal.join_seat-requires
+join_seat-requires c = (search rules, search rules, search rules, search rules, joins _ _ _ _ _ (search rules) (search rules))
+
+pub load-requires : goal.load-requires
+load-requires c = (search rules, search rules, compares _ _ _ _ (search rules))

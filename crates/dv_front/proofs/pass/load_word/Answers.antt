@@ -1,0 +1,6 @@
+use Rattle.std.proofs.Common.{rules}
+use Rattle.dv_front.proofs.Steps.{loads_word}
+use Rattle.dv_front.proofs.pass.load_word.Goals as goal
+
+pub load-word-requires : goal.load-word-requires
+load-word-requires c = (search rules, search rules, loads_word _ _ _ _ _ (search rules) (search rules) (search rules))

@@ -1,0 +1,7 @@
+pub mod Feeds
+pub mod Ends
+pub mod Rule
+pub mod Steps
+pub mod Rolls
+pub mod RollRule
+pub mod RollSteps
