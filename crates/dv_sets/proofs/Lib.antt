@@ -7,3 +7,4 @@ pub mod EndTexts
 pub mod Reading
 pub mod Words
 pub mod Reread
+pub mod Joins

@@ -12,7 +12,8 @@ use crate::intervals::{Interval, numbers_of};
 use dv_model::{End, List, NoMemory, Shown, Span};
 use std::alloc::Global;
 
-fn end_value(end: End, star: u32) -> u32
+/// The number that an end of a range is, where `*` is this one.
+pub fn end_value(end: End, star: u32) -> u32
     ensures { result ≡ end_value star end }
 {
     match end {

@@ -1,5 +1,4 @@
-use Rattle.std.proofs.Common.{◌≡◌, ◌∙◌, List, ℕ, Ok, sym, ap, length}
-use Rattle.dv_model.specs.declared.types.Shown.{Shown}
+use Rattle.std.proofs.Common.{◌∙◌, List, ℕ, Ok, sym, ap, length}
 use Rattle.dv_sets.proofs.choosing.numbers.Goals as goal
 
 pub returns-clause-named : goal.returns-clause-named
