@@ -134,8 +134,15 @@ def main():
           lambda n: (appends(n), [flags([(u * 40_503 % n + 1,) * 2 for u in range(wide)])]))
     table(program, "one keyword update of 65,536 equal ranges of one row, over so many rows", (100_000,),
           lambda n: (appends(n), [keywords(b"k1", [(5, 5)] * wide)]))
-    table(program, "one keyword update of so many ranges that each name all 10,000 rows", (16, 256),
-          lambda n: (appends(10_000), [keywords(b"k1", [(1, 10_000)] * n)]))
+    rows = 100_000
+    table(program, "one keyword update of so many ranges that each name all 100,000 rows", (256, wide),
+          lambda n: (appends(rows), [keywords(b"k1", [(1, rows)] * n)]))
+    table(program, "one flag update of so many ranges that each name all 100,000 rows", (256, wide),
+          lambda n: (appends(rows), [flags([(1, rows)] * n)]))
+    table(program, "one flag update of so many ranges, each inside the one before, over 200,000 rows", (256, wide),
+          lambda n: (appends(2 * rows), [flags([(k + 1, 2 * rows - k) for k in range(n)])]))
+    table(program, "the same with the touched UIDs handed out", (256, wide),
+          lambda n: (appends(2 * rows), [flags([(k + 1, 2 * rows - k) for k in range(n)])]), ("touched",))
     table(program, "n introductions that each grow an extension's header by a byte, over 100,000 rows", (100, 400),
           lambda n: (appends(100_000) + [intro(b"cache")], [intro(b"cache", size) for size in range(1, n + 1)]))
     table(program, "one flag update of 65,536 equal ranges of one row, over so many rows", (100_000,),
