@@ -358,7 +358,10 @@ fn created(alloc: Global, now: u32) -> Result<(Told, Bytes), Fail> {
     if chain.indexid != chain.live.uid_validity() {
         return Err(Fail::from("another number"));
     }
-    Ok((look_at(alloc, &chain, &mut shelf)?, log_of(alloc, &mut shelf)?))
+    Ok((
+        look_at(alloc, &chain, &mut shelf)?,
+        log_of(alloc, &mut shelf)?,
+    ))
 }
 
 #[test]

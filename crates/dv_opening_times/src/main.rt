@@ -4,10 +4,9 @@
 use dv_chain::open;
 use dv_folder::Folder;
 use dv_shelf::{Name, Shelf};
-use std::env;
-use std::io;
 use std::process::ExitCode;
 use std::time::Instant;
+use std::{env, io};
 
 const USAGE: &str = "usage: dv_opening_times FOLDER";
 
