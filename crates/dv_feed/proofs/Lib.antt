@@ -1,0 +1,5 @@
+pub mod Words
+pub mod Put
+pub mod TakenWords
+pub mod Decoding
+pub mod Grouping
