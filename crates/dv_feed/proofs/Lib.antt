@@ -3,3 +3,4 @@ pub mod Put
 pub mod TakenWords
 pub mod Decoding
 pub mod Grouping
+pub mod Instances

@@ -9,3 +9,6 @@ mod taking;
 pub use groups::groups_of;
 pub use publishing::publish_group;
 pub use taking::{Taken, take};
+
+#[cfg(test)]
+mod tests;
