@@ -18,7 +18,7 @@ use Rattle.dv_feeding.proofs.Words.{length-words_of, words_one}
 
 -- ---- the text of records is of whole words, and of one list of records
 
-texts_whole : (rs : List Record) → All IsRecord rs → length (flat_map written rs) % 4 ≡ 0
+pub texts_whole : (rs : List Record) → All IsRecord rs → length (flat_map written rs) % 4 ≡ 0
 texts_whole [] all = refl
 texts_whole (r ∷ rs) all =
     let first : length (written r) % 4 ≡ 0 = spelling_whole r (written r) (All-head IsRecord r rs all).spells in
@@ -41,7 +41,7 @@ records_one (r ∷ rs) (s ∷ ss) p q e =
 
 -- ---- a group
 
-bytes_at : (b : List ℕ) → AreBytes b → IsBytes b
+pub bytes_at : (b : List ℕ) → AreBytes b → IsBytes b
 bytes_at b all i =
     elim (cases_lt i (length b)) [
       | inl lt ↦ All-get_or (λ x. x < 256) b i 0 lt all

@@ -12,10 +12,10 @@ use Rattle.dv_feeding.specs.Laws.{IsSpelled}
 
 -- ---- an append of one message by author 1
 
-abbrev append : ℕ → Record
+abbrev pub append : ℕ → Record
 append uid = record { top = 1; body = Append (record { uid = uid; flags = 0 } ∷ []) }
 
-abbrev by_one : Record → Entry
+abbrev pub by_one : Record → Entry
 by_one r = record { author = 1; group = record { records = r ∷ [] } }
 
 append_words : entry_words (by_one (append 1)) ≡ 0x00000001 ∷ 0x00000004 ∷ 0x84808080 ∷ 0x10000002 ∷ 0x00000001 ∷ 0x00000000 ∷ []
@@ -24,16 +24,16 @@ append_words = refl
 append_is_record : IsRecord (append 1)
 append_is_record = record { spells = record { size = refl; below = omega arith; type = refl; payload = (record { size = refl; fields = refl; uid = (omega arith, omega arith) }, refl); top = omega arith } }
 
-abbrev append_text : List ℕ
+abbrev pub append_text : List ℕ
 append_text = 0x80 ∷ 0x80 ∷ 0x80 ∷ 0x84 ∷ 2 ∷ 0 ∷ 0 ∷ 0x10 ∷ 1 ∷ 0 ∷ 0 ∷ 0 ∷ 0 ∷ 0 ∷ 0 ∷ 0 ∷ []
 
-append_text_is : group_text (by_one (append 1)).group ≡ append_text
+pub append_text_is : group_text (by_one (append 1)).group ≡ append_text
 append_text_is = refl
 
 below : (b : ℕ) → nat_lt b 256 ≡ true → b < 256
 below b e = grind (arith, nat_tests)
 
-append_is_spelled : IsSpelled (by_one (append 1))
+pub append_is_spelled : IsSpelled (by_one (append 1))
 append_is_spelled = record {
   records = All-cons IsRecord (append 1) [] append_is_record (All-nil IsRecord);
   bytes = λ k d lt. below (get_or append_text k d) (AllPass-from_list_all (λ b. nat_lt b 256) append_text refl k d lt);

@@ -1,4 +1,4 @@
-ghost use Rattle.std.specs.Prelude.{◌≡◌, ◌+◌, ◌≤◌, false, length, take, IfOk};
+ghost use Rattle.std.specs.Prelude.{◌≡◌, ◌+◌, ◌^◌, ◌<◌, ◌≤◌, false, length, take, IfOk};
 ghost use mathlib.Core.List.{IsPrefix};
 ghost use Rattle.dv_front.specs.Ends.{generation, new_pass, new_pen, shown, with_published, with_seal, with_word};
 ghost use Rattle.dv_front.specs.Feeds.{IsFeed};
@@ -96,6 +96,7 @@ pub fn new_front(
 /// How many words the pen put. Those that it published are feed text.
 pub fn words_put(pen: &Pen) -> u32
     ensures put { (result ≡ length pen.now.put) × (result ≤ pen.now.generation.room) }
+    ensures small { pen.now.generation.room < 2 ^ 32 }
     ensures feed { IsFeed pen.now.published }
 {
     pen.put

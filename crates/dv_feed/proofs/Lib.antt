@@ -1,0 +1,6 @@
+pub mod Words
+pub mod Put
+pub mod TakenWords
+pub mod Decoding
+pub mod Grouping
+pub mod Instances
