@@ -1,5 +1,5 @@
 mod Closing
-mod Having
+pub mod Having
 mod Items
 mod Lines
 mod Naming

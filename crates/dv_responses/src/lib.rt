@@ -19,7 +19,7 @@ pub use data::data_lines;
 pub use endings::ending;
 pub use facts::facts_from;
 pub use kinds::{is_append, is_select, is_shallow, is_write, reads_mail, step_of, word_of};
-pub use looking::uids_looked_at;
+pub use looking::{named_uids, uids_looked_at};
 pub use meeting::{Met, meet};
 pub use selecting::select_lines;
 

@@ -10,7 +10,9 @@ use dv_search::needs_mail;
 use dv_view::View;
 use std::alloc::Global;
 
-fn named_uids(
+/// The UIDs of the view's rows that a set names, by rising number (RFC 3501, section 6.4.8).
+/// `NoMemory` is the only error. The time is that of the ranges, their sorting, and the rows.
+pub fn named_uids(
     alloc: Global,
     by_uid: bool,
     set: &List<Span>,
