@@ -2,13 +2,12 @@
 use Rattle.std.proofs.Common.{◌≡◌, ℕ, zero, suc, ◌≤◌, Bool, true, false, cond, List, [], ◌∷◌, ◌++◌, length, Option, Some, None, codes, refl, sym, ◌∙◌, ap, subst, arith, append_assoc}
 use Rattle.std.specs.List.{AllZip}
 use Rattle.std.specs.Str.{bytes_eq}
-use Rattle.std.proofs.lemmas.List.{append-nil}
 use Rattle.std.proofs.lemmas.Slice.Eq.{bytes_eq-Decides}
 use Rattle.dv_model.specs.declared.types.Item.{Item}
 use Rattle.dv_model.specs.declared.types.Item.TheVariants as item
 use Rattle.dv_model.specs.Texts.{spaced}
 use Rattle.dv_formats.specs.Scripts.{IsItem}
-use Rattle.dv_formats.specs.Parsing.{◌>>=◌, after, before, field_at, from, is_field_name, is_stop, item_at, plain_item, several, with_others}
+use Rattle.dv_formats.specs.Parsing.{after, before, field_at, from, is_field_name, is_stop, item_at, plain_item, several, with_others}
 use Rattle.dv_commands.proofs.Base.{after_is, bind_some, if_some, some_is}
 use Rattle.dv_replies.proofs.Names.{field_sound}
 use Rattle.dv_replies.proofs.Steps.{parted}
@@ -34,7 +33,7 @@ several_sound R read law zero b y e = absurd cc
 several_sound {A} R read law (suc most) b y e =
     let first = bind_some (read b) (λ first. with_others first (after (codes " ") first.1) (several read most)) y e in
     let is = law b first.0 first.1 in
-    by_space first.0 is (after (codes " ") first.0.1) refl first.2
+    by_space (several_sound R read law most) first.0 is (after (codes " ") first.0.1) refl first.2
   where
     joined : (x : A × List ℕ) (w rest : List ℕ) (others : List A × List ℕ) → R x.0 w → b ≡ w ++ x.1 → x.1 ≡ codes " " ++ rest → AreFronts R most rest others
         → AreFronts R (suc most) b (x.0 ∷ others.0, others.1)
@@ -52,12 +51,12 @@ several_sound {A} R read law (suc most) b y e =
           text = whole ∙ sym (append_assoc w (32 ∷ spaced (v ∷ vs)) o);
         }
 
-    by_space : (x : A × List ℕ) → IsFront R b x → (r : Option (List ℕ)) → after (codes " ") x.1 ≡ r → with_others x r (several read most) ≡ Some y → AreFronts R (suc most) b y
-    by_space x is None none f = subst (AreFronts R (suc most) b) (some_is (x.0 ∷ [], x.1) y f) (record { words = is.0 ∷ []; each = (is.1, tt); some = omega arith; few = omega arith; text = is.2 })
-    by_space x is (Some rest) space f =
+    by_space : ((b : List ℕ) (y : List A × List ℕ) → several read most b ≡ Some y → AreFronts R most b y) → (x : A × List ℕ) → IsFront R b x → (r : Option (List ℕ)) → after (codes " ") x.1 ≡ r → with_others x r (several read most) ≡ Some y → AreFronts R (suc most) b y
+    by_space again x is None none f = subst (AreFronts R (suc most) b) (some_is (x.0 ∷ [], x.1) y f) (record { words = is.0 ∷ []; each = (is.1, tt); some = omega arith; few = omega arith; text = is.2 })
+    by_space again x is (Some rest) space f =
         let others = bind_some (several read most rest) (λ others. Some (x.0 ∷ others.0, others.1)) y f in
         subst (AreFronts R (suc most) b) (some_is (x.0 ∷ others.0.0, others.0.1) y others.2)
-        (joined x is.0 rest others.0 is.1 is.2 (after_is (codes " ") x.1 rest space) (several_sound R read law most rest others.0 others.1))
+        (joined x is.0 rest others.0 is.1 is.2 (after_is (codes " ") x.1 rest space) (again rest others.0 others.1))
 
 -- ---- items
 
