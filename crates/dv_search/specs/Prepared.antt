@@ -1,5 +1,5 @@
 -- Search keys whose sets of UIDs were made ready, so that many messages are tried on them.
-use Rattle.std.specs.Prelude.{◌≡◌, ℕ, Bool, List, [], ◌∷◌, ◌++◌, All, flat_map}
+use Rattle.std.specs.Prelude.{◌≡◌, ℕ, List, [], ◌∷◌, ◌++◌, All, flat_map}
 use Rattle.dv_model.specs.declared.types.Key.{Key}
 use Rattle.dv_model.specs.declared.types.Key.TheOpen.{Key-F}
 use Rattle.dv_model.specs.declared.types.Key.TheFolds.{fold-Key}
