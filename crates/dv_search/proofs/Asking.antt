@@ -7,7 +7,8 @@ use Rattle.std.proofs.lemmas.List.Folds.{list_any_at}
 use Rattle.dv_model.specs.declared.types.Key.{Key, fold-roll-Key}
 use Rattle.dv_model.specs.declared.types.Key.TheOpen.{Key-F}
 use Rattle.dv_model.specs.declared.types.Key.TheVariants as key
-use Rattle.dv_model.specs.declared.types.Key.TheVariants.{rolls-Header, rolls-Not, rolls-Or, rolls-And}
+use Rattle.dv_model.specs.declared.types.Key.TheVariants.{rolls-Uid, rolls-Header, rolls-Not, rolls-Or, rolls-And}
+use Rattle.dv_model.specs.declared.types.Span.{Span}
 use Rattle.dv_model.specs.Searches.{needs_mail}
 use Rattle.dv_model.proofs.Searching.{needs_mail-Not, needs_mail-Or, needs_mail-And}
 use Rattle.dv_search.specs.declared.facts.MailFacts.{MailFacts}
@@ -29,13 +30,16 @@ one_of p xs i d less passes = any_of_made (λ b. b) p xs ∙ list_any_at p xs i 
 pub asks-Header : (asked text name : List ℕ) → asks (key.Header asked text) name ≡ bytes_eq asked name
 asks-Header asked text name = ap (λ (k : Key). asks k name) (sym (rolls-Header asked text)) ∙ ap (λ (f : List ℕ → Bool). f name) (fold-roll-Key (List ℕ → Bool) asks_step (Key-F.Header asked text))
 
-asks-Not : (inside : Key) (name : List ℕ) → asks (key.Not inside) name ≡ asks inside name
+pub asks-Uid : (set : List Span) (name : List ℕ) → asks (key.Uid set) name ≡ false
+asks-Uid set name = ap (λ (k : Key). asks k name) (sym (rolls-Uid set)) ∙ ap (λ (f : List ℕ → Bool). f name) (fold-roll-Key (List ℕ → Bool) asks_step (Key-F.Uid set))
+
+pub asks-Not : (inside : Key) (name : List ℕ) → asks (key.Not inside) name ≡ asks inside name
 asks-Not inside name = ap (λ (k : Key). asks k name) (sym (rolls-Not inside)) ∙ ap (λ (f : List ℕ → Bool). f name) (fold-roll-Key (List ℕ → Bool) asks_step (Key-F.Not inside))
 
-asks-Or : (one other : Key) (name : List ℕ) → asks (key.Or one other) name ≡ (asks one name || asks other name)
+pub asks-Or : (one other : Key) (name : List ℕ) → asks (key.Or one other) name ≡ (asks one name || asks other name)
 asks-Or one other name = ap (λ (k : Key). asks k name) (sym (rolls-Or one other)) ∙ ap (λ (f : List ℕ → Bool). f name) (fold-roll-Key (List ℕ → Bool) asks_step (Key-F.Or one other))
 
-asks-And : (keys : List Key) (name : List ℕ) → asks (key.And keys) name ≡ list_any (λ asks. asks name) (map asks keys)
+pub asks-And : (keys : List Key) (name : List ℕ) → asks (key.And keys) name ≡ list_any (λ asks. asks name) (map asks keys)
 asks-And keys name = ap (λ (k : Key). asks k name) (sym (rolls-And keys)) ∙ ap (λ (f : List ℕ → Bool). f name) (fold-roll-Key (List ℕ → Bool) asks_step (Key-F.And keys))
 
 -- a key that asks no more
@@ -47,7 +51,7 @@ facts_less outside inside more None (Some facts) are = absurd are
 facts_less outside inside more (Some message) None are = absurd are
 
 module _ (message : Option (List ℕ)) (facts : Option MailFacts) where
-  known_less : (outside inside : Key) → (needs_mail inside ≡ true → needs_mail outside ≡ true) → ((name : List ℕ) → asks inside name ≡ true → asks outside name ≡ true)
+  pub known_less : (outside inside : Key) → (needs_mail inside ≡ true → needs_mail outside ≡ true) → ((name : List ℕ) → asks inside name ≡ true → asks outside name ≡ true)
       → AreKnown outside message facts → AreKnown inside message facts
   known_less outside inside reads more known = λ needed. facts_less outside inside more message facts (known (reads needed))
 

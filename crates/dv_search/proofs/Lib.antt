@@ -3,4 +3,5 @@ pub mod Depths
 pub mod Found
 pub mod Looking
 pub mod Meeting
+pub mod Ready
 pub mod Texts

@@ -9,8 +9,10 @@ use Rattle.dv_model.specs.declared.memory.NoMemory.{NoMemory}
 use Rattle.dv_model.specs.declared.types.Key.{Key}
 use Rattle.dv_model.specs.declared.types.Key.TheVariants as key
 use Rattle.dv_model.specs.Searches.{contains_text, meets, needs_mail, value_contains}
+use Rattle.dv_model.specs.declared.types.Span.{Span}
 use Rattle.dv_model.specs.Fields.{field_of}
-use Rattle.dv_model.proofs.Searching.{meets-Not, meets-Or, meets-And, meets-Keyword, meets-Larger, meets-Header, needs_mail-Larger, needs_mail-Header}
+use Rattle.dv_model.specs.Sets.{is_in_set}
+use Rattle.dv_model.proofs.Searching.{meets-Not, meets-Or, meets-And, meets-Keyword, meets-Uid, meets-Larger, meets-Header, needs_mail-Larger, needs_mail-Header}
 use Rattle.dv_search.specs.declared.facts.MailFacts.{MailFacts}
 use Rattle.dv_search.specs.declared.keys.Candidate.{Candidate as Tried}
 use Rattle.dv_search.specs.Facts.{AreFacts, AreKnown, Describes, candidate_of, has_name, known_field}
@@ -39,6 +41,11 @@ module _ (facts : Option MailFacts) (c : Tried) where
 
   pub met-Keyword : (name : List ℕ) (b : Bool) → b ≡ list_any (has_name c.names.now name) c.shown.now.keywords → Answers facts c (key.Keyword name) b
   met-Keyword name b is message known = is ∙ sym (any_of_made (bytes_eq name) (λ k. unwrap_or (slice_get c.names.now k) []) c.shown.now.keywords) ∙ sym (meets-Keyword (candidate_of c message) name)
+
+  -- ---- sets of UIDs
+
+  pub met-Uid : (set : List Span) (b : Bool) → b ≡ is_in_set 0 set c.shown.now.uid → Answers facts c (key.Uid set) b
+  met-Uid set b is message known = is ∙ sym (meets-Uid (candidate_of c message) set)
 
   -- ---- several keys
 

@@ -82,12 +82,12 @@ has_name names name place = bytes_eq name (unwrap_or (slice_get names place) [])
 abbrev pub found_rows : (ℕ → Option (List ℕ)) → Key → View → Mailbox → List (ℕ × Shown)
 found_rows message key view m = filter (λ row. is_found key (candidate view m row.1) (message row.1.uid)) (numbered view)
 
--- a row as the search has it at hand, with a message
+-- a row as the search has it at hand, with a message; it is tried on keys in which no `*` stands
 abbrev pub candidate_of : Tried → List ℕ → Candidate
 candidate_of c message = record {
   uid = c.shown.now.uid;
   flags = c.shown.now.flags;
   keywords = names_at c.names.now c.shown.now.keywords;
-  largest_uid = c.largest_uid;
+  largest_uid = 0;
   message = message;
 }

@@ -1,3 +1,4 @@
 pub mod Facts
 pub mod Laws
 pub mod Nesting
+pub mod Prepared

@@ -1,14 +1,15 @@
-ghost use Rattle.std.specs.Prelude.{◌≡◌, [], ℕ, List, Option, Some, bytes_eq, map, slice_get, unwrap_or, IfOk};
+ghost use Rattle.std.specs.Prelude.{◌≡◌, [], ℕ, All, List, Option, Some, bytes_eq, map, slice_get, unwrap_or, IfOk};
 ghost use Rattle.std.specs.List.{list_all, list_any};
 ghost use Rattle.std.specs.Option.{option_copied};
 ghost use Rattle.dv_model.specs.declared.types.Key.TheVariants as key;
 ghost use Rattle.dv_model.specs.Searches.{meets, needs_mail};
 ghost use Rattle.dv_search.specs.Facts.{AreKnown, candidate_of, has_name, is_found};
+ghost use Rattle.dv_search.specs.Prepared.{HasApart};
 
 use crate::facts::{MailFacts, value_of};
 use crate::text::contains;
 use dv_model::{Bytes, Items, Key, NoMemory, Shown};
-use dv_sets::is_in_set;
+use dv_sets::is_in_joined;
 use std::alloc::Global;
 
 /// A message as search keys are tried on it.
@@ -18,8 +19,6 @@ pub struct Candidate<'a> {
     pub shown: &'a Shown,
     /// The mailbox's keyword table.
     pub names: &'a [Bytes],
-    /// The view's largest UID.
-    pub largest_uid: u32,
     /// What is known of the message, where keys that read it are tried.
     pub facts: Option<&'a MailFacts>,
 }
@@ -73,10 +72,11 @@ fn has_field(alloc: Global, c: &Candidate, name: &Bytes, text: &Bytes) -> Result
     }
 }
 
-/// Whether the message meets the key. `NoMemory` is the only error.
+/// Whether the message meets the key, where the key's sets are ready. `NoMemory` is the only error.
 #[cycle(meets)]
 pub fn meets(alloc: Global, k: &Key, c: &Candidate) -> Result<bool, NoMemory>
-    ensures { (message : List ℕ) → AreKnown k.now (Some message) (option_copied c.now.facts)
+    ensures { HasApart k.now → (message : List ℕ)
+        → AreKnown k.now (Some message) (option_copied c.now.facts)
         → IfOk result (λ met. met ≡ meets k.now (candidate_of c.now message)) }
 {
     match k {
@@ -88,7 +88,7 @@ pub fn meets(alloc: Global, k: &Key, c: &Candidate) -> Result<bool, NoMemory>
             c.shown.keywords.as_slice(),
             name.as_slice(),
         )),
-        Key::Uid(set) => Ok(is_in_set(set.as_slice(), c.largest_uid, c.shown.uid)),
+        Key::Uid(set) => Ok(is_in_joined(set.as_slice(), c.shown.uid)),
         Key::Larger(size) => Ok(is_larger(c, *size)),
         Key::Header { name, text } => has_field(alloc, c, name, text),
         Key::Not(inside) => Ok(!meets(alloc, inside.get(), c)?),
@@ -99,7 +99,7 @@ pub fn meets(alloc: Global, k: &Key, c: &Candidate) -> Result<bool, NoMemory>
 
 #[cycle(meets)]
 fn meets_all(alloc: Global, keys: &Items<Key>, c: &Candidate) -> Result<bool, NoMemory>
-    ensures { (message : List ℕ)
+    ensures { All HasApart keys.now → (message : List ℕ)
         → AreKnown (key.And keys.now) (Some message) (option_copied c.now.facts)
         → IfOk result (λ met. met
         ≡ list_all (λ met. met (candidate_of c.now message)) (map meets keys.now)) }
@@ -114,7 +114,8 @@ fn meets_all(alloc: Global, keys: &Items<Key>, c: &Candidate) -> Result<bool, No
 
 /// Whether the row is found; where the key needs mail, `reads`, one without facts isn't.
 pub fn is_found(alloc: Global, k: &Key, c: &Candidate, reads: bool) -> Result<bool, NoMemory>
-    requires { reads ≡ needs_mail k.now }
+    requires apart { HasApart k.now }
+    requires reads { reads ≡ needs_mail k.now }
     ensures { (message : Option (List ℕ)) → AreKnown k.now message (option_copied c.now.facts)
         → IfOk result (λ found. found ≡ is_found k.now (candidate_of c.now) message) }
 {

@@ -7,6 +7,7 @@ mod known;
 mod law;
 mod levels;
 mod mail;
+mod prepared;
 mod search;
 mod text;
 

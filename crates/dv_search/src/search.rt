@@ -1,20 +1,61 @@
 ghost use Rattle.std.specs.Prelude.{◌≡◌, ◌≤◌, ℕ, List, Option, map, IfOk};
+ghost use Rattle.dv_model.specs.declared.types.Key.{Key as Searched};
+ghost use Rattle.dv_model.specs.Searches.{needs_mail};
+ghost use Rattle.dv_model.specs.Sets.{largest_uid};
 ghost use Rattle.dv_search.specs.Facts.{AreAllKnown, found_rows};
 ghost use Rattle.dv_search.specs.Nesting.{levels_of, most_levels};
+ghost use Rattle.dv_search.specs.Prepared.{HasApart, IsPrepared};
 
 use crate::keys::{Candidate, is_found};
 use crate::known::Mail;
 use crate::mail::needs_mail;
+use crate::prepared::prepared;
 use dv_apply::Live;
 use dv_model::{Key, List, NoMemory};
 use dv_sets::largest_uid;
 use dv_view::View;
 use std::alloc::Global;
 
+// The numbers of the view's rows that meet a key whose sets are ready.
+fn eval_prepared(
+    alloc: Global,
+    key: &Key,
+    reads: bool,
+    v: &View,
+    live: &Live,
+    mail: &Mail,
+) -> Result<List<u32>, NoMemory>
+    requires apart { HasApart key.now }
+    requires reads { reads ≡ needs_mail key.now }
+    // So it is for each key that was made ready so.
+    ensures { (k : Searched) → IsPrepared (largest_uid v.now) k key.now
+        → (message : ℕ → Option (List ℕ)) → AreAllKnown k message mail.now v.now.rows
+        → IfOk result (λ numbers. numbers
+        ≡ map (λ row. row.0) (found_rows message k v.now live.now.mailbox)) }
+{
+    let names = live.names().names();
+    let mut numbers = List::new(alloc);
+    let mut number = 0;
+    for shown in v.rows().as_slice() {
+        number += 1;
+        let facts = mail.of(shown.uid);
+        let c = Candidate {
+            shown,
+            names,
+            facts,
+        };
+        if is_found(alloc, key, &c, reads)? {
+            numbers.push(number)?;
+        }
+    }
+    Ok(numbers)
+}
+
 /// The numbers of the view's rows that meet the key, in rising order (RFC 3501, section 6.4.4).
 /// Flags and keywords are as the view shows them, and names are those of the mailbox's table.
 /// Where the key needs mail, a row without facts isn't found. `NoMemory` is the only error. The
-/// time is in proportion to the rows times the key, with its ranges and the values of its fields.
+/// time is that of sorting the key's ranges, and in proportion to the rows times the key, with the
+/// values of its fields; each range of UIDs is found by halves.
 pub fn eval(
     alloc: Global,
     k: &Key,
@@ -30,23 +71,6 @@ pub fn eval(
         ≡ map (λ row. row.0) (found_rows message k.now v.now live.now.mailbox)) }
 {
     let reads = needs_mail(k);
-    let rows = v.rows().as_slice();
-    let largest_uid = largest_uid(rows);
-    let names = live.names().names();
-    let mut numbers = List::new(alloc);
-    let mut number = 0;
-    for shown in rows {
-        number += 1;
-        let facts = mail.of(shown.uid);
-        let c = Candidate {
-            shown,
-            names,
-            largest_uid,
-            facts,
-        };
-        if is_found(alloc, k, &c, reads)? {
-            numbers.push(number)?;
-        }
-    }
-    Ok(numbers)
+    let key = prepared(alloc, k, largest_uid(v.rows().as_slice()))?;
+    eval_prepared(alloc, &key, reads, v, live, mail)
 }

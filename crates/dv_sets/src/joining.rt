@@ -86,10 +86,9 @@ fn high_of(span: &Span) -> u32
     end_value(span.to, 0)
 }
 
-/// Whether a set by ranges that rise and are apart has a number, found by halves.
+/// Whether a set has a number, found by halves, where its ranges rise and are apart.
 pub fn is_in_joined(set: &[Span], n: u32) -> bool
-    requires { AreApart set.now }
-    ensures { (star : ℕ) → result ≡ is_in_set star set.now n }
+    ensures { AreApart set.now → (star : ℕ) → result ≡ is_in_set star set.now n }
 {
     let at = set.partition_point(|span| high_of(span) < n);
     if at >= set.len() {

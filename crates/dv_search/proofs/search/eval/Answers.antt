@@ -1,49 +1,16 @@
-use Rattle.std.proofs.Common.{◌≡◌, ◌<◌, ◌+◌, ◌^◌, ◌++◌, ◌∷◌, [], ◌∙◌, length, take, ap, sym, rules}
-use Rattle.std.specs.Option.{option_copied}
-use Rattle.std.specs.Prelude.{fold, max}
-use Rattle.std.proofs.lemmas.List.{take_all}
+use Rattle.std.proofs.Common.{◌≡◌, ◌∙◌, ap, fold, max, subst, sym}
+use Rattle.dv_model.specs.declared.types.Shown.{Shown}
 use Rattle.dv_model.specs.Sets.{largest_uid}
-use Rattle.dv_sets.proofs.Chosen.{chosen, chosen_in, chosen_out}
-use Rattle.dv_search.specs.Facts.{facts_of}
-use Rattle.dv_search.proofs.Found.{few_rows, finds, step}
+use Rattle.dv_search.specs.Prepared.{IsPrepared}
 use Rattle.dv_search.proofs.search.eval.Goals as goal
-use Rattle.dv_search.proofs.search.eval.Goals.{then-branch+in_ok-push, else-branch}
 
-pub overflow_add-number : goal.overflow_add-number
-overflow_add-number c =
-    let few : length c.args.v.now.rows < 2 ^ 32 = few_rows c.args.v.now c.rows.ensures.ordered in
-    let same : length c.as_slice-rows.result.now ≡ length c.args.v.now.rows = ap length (c.as_slice-rows.ensures ∙ c.rows.ensures.is) in
-    let here : c.loop-shown.number ≡ c.loop-shown.shown-index = c.loop-shown.invariant.counted in
-    search rules
+pub eval_prepared-requires-clause-apart : goal.eval_prepared-requires-clause-apart
+eval_prepared-requires-clause-apart c = c.in_ok-key.ensures.apart
 
-pub loop-shown-preserved : goal.loop-shown-preserved
-loop-shown-preserved c =
-    let k = c.args.k.now in
-    let view = c.args.v.now in
-    let m = c.args.live.now.mailbox in
-    let mail = c.args.mail.now in
-    let rows = c.as_slice-rows.result.now in
-    let i = c.loop-shown.shown-index in
-    let shown = c.shown-item.result in
-    let all = c.as_slice-rows.ensures ∙ c.rows.ensures.is in
-    let names = c.names-names.ensures.is ∙ c.names.ensures in
-    let largest : c.largest_uid-largest_uid.result ≡ largest_uid view = c.largest_uid-largest_uid.ensures ∙ ap (fold (λ n s. max n s.uid) 0) all in
-    let facts : option_copied c.of-facts.result ≡ facts_of mail shown.uid = c.of-facts.ensures in
-    let test = step k view m mail rows i shown c.names-names.result.now c.largest_uid-largest_uid.result c.in_ok-is_found.field-0 (option_copied c.of-facts.result) all c.loop-shown-test.true c.shown-item.is names largest facts c.in_ok-is_found.ensures in
-    let number : c.loop-shown.number + 1 ≡ i + 1 = ap (λ n. n + 1) c.loop-shown.invariant.counted in
-    elim c.if-branch.branch [
-      | then-branch+in_ok-push w ↦ record {
-        counted = number;
-        chosen = λ message known.
-            w.numbers-is ∙ w.in_ok-push.ensures.ok ∙ ap (λ t. t ++ (c.loop-shown.number + 1) ∷ []) (c.loop-shown.invariant.chosen message known) ∙ ap (λ n. chosen (finds k view m mail message) (take i rows) ++ n ∷ []) number ∙ sym (chosen_in (finds k view m mail message) rows i shown c.loop-shown-test.true (test message known ∙ w.if-branch.true));
-      }
-      | else-branch w ↦ record {
-        counted = number;
-        chosen = λ message known.
-            w.numbers-is ∙ c.loop-shown.invariant.chosen message known ∙ sym (chosen_out (finds k view m mail message) rows i shown c.loop-shown-test.true (test message known ∙ w.if-branch.false));
-      }
-    ]
+pub eval_prepared-requires-clause-reads : goal.eval_prepared-requires-clause-reads
+eval_prepared-requires-clause-reads c = c.needs_mail-reads.ensures ∙ sym c.in_ok-key.ensures.reads
 
 pub returns : goal.returns
-returns c = λ message known.
-    c.loop-shown.invariant.chosen message known ∙ ap (chosen (finds c.args.k.now c.args.v.now c.args.live.now.mailbox c.args.mail.now message)) (take_all c.loop-shown.shown-index c.as_slice-rows.result.now c.loop-shown-test.false ∙ c.as_slice-rows.ensures ∙ c.rows.ensures.is)
+returns c =
+    let star : c.largest_uid.result ≡ largest_uid c.args.v.now = c.largest_uid.ensures ∙ ap (fold (λ n (s : Shown). max n s.uid) 0) (c.as_slice.ensures ∙ c.rows.ensures.is) in
+    c.eval_prepared.ensures c.args.k.now (subst (λ n. IsPrepared n c.args.k.now c.in_ok-key.key) star c.in_ok-key.ensures)
