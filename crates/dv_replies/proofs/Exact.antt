@@ -31,8 +31,8 @@ line_whole : (session : List ℕ) (r : Reply) (b c d e rest : List ℕ) → b �
     → b ≡ line_text session r ++ rest
 line_whole session r b c d e rest p q s t = rw (p, q, s, t) (simp append_assoc)
 
-named : (b : List ℕ) (y : List ℕ × List ℕ) → session_at b ≡ Some y → IsSession y.0 × (b ≡ y.0 ++ 32 ∷ y.1)
-named b y e = by_test (is_session_name name) refl e
+pub session_takes : (b : List ℕ) (y : List ℕ × List ℕ) → session_at b ≡ Some y → IsSession y.0 × (b ≡ y.0 ++ 32 ∷ y.1)
+session_takes b y e = by_test (is_session_name name) refl e
   where
     name : List ℕ
     name = before (is_byte 32) b
@@ -47,7 +47,7 @@ pub line_takes : (b : List ℕ) (y : Line) → line_at b ≡ Some y → LineIs b
 unfolding line_at
 line_takes b y e =
     let session = bind_some (session_at b) _ y e in
-    let is = named b session.0 session.1 in
+    let is = session_takes b session.0 session.1 in
     let r = bind_some (reply_at session.0.1) (λ r. after (codes "\n") r.1 >>= λ rest. Some (session.0.0, r.0, rest)) y session.2 in
     let reply_is = reply_takes session.0.1 r.0 r.1 in
     after_then (codes "\n") r.0.1 _ y r.2 (λ rest t f.
