@@ -1,5 +1,5 @@
 -- What is read is of the grammar: a line of a script.
-use Rattle.std.proofs.Common.{◌≡◌, ◌⊎◌, inl, inr, ℕ, suc, ◌≤◌, Bool, true, false, cond, List, [], ◌∷◌, ◌++◌, length, take, drop, fold, Option, Some, None, Result, Ok, Err, codes, refl, sym, ◌∙◌, ap, subst, arith, append_assoc, nat_lt}
+use Rattle.std.proofs.Common.{◌≡◌, ◌⊎◌, inl, inr, ℕ, suc, ◌<◌, ◌≤◌, Bool, true, false, cond, List, [], ◌∷◌, ◌++◌, length, take, drop, fold, Option, Some, None, Result, Ok, Err, codes, refl, sym, ◌∙◌, ap, subst, arith, append_assoc, nat_lt}
 use Rattle.std.specs.List.{list_any}
 use Rattle.std.specs.Str.{bytes_eq}
 use Rattle.std.proofs.lemmas.Bool.{eqb-true, ltb-false, ltb-true}
@@ -214,4 +214,99 @@ module _ (names : List (List ℕ)) (b : List ℕ) (taken : TakenLine) (first : F
 
       by_long : (t : Bool) → nat_lt line_limit (length (first_line b).0) ≡ t → IsRead names b taken
       by_long true one = absurd (no_ok LineFault.bad taken (sym (rw one refl) ∙ e))
+      by_long false one = by_skipped (is_skipped (first_line b).0) one refl
+
+-- ---- a literal without all its bytes
+
+pub record IsShort (names : List (List ℕ)) (b : List ℕ) : Type 0 where
+  pub session : List ℕ
+  pub start : (ℕ × List (List ℕ)) × ℕ
+  pub ending : List ℕ
+  pub starts : IsLiteralStart session start.0.0 start.0.1 start.1 (first_line b).0
+  pub whole : b ≡ (first_line b).0 ++ (ending ++ (first_line b).1)
+  pub ended : IsLineEnd ending ⊎ ((ending ≡ []) × ((first_line b).1 ≡ []))
+  pub few : length (first_line b).1 < start.1
+  pub allowed : length names ≤ session_limit → length (and_session names (session, command.Noop)) ≤ session_limit
+
+bad_short : {A : Type 0} → ◌≡◌ {A = Result A LineFault} (Err LineFault.bad) (Err LineFault.short) → ⊥
+bad_short e = cc
+
+ok_short : {A : Type 0} (x : A) → ◌≡◌ {A = Result A LineFault} (Ok x) (Err LineFault.short) → ⊥
+ok_short x e = cc
+
+module _ (names : List (List ℕ)) (b : List ℕ) (first : FirstIs b (first_line b)) where
+  short_literal : (name : List ℕ) (all : List (List ℕ)) (start : (ℕ × List (List ℕ)) × ℕ) → with_session names name ≡ Some all → IsLiteralStart name start.0.0 start.0.1 start.1 (first_line b).0
+      → literal_at name all start (first_line b).1 ≡ Err LineFault.short → IsShort names b
+  unfolding literal_at
+  short_literal name all start known starts e = by_size (nat_lt (length (first_line b).1) start.1) refl
+    where
+      by_next : (r : Option (List ℕ)) → nat_lt (length (first_line b).1) start.1 ≡ false → behind_line_end (drop start.1 (first_line b).1) ≡ r → IsShort names b
+      by_next None enough is = absurd (bad_short (sym (rw (enough, is) refl) ∙ e))
+      by_next (Some next) enough is =
+          let taken : TakenLine = (Some (name, command.Append start.0.0 start.0.1 (take start.1 (first_line b).1)), all, next) in
+          absurd (ok_short taken (sym (rw (enough, is) refl) ∙ e))
+
+      by_size : (t : Bool) → nat_lt (length (first_line b).1) start.1 ≡ t → IsShort names b
+      by_size true is = record {
+        session = name;
+        start = start;
+        ending = first.ending;
+        starts = starts;
+        whole = first.whole;
+        ended = first.ended;
+        few = ltb-true (length (first_line b).1) start.1 is;
+        allowed = λ less. subst (λ ns. length ns ≤ session_limit) (named_so names (name, command.Noop) all known) (named_few names name all known less);
+      }
+      by_size false is = by_next (behind_line_end (drop start.1 (first_line b).1)) is refl
+
+  short_command : (name words : List ℕ) (all : List (List ℕ)) → IsSession name → (first_line b).0 ≡ name ++ 32 ∷ words → length (first_line b).0 ≤ line_limit → with_session names name ≡ Some all
+      → command_at name all words (first_line b).1 ≡ Err LineFault.short → IsShort names b
+  unfolding command_at
+  short_command name words all named is short known e = by_append (after (codes "APPEND ") words) refl
+    where
+      by_start : (behind : List ℕ) (r : Option ((ℕ × List (List ℕ)) × ℕ)) → after (codes "APPEND ") words ≡ Some behind → append_of behind ≡ r → IsShort names b
+      by_start behind None one two = absurd (bad_short (sym (rw one (rw two refl)) ∙ e))
+      by_start behind (Some start) one two =
+          let starts : IsLiteralStart name start.0.0 start.0.1 start.1 (first_line b).0 = record {
+            named = named;
+            command_text = words;
+            command = subst (IsAppendStart start.0.0 start.0.1 start.1) (sym (after_is (codes "APPEND ") words behind one)) (append_sound behind start two);
+            text = is ∙ sym (append_assoc name (codes " ") words);
+            short = short;
+          } in
+          short_literal name all start known starts (sym (rw one (rw two refl)) ∙ e)
+
+      by_command : (r : Option Command) → after (codes "APPEND ") words ≡ None → command_of words ≡ r → IsShort names b
+      by_command None one two = absurd (bad_short (sym (rw one (rw two refl)) ∙ e))
+      by_command (Some c) one two =
+          let taken : TakenLine = (Some (name, c), all, (first_line b).1) in
+          absurd (ok_short taken (sym (rw one (rw two refl)) ∙ e))
+
+      by_append : (r : Option (List ℕ)) → after (codes "APPEND ") words ≡ r → IsShort names b
+      by_append (Some behind) one = by_start behind (append_of behind) one refl
+      by_append None one = by_command (command_of words) one refl
+
+  pub short_sound : line_at names (first_line b).0 (first_line b).1 ≡ Err LineFault.short → IsShort names b
+  unfolding line_at
+  short_sound e = by_long (nat_lt line_limit (length (first_line b).0)) refl
+    where
+      by_names : (session : List ℕ × List ℕ) (r : Option (List (List ℕ))) → nat_lt line_limit (length (first_line b).0) ≡ false → is_skipped (first_line b).0 ≡ false → session_at (first_line b).0 ≡ Some session
+          → with_session names session.0 ≡ r → IsShort names b
+      by_names session None one two three four = absurd (bad_short (sym (rw (one, two) (rw three (rw four refl))) ∙ e))
+      by_names session (Some all) one two three four =
+          let is = session_takes (first_line b).0 session three in
+          short_command session.0 session.1 all is.0 is.1 (ltb-false line_limit (length (first_line b).0) one) four (sym (rw (one, two) (rw three (rw four refl))) ∙ e)
+
+      by_session : (r : Option (List ℕ × List ℕ)) → nat_lt line_limit (length (first_line b).0) ≡ false → is_skipped (first_line b).0 ≡ false → session_at (first_line b).0 ≡ r → IsShort names b
+      by_session None one two three = absurd (bad_short (sym (rw (one, two) (rw three refl)) ∙ e))
+      by_session (Some session) one two three = by_names session (with_session names session.0) one two three refl
+
+      by_skipped : (t : Bool) → nat_lt line_limit (length (first_line b).0) ≡ false → is_skipped (first_line b).0 ≡ t → IsShort names b
+      by_skipped true one two =
+          let taken : TakenLine = (None, names, (first_line b).1) in
+          absurd (ok_short taken (sym (rw (one, two) refl) ∙ e))
+      by_skipped false one two = by_session (session_at (first_line b).0) one two refl
+
+      by_long : (t : Bool) → nat_lt line_limit (length (first_line b).0) ≡ t → IsShort names b
+      by_long true one = absurd (bad_short (sym (rw one refl) ∙ e))
       by_long false one = by_skipped (is_skipped (first_line b).0) one refl
