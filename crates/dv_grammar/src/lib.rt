@@ -1,10 +1,10 @@
 //! What is read of a script is of its grammar: laws of the definitions (RFC 3501, section 9).
 #![tactic(auto)]
 
-ghost use Rattle.std.specs.Prelude.{◌≡◌, ◌++◌, ℕ, List, Some, codes};
+ghost use Rattle.std.specs.Prelude.{◌≡◌, ◌++◌, ℕ, List, Some, Ok, Err, codes};
 ghost use Rattle.dv_model.specs.declared.types.Command.{Command};
-ghost use Rattle.dv_formats.specs.Parsing.{append_of, command_of};
-ghost use Rattle.dv_formats.specs.Scripts.{IsAppendStart, IsCommand};
+ghost use Rattle.dv_formats.specs.Parsing.{ScriptFault, append_of, command_of, parsed};
+ghost use Rattle.dv_formats.specs.Scripts.{IsAppendStart, IsCommand, IsScript, IsShortLiteral, IsTooLong, NamedLine};
 
 /// A command that is read of a line is one of the grammar, with this text; so none other is taken.
 pub fn read_command_is_of_the_grammar()
@@ -13,4 +13,17 @@ pub fn read_command_is_of_the_grammar()
     // What is read behind the word of an APPEND is its first line, in the grammar.
     ensures append { (b : List ℕ) (start : (ℕ × List (List ℕ)) × ℕ) → append_of b ≡ Some start
         → IsAppendStart start.0.0 start.0.1 start.1 (codes "APPEND " ++ b) }
+{}
+
+/// A script that is read is one of the grammar, with these lines: in its bytes, its lines and its
+/// sessions within the limits; so no other script is taken.
+pub fn read_script_is_of_the_grammar()
+    ensures lines { (script : List ℕ) (lines : List NamedLine) → parsed script ≡ Ok lines
+        → IsScript lines script }
+    // A literal that is said to be short is the first fault, and has this line's number.
+    ensures short { (script : List ℕ) (number : ℕ)
+        → parsed script ≡ Err (ScriptFault.ShortLiteral number)
+        → IsShortLiteral script number }
+    ensures long { (script : List ℕ) → parsed script ≡ Err ScriptFault.TooLong
+        → IsTooLong script }
 {}

@@ -1,21 +1,20 @@
 -- The line of a reply is read where it begins the bytes, and nowhere else.
 use Rattle.std.proofs.Common.{◌≡◌, ℕ, ◌-◌, ◌≤◌, Bool, true, false, cond, List, ◌∷◌, ◌++◌, length, Some, None, Result, Ok, Err, IfOk, codes, refl, sym, ◌∙◌, ap, subst, arith, append_assoc}
-use Rattle.std.proofs.lemmas.Bool.{ne_eqb}
 use Rattle.std.proofs.lemmas.List.{length-append}
 use Rattle.dv_model.specs.declared.types.Reply.{Reply}
 use Rattle.dv_model.specs.Texts.{line_text, reply_text}
 use Rattle.dv_formats.specs.Parsing.{◌>>=◌, after, before, from, is_byte, is_session_name, session_at}
 use Rattle.dv_formats.specs.Replies.{IsReply}
-use Rattle.dv_formats.specs.Scripts.{IsSession, is_session_byte}
+use Rattle.dv_formats.specs.Scripts.{IsSession}
 use Rattle.dv_sets.specs.Answers.{Answers, OnBad}
 use Rattle.dv_sets.specs.declared.end.ParseEnd.{ParseEnd}
 use Rattle.dv_sets.specs.declared.end.ParseEnd.TheVariants.{Bad, NoMemory}
 use Rattle.dv_commands.specs.Reads.{Gives}
 use Rattle.dv_commands.proofs.Base.{bind_some, some_is}
-use Rattle.dv_commands.proofs.Words.{all_goes_on, before_again, from_again}
+use Rattle.dv_script.proofs.Printed.{session_here}
 use Rattle.dv_replies.specs.Lines.{Begins}
 use Rattle.dv_replies.specs.Reading.{line_at, reply_at, reply_of}
-use Rattle.dv_replies.proofs.Names.{session_sound, session_test}
+use Rattle.dv_replies.proofs.Names.{session_sound}
 use Rattle.dv_replies.proofs.Replies.{reply_again, reply_takes}
 use Rattle.dv_replies.proofs.Steps.{after_then, parted}
 
@@ -31,8 +30,8 @@ line_whole : (session : List ℕ) (r : Reply) (b c d e rest : List ℕ) → b �
     → b ≡ line_text session r ++ rest
 line_whole session r b c d e rest p q s t = rw (p, q, s, t) (simp append_assoc)
 
-named : (b : List ℕ) (y : List ℕ × List ℕ) → session_at b ≡ Some y → IsSession y.0 × (b ≡ y.0 ++ 32 ∷ y.1)
-named b y e = by_test (is_session_name name) refl e
+pub session_takes : (b : List ℕ) (y : List ℕ × List ℕ) → session_at b ≡ Some y → IsSession y.0 × (b ≡ y.0 ++ 32 ∷ y.1)
+session_takes b y e = by_test (is_session_name name) refl e
   where
     name : List ℕ
     name = before (is_byte 32) b
@@ -47,7 +46,7 @@ pub line_takes : (b : List ℕ) (y : Line) → line_at b ≡ Some y → LineIs b
 unfolding line_at
 line_takes b y e =
     let session = bind_some (session_at b) _ y e in
-    let is = named b session.0 session.1 in
+    let is = session_takes b session.0 session.1 in
     let r = bind_some (reply_at session.0.1) (λ r. after (codes "\n") r.1 >>= λ rest. Some (session.0.0, r.0, rest)) y session.2 in
     let reply_is = reply_takes session.0.1 r.0 r.1 in
     after_then (codes "\n") r.0.1 _ y r.2 (λ rest t f.
@@ -56,19 +55,11 @@ line_takes b y e =
 pub line_within : (b session rest : List ℕ) (r : Reply) → line_at b ≡ Some (session, r, rest) → length rest ≤ length b
 line_within b session rest r e = omega (arith, ap length (line_takes b (session, r, rest) e).2, length-append (line_text session r) rest)
 
-session_goes : (b : ℕ) → is_session_byte b ≡ true → is_byte 32 b ≡ false
-session_goes b is = ne_eqb b 32 (λ same. let f : is_session_byte 32 ≡ true = subst (λ x. is_session_byte x ≡ true) same is in absurd cc)
-
-session_again : (name rest : List ℕ) → IsSession name → session_at (name ++ 32 ∷ rest) ≡ Some (name, rest)
-session_again name rest is =
-    let go = all_goes_on (is_byte 32) (λ n. is_session_byte n ≡ true) session_goes name is.bytes in
-    rw (before_again (is_byte 32) name (32 ∷ rest) go refl, from_again (is_byte 32) name (32 ∷ rest) go refl, session_test name is) refl
-
 pub line_again : (session : List ℕ) (r : Reply) (rest : List ℕ) → IsSession session → IsReply r → line_at (line_text session r ++ rest) ≡ Some (session, r, rest)
 unfolding line_at
 line_again session r rest named bounded =
     let whole : line_text session r ++ rest ≡ session ++ 32 ∷ (reply_text r ++ 10 ∷ rest) = simp append_assoc in
-    ap line_at whole ∙ rw (session_again session (reply_text r ++ 10 ∷ rest) named) (rw (reply_again r rest bounded) refl)
+    ap line_at whole ∙ rw (session_here session (reply_text r ++ 10 ∷ rest) named) (rw (reply_again r rest bounded) refl)
 
 -- ---- the number of its bytes
 

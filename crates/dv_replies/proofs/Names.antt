@@ -1,8 +1,8 @@
 -- Names of fields and of sessions, by their tests.
-use Rattle.std.proofs.Common.{◌≡◌, ℕ, true, ◌&&◌, List, length, refl, nat_le}
+use Rattle.std.proofs.Common.{◌≡◌, ℕ, true, ◌&&◌, List, length, nat_le}
 use Rattle.std.specs.List.{list_all}
-use Rattle.std.proofs.lemmas.Bool.{and_parts, le-leb, leb-true}
-use Rattle.std.proofs.lemmas.List.Sums.{AllPass-from_list_all, list_all-from_AllPass}
+use Rattle.std.proofs.lemmas.Bool.{and_parts, leb-true}
+use Rattle.std.proofs.lemmas.List.Sums.{AllPass-from_list_all}
 use Rattle.dv_formats.specs.Parsing.{is_field_name, is_session_name}
 use Rattle.dv_formats.specs.Scripts.{IsFieldName, IsSession, is_field_byte, is_session_byte}
 
@@ -19,7 +19,3 @@ session_sound name e =
     let all = and_parts (nat_le 1 (length name) && nat_le (length name) 16) (list_all is_session_byte name) e in
     let bounds = and_parts (nat_le 1 (length name)) (nat_le (length name) 16) all.0 in
     record { size = (leb-true 1 (length name) bounds.0, leb-true (length name) 16 bounds.1); bytes = AllPass-from_list_all is_session_byte name all.1 }
-
-pub session_test : (name : List ℕ) → IsSession name → is_session_name name ≡ true
-unfolding is_session_name
-session_test name is = rw (le-leb 1 (length name) is.size.0, le-leb (length name) 16 is.size.1, list_all-from_AllPass is_session_byte name is.bytes) refl

@@ -64,7 +64,7 @@ session_test name is = rw (le-leb 1 (length name) is.size.0, le-leb (length name
     all_test [] all = refl
     all_test (x ∷ w) all = rw (All-head (λ n. is_session_byte n ≡ true) x w all, all_test w (All-tail (λ n. is_session_byte n ≡ true) x w all)) refl
 
-session_here : (name text : List ℕ) → IsSession name → session_at (name ++ 32 ∷ text) ≡ Some (name, text)
+pub session_here : (name text : List ℕ) → IsSession name → session_at (name ++ 32 ∷ text) ≡ Some (name, text)
 session_here name text is =
     let go = session_open name is in
     rw (before_again (is_byte 32) name (32 ∷ text) go refl, session_test name is) (rw (from_again (is_byte 32) name (32 ∷ text) go refl) refl)
