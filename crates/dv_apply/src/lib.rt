@@ -27,6 +27,3 @@ mod touching;
 pub use fault::ApplyFault;
 pub use law::refused_by_a_row;
 pub use live::{Live, Prepared};
-
-#[cfg(test)]
-mod tests;

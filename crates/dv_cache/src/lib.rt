@@ -12,6 +12,3 @@ pub use finding::find;
 pub use law::{found_is_written, one_row, written_is_found};
 pub use row::{CacheRow, Known};
 pub use writing::write;
-
-#[cfg(test)]
-mod tests;

@@ -16,6 +16,3 @@ mod walking;
 pub use chain::Chain;
 pub use creating::create;
 pub use opening::open;
-
-#[cfg(test)]
-mod tests;

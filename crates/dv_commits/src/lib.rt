@@ -8,6 +8,3 @@ mod sends;
 
 pub use committing::{Committed, commit, heal};
 pub use laws::{opened_is_kept, rest_opens};
-
-#[cfg(test)]
-mod tests;

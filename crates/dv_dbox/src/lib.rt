@@ -15,6 +15,3 @@ pub use law::{reading_is_one, written_is_read};
 pub use message::Message;
 pub use reading::read;
 pub use writing::write;
-
-#[cfg(test)]
-mod tests;

@@ -14,6 +14,3 @@ pub use change::PartsChange;
 pub use extensions::Extensions;
 pub use sizes::have_sizes;
 pub use updates::RowUpdates;
-
-#[cfg(test)]
-mod tests;

@@ -7,6 +7,3 @@ mod sizes;
 
 pub use fields::field_of;
 pub use sizes::{physical, virtual_size};
-
-#[cfg(test)]
-mod tests;

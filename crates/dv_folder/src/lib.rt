@@ -7,8 +7,6 @@ mod folder;
 mod names;
 mod streams;
 mod system_clock;
-#[cfg(test)]
-mod tests;
 
 pub use folder::Folder;
 pub use streams::{Input, Output, write_error};

@@ -12,8 +12,8 @@ fn next_state(state: u64) -> u64
     state.wrapping_mul(MULTIPLIER).wrapping_add(INCREMENT)
 }
 
-// A draw moves the state on, and gives its highest 31 bits.
-pub(crate) fn draw(state: &mut u64) -> u32
+/// A draw: it moves the state on by Knuth's MMIX generator, and gives its highest 31 bits.
+pub fn draw(state: &mut u64) -> u32
     ensures state { state.new ≡ next_state state.old }
     ensures drawn { result ≡ drawn state.new }
     ensures small { result < 2 ^ 31 }

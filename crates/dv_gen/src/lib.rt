@@ -5,7 +5,5 @@ mod commands;
 mod draws;
 mod generator;
 
+pub use draws::draw;
 pub use generator::script;
-
-#[cfg(test)]
-mod tests;

@@ -14,6 +14,3 @@ pub use fault::{IndexEnd, IndexFault};
 pub use law::one_outcome;
 pub use reading::read;
 pub use writing::write;
-
-#[cfg(test)]
-mod tests;

@@ -118,6 +118,3 @@ pub fn read(alloc: Global, b: &[u8]) -> Result<(Mailbox, u32, Mark, u8), IndexEn
 {
     read_text(alloc, b)
 }
-
-#[cfg(test)]
-mod tests;

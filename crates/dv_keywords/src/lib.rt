@@ -14,6 +14,3 @@ pub use law::{one_table, places_stay_places, written_is_read};
 pub use places::change;
 pub use table::Table;
 pub use text::write_name;
-
-#[cfg(test)]
-mod tests;

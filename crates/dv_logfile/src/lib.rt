@@ -12,8 +12,6 @@ mod counting;
 mod header;
 mod outcome;
 mod scanning;
-#[cfg(test)]
-mod tests;
 mod texts;
 
 pub use commit::{CommitFault, Debt, LogFile};

@@ -6,6 +6,3 @@ mod sizes;
 
 pub use fields::{u16_at, u32_at, u64_at};
 pub use sizes::{size_code, size_value};
-
-#[cfg(test)]
-mod tests;

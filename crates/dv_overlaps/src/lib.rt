@@ -7,6 +7,3 @@ mod names;
 
 pub use changes::{change_flags, change_keywords, clear_keywords, expunge};
 pub use names::{name_changed, name_pairs};
-
-#[cfg(test)]
-mod tests;

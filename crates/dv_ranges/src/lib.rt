@@ -8,6 +8,3 @@ mod pairs;
 
 pub use changes::join_changes;
 pub use pairs::{join_pairs, pairs_of};
-
-#[cfg(test)]
-mod tests;

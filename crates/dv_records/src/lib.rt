@@ -15,6 +15,3 @@ pub use decoding::{decode, one_reading, spelled_is_valid};
 pub use encoding::encode;
 pub use fault::{DecodeEnd, RecordFault};
 pub use keyword::is_name;
-
-#[cfg(test)]
-mod tests;

@@ -5,8 +5,6 @@ mod lists;
 mod numbers;
 mod reply;
 mod tagged;
-#[cfg(test)]
-mod tests;
 mod value;
 
 pub use reply::parse_reply;

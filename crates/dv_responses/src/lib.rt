@@ -22,6 +22,3 @@ pub use kinds::{is_append, is_select, is_shallow, is_write, reads_mail, step_of,
 pub use looking::{named_uids, uids_looked_at};
 pub use meeting::{Met, meet};
 pub use selecting::select_lines;
-
-#[cfg(test)]
-mod tests;

@@ -17,6 +17,3 @@ pub use rotation::{finish, rotate};
 pub use snapshots::snapshot;
 pub use texts::Turn;
 pub use turning::turn;
-
-#[cfg(test)]
-mod tests;

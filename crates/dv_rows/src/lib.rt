@@ -18,6 +18,3 @@ mod walks;
 pub use naming::sort_uids;
 pub use ranges::Range;
 pub use rows::Rows;
-
-#[cfg(test)]
-mod tests;

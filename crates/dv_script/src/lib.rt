@@ -7,8 +7,6 @@ mod pieces;
 mod printing;
 mod reply;
 mod script;
-#[cfg(test)]
-mod tests;
 mod types;
 mod value;
 

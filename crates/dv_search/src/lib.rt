@@ -17,6 +17,3 @@ pub use law::{search_says_found, sought_is_shallow};
 pub use levels::is_shallow;
 pub use mail::needs_mail;
 pub use search::eval;
-
-#[cfg(test)]
-mod tests;

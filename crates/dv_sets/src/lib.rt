@@ -19,6 +19,3 @@ pub use joining::{is_in_joined, join_set};
 pub use law::{one_flags, one_set, written_set_is_read};
 pub use printing::{print_flags, print_set};
 pub use sets::parse_set;
-
-#[cfg(test)]
-mod tests;

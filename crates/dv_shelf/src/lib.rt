@@ -12,8 +12,6 @@ mod record;
 mod sends;
 mod shelf;
 mod streams;
-#[cfg(test)]
-mod tests;
 
 pub use clock::{Clock, Gate};
 pub use mem_clock::{MemClock, OpenGate};

@@ -7,6 +7,3 @@ mod touched;
 
 pub use law::only_named_are_touched;
 pub use touched::Touched;
-
-#[cfg(test)]
-mod tests;

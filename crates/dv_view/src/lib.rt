@@ -18,6 +18,3 @@ pub use copies::{names_at, shown};
 pub use laws::{bare_client_has_view, changes_follow};
 pub use replies::add_changes;
 pub use view::View;
-
-#[cfg(test)]
-mod tests;

@@ -1,6 +1,0 @@
-use Rattle.std.proofs.Common.{All}
-use Rattle.dv_model.specs.Spelling.{IsRecord}
-use Rattle.dv_logfile.proofs.tests.records_of.Given as goal
-
-abbrev pub invariant-loop : goal.invariant-loop
-invariant-loop l = All IsRecord l.records

@@ -1,0 +1,31 @@
+use dv_num::{size_code, size_value, u16_at, u32_at, u64_at};
+use std::test::*;
+
+// sizes and their codes
+const SIZES: [(u32, [u8; 4]); 7] = [
+    (0, [0x80, 0x80, 0x80, 0x80]),
+    (8, [0x80, 0x80, 0x80, 0x82]),
+    (508, [0x80, 0x80, 0x80, 0xff]),
+    (512, [0x80, 0x80, 0x81, 0x80]),
+    (8388604, [0x80, 0xff, 0xff, 0xff]),
+    (8388608, [0x81, 0x80, 0x80, 0x80]),
+    (1073741820, [0xff, 0xff, 0xff, 0xff]),
+];
+
+#[test]
+fn sizes_both_ways(rt: HostRuntime) {
+    for (size, code) in SIZES {
+        assert!(rt; size < 1 << 30 && size % 4 == 0);
+        assert_eq!(rt; size_code(size), code);
+        assert_eq!(rt; size_value(code), Some(size));
+    }
+    assert_eq!(rt; size_value([0x80, 0x80, 0x00, 0x84]), None);
+}
+
+#[test]
+fn fields_are_little_endian(rt: HostRuntime) {
+    let bytes = [0xff, 1, 2, 3, 4, 5, 6, 7, 8];
+    assert_eq!(rt; u16_at(&bytes, 1), 0x0201);
+    assert_eq!(rt; u32_at(&bytes, 1), 0x0403_0201);
+    assert_eq!(rt; u64_at(&bytes, 1), 0x0807_0605_0403_0201);
+}

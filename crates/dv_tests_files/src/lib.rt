@@ -1,0 +1,13 @@
+//! Tests of the disk, the log file and the index.
+#![tactic(auto)]
+
+#[cfg(test)]
+mod folder;
+#[cfg(test)]
+mod index;
+#[cfg(test)]
+mod logfile;
+#[cfg(test)]
+mod shelf;
+#[cfg(test)]
+mod snapshots;

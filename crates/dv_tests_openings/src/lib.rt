@@ -1,0 +1,9 @@
+//! Tests of a folder that is opened, written and rotated.
+#![tactic(auto)]
+
+#[cfg(test)]
+mod chain;
+#[cfg(test)]
+mod commits;
+#[cfg(test)]
+mod rotation;

@@ -1,0 +1,106 @@
+use dv_model::{Reply, Value};
+use dv_replies::parse_reply;
+use dv_script::reply_text;
+use dv_sets::ParseEnd;
+use std::process::Abort;
+use std::test::Fail;
+
+// Each is one reply, and all that may follow is another.
+const GOOD: [&[u8]; 21] = [
+    b"a * 0 EXISTS\n",
+    b"a * OK [UIDVALIDITY 1000]\n",
+    b"a * OK [UIDNEXT 4294967295]\n",
+    b"a OK [MARK 1:56] SELECT\n",
+    b"s64 OK [APPENDUID 1000 4294967294] [MARK 1:76] APPEND\n",
+    b"a * 1 FETCH (UID 1 FLAGS ())\n",
+    b"a * 1 FETCH (UID 1 FLAGS (\\Answered \\Flagged \\Deleted \\Seen \\Draft k1 k1))\n",
+    b"a * 2 FETCH (UID 3 FLAGS (K) RFC822.SIZE 5 BODY[] {5}\nhel)\n FIELD to {2}\nHi MODSEQ (7))\n",
+    b"a * 2 FETCH (UID 3 FIELD Subject NIL BODY[] {0}\n)\n",
+    b"a * 2 FETCH (UID 3)\n",
+    b"b * 9 EXPUNGE\n",
+    b"a * SEARCH\n",
+    b"a * SEARCH 1 12\n",
+    b"a OK [MODIFIED 7,9] [MARK 1:92] UID STORE\n",
+    b"b NO [EXPUNGEISSUED] UID 1 MARK 1:124\n",
+    b"b NO [EXPUNGEISSUED] [MODIFIED 2] UID 1 MARK 1:124\n",
+    b"a NO [CORRUPTION] UID 1 MARK 1:72\n",
+    b"a NO [UNAVAILABLE] FAULTS 18446744073709551615\n",
+    b"a NO [LIMIT] UIDS\n",
+    b"a NO [LIMIT] BYTES 33554433\n",
+    b"a BAD NO MESSAGE 0\n",
+];
+
+#[test]
+fn each_line_is_read_and_printed_again(rt: HostRuntime) -> Result<(), Fail> {
+    for line in GOOD {
+        let (session, reply, size) = parse_reply(rt.alloc(), line)?;
+        assert_eq!(rt; size, line.len());
+        let again = reply_text(rt.alloc(), session.as_slice(), &reply)?;
+        assert_eq!(rt; again.as_slice(), line);
+    }
+    Ok(())
+}
+
+#[test]
+fn what_follows_is_not_looked_at(rt: HostRuntime) -> Result<(), Fail> {
+    let (session, reply, size) = parse_reply(rt.alloc(), b"s1 * 12 EXPUNGE\nX\n")?;
+    assert_eq!(rt; session.as_slice(), b"s1".as_slice());
+    assert!(rt; matches!(reply, Reply::Expunge(12)));
+    assert_eq!(rt; size, 16);
+    Ok(())
+}
+
+#[test]
+fn values_are_those_that_stand_there(rt: HostRuntime) -> Result<(), Fail> {
+    let text = b"a * 1 FETCH (UID 7 FLAGS (\\Flagged \\Seen k) BODY[] {3}\n) \n)\n";
+    let (_, reply, _) = parse_reply(rt.alloc(), text)?;
+    let Reply::Fetch {
+        number: 1,
+        uid: 7,
+        values,
+    } = &reply
+    else {
+        return Err("a FETCH")?;
+    };
+    let [Value::Flags(10, keywords), Value::Body(bytes)] = values.as_slice() else {
+        return Err("flags and body")?;
+    };
+    assert_eq!(rt; keywords.len(), 1);
+    assert_eq!(rt; bytes.as_slice(), b") \n".as_slice());
+    Ok(())
+}
+
+// None is a reply.
+const BAD: [&[u8]; 24] = [
+    b"",
+    b"a * 1 EXISTS",
+    b"a * 1 EXISTS\r\n",
+    b"a  * 1 EXISTS\n",
+    b"A * 1 EXISTS\n",
+    b"a12345678901234567 * 1 EXISTS\n",
+    b"a * 01 EXISTS\n",
+    b"a * 4294967296 EXISTS\n",
+    b"a * 1 exists\n",
+    b"a * SEARCH \n",
+    b"a * SEARCH 1  2\n",
+    b"a * 1 FETCH (UID 4294967296)\n",
+    b"a * 1 FETCH (UID 1 FLAGS (\\Seen \\Flagged))\n",
+    b"a * 1 FETCH (UID 1 FLAGS (\\Seen \\Seen))\n",
+    b"a * 1 FETCH (UID 1 FLAGS (k \\Seen))\n",
+    b"a * 1 FETCH (UID 1 FLAGS ( ))\n",
+    b"a * 1 FETCH (UID 1 RFC822.SIZE 18446744073709551616)\n",
+    b"a * 1 FETCH (UID 1 BODY[] {7}\nhello)\n",
+    b"a OK [MARK 1:4294967296] NOOP\n",
+    b"a OK [MODIFIED ] [MARK 1:72] STORE\n",
+    b"a OK [MARK 1:72] LOGOUT\n",
+    b"a NO [UNAVAILABLE] FAULTS 18446744073709551616\n",
+    b"a NO [LIMIT] LOG\n",
+    b"a BAD NO MESSAGE 00\n",
+];
+
+#[test]
+fn other_lines_are_refused(rt: HostRuntime) {
+    for line in BAD {
+        assert_eq!(rt; parse_reply(rt.alloc(), line).err(), Some(ParseEnd::Bad));
+    }
+}
