@@ -1,6 +1,11 @@
-//! Tests of what a session is shown: views, sets, searches and responses.
+//! Tests of what a session is shown, and of what it writes: views, sets, searches, responses and
+//! groups.
 #![tactic(auto)]
 
+#[cfg(test)]
+mod groups;
+#[cfg(test)]
+mod mailboxes;
 #[cfg(test)]
 mod responses;
 #[cfg(test)]

@@ -1,6 +1,6 @@
+use crate::mailboxes::live_of;
 use dv_apply::Live;
 use dv_model::{Boxed, Bytes, Command, End, How, Item, Key, List, Mark, NoMemory, Span};
-use dv_records::decode;
 use dv_responses::{
     asked_by, data_lines, ending, facts_from, is_shallow, meet, select_lines, uids_looked_at,
 };
@@ -21,22 +21,6 @@ const DRAFT_1: &[u8] = b"\x80\x80\x80\x85\x04\0\0\x10\x01\0\0\0\x01\0\0\0\x10\x0
 const ADD_K1_TO_1: &[u8] = b"\x80\x80\x80\x86\0\x04\0\x10\0\0\x02\0k1\0\0\x01\0\0\0\x01\0\0\0";
 
 const EXPUNGE_1: &[u8] = b"\x80\x80\x80\x84\x91\xcd\0\x10\x01\0\0\0\x01\0\0\0";
-
-// A mailbox whose first record gets the modification sequence 3, behind these records. One that is
-// refused or can't be read counts as want of memory, which no test expects.
-fn live_of(alloc: Global, records: &[&[u8]]) -> Result<Live, NoMemory> {
-    let mut live = Live::empty(alloc, 1000);
-    live.raise(2);
-    for bytes in records {
-        let Ok((record, _)) = decode(alloc, bytes, 0) else {
-            return Err(NoMemory);
-        };
-        if live.apply(&record).is_err() {
-            return Err(NoMemory);
-        }
-    }
-    Ok(live)
-}
 
 // The facts of the message of UID 1, where it is there; a damaged one has no bytes here.
 fn facts_of(alloc: Global, c: &Command, live: &Live, message: &[u8]) -> Result<Mail, NoMemory> {
@@ -88,8 +72,8 @@ fn says(
     wanted: &[u8],
 ) -> Result<bool, NoMemory> {
     let c = c?;
-    let met = live_of(alloc, shown)?;
-    let live = live_of(alloc, all)?;
+    let met = live_of(alloc, 2, shown)?;
+    let live = live_of(alloc, 2, all)?;
     let text = answer(alloc, &c, &met, &live, message, offset)?;
     Ok(text.as_slice() == wanted)
 }
@@ -275,7 +259,7 @@ fn append_tells_the_uid_that_it_took(rt: HostRuntime) -> Result<(), Fail> {
 }
 
 fn select(alloc: Global) -> Result<Bytes, NoMemory> {
-    let live = live_of(alloc, &[APPEND_1])?;
+    let live = live_of(alloc, 2, &[APPEND_1])?;
     let view = View::of(alloc, &live)?;
     let lines = select_lines(alloc, &live, &view)?;
     replies_text(alloc, b"a", &lines)

@@ -1,6 +1,6 @@
+use crate::mailboxes::apply;
 use dv_apply::Live;
 use dv_model::{Boxed, Bytes, End, Items, Key, List, NoMemory, Span, Step};
-use dv_records::decode;
 use dv_search::{Mail, MailFacts, eval, is_shallow, needs_mail};
 use dv_view::View;
 use std::alloc::Global;
@@ -22,18 +22,6 @@ const SEE_9: &[u8] = b"\x80\x80\x80\x85\x04\0\0\x10\x09\0\0\0\x09\0\0\0\x08\0\0\
 const APPEND_DRAFT: &[u8] = b"\x80\x80\x80\x84\x02\0\0\x10\x01\0\0\0\x10\0\0\0";
 
 const ADD_K1_TO_1: &[u8] = b"\x80\x80\x80\x86\0\x04\0\x10\0\0\x02\0k1\0\0\x01\0\0\0\x01\0\0\0";
-
-fn apply(alloc: Global, live: &mut Live, records: &[&[u8]]) -> Result<(), NoMemory> {
-    for bytes in records {
-        let Ok((record, _)) = decode(alloc, bytes, 0) else {
-            return Err(NoMemory);
-        };
-        if live.apply(&record).is_err() {
-            return Err(NoMemory);
-        }
-    }
-    Ok(())
-}
 
 // A view of the whole mailbox.
 fn view_of(alloc: Global, live: &Live) -> Result<View, NoMemory> {

@@ -2,10 +2,10 @@ ghost use Rattle.std.specs.Prelude.{◌≡◌, [], IfOk, IsSomeAnd, true};
 ghost use Rattle.dv_model.specs.Fresh.{AreFresh};
 ghost use Rattle.dv_model.specs.Views.{View as Rows, empty_view, shows_uid};
 
+use crate::mailboxes::apply;
 use dv_apply::Live;
 use dv_keywords::Table;
 use dv_model::{Fresh, List, NoMemory, Reply, Shown, Step, Value};
-use dv_records::decode;
 use dv_view::{Client, View};
 use std::alloc::Global;
 use std::test::*;
@@ -17,16 +17,6 @@ const APPEND_2: &[u8] = b"\x80\x80\x80\x84\x02\0\0\x10\x02\0\0\0\0\0\0\0";
 const EXPUNGE_1: &[u8] = b"\x80\x80\x80\x84\x91\xcd\0\x10\x01\0\0\0\x01\0\0\0";
 
 const FLAG_2: &[u8] = b"\x80\x80\x80\x85\x04\0\0\x10\x02\0\0\0\x02\0\0\0\x02\0\0\0";
-
-fn apply(alloc: Global, live: &mut Live, bytes: &[u8]) -> Result<(), NoMemory> {
-    match decode(alloc, bytes, 0) {
-        Ok((record, _)) => match live.apply(&record) {
-            Ok(()) => Ok(()),
-            Err(_) => Err(NoMemory),
-        },
-        Err(_) => Err(NoMemory),
-    }
-}
 
 // A reply's kind, its number, and of a FETCH the UID and the flags.
 fn brief(r: &Reply) -> (char, u32, u32, u8) {
@@ -116,7 +106,7 @@ fn are_right(alloc: Global, turns: &[Turn]) -> Result<bool, NoMemory> {
         rows: List::new(alloc),
     };
     for (bytes, step, expected) in turns {
-        apply(alloc, &mut live, bytes)?;
+        apply(alloc, &mut live, &[*bytes])?;
         if let Some(step) = step {
             if !take(alloc, &mut view, &mut client, &live, *step, expected)? {
                 return Ok(false);

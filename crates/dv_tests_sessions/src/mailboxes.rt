@@ -1,0 +1,29 @@
+//! Live mailboxes, by the records of a log.
+
+use dv_apply::Live;
+use dv_model::NoMemory;
+use dv_records::decode;
+use std::alloc::Global;
+
+/// Applies these records in turn. One that is refused or can't be read counts as want of memory,
+/// which no test expects.
+pub fn apply(alloc: Global, live: &mut Live, records: &[&[u8]]) -> Result<(), NoMemory> {
+    for bytes in records {
+        let Ok((record, _)) = decode(alloc, bytes, 0) else {
+            return Err(NoMemory);
+        };
+        if live.apply(&record).is_err() {
+            return Err(NoMemory);
+        }
+    }
+    Ok(())
+}
+
+/// A mailbox with the UIDVALIDITY 1000 behind these records, the first of which gets the
+/// modification sequence behind this one.
+pub fn live_of(alloc: Global, highest: u32, records: &[&[u8]]) -> Result<Live, NoMemory> {
+    let mut live = Live::empty(alloc, 1000);
+    live.raise(u64::from(highest));
+    apply(alloc, &mut live, records)?;
+    Ok(live)
+}
