@@ -40,7 +40,7 @@ fn read_log<S: Shelf>(alloc: Global, shelf: &mut S) -> Result<File, OpenFault>
     ensures cause { HasCause (S.fault_count shelf.old) (S.fault_count shelf.new) result }
 {
     match look(alloc, shelf, Name::Log)? {
-        Some(bytes) => File::read(alloc, bytes),
+        Some(bytes) => File::read(bytes),
         None => Err(OpenFault::NoLog),
     }
 }
@@ -51,7 +51,7 @@ fn rotated_of(alloc: Global, bytes: Bytes, log: &File) -> Result<Option<File>, O
     ensures whole { IfOk result (λ rotated. IfSome rotated HasHeader) }
     ensures err { IfErr result (λ e. e ≡ fault.NoMemory) }
 {
-    match File::read(alloc, bytes) {
+    match File::read(bytes) {
         Ok(file) => {
             if joins(log, &file) {
                 Ok(Some(file))
