@@ -35,6 +35,7 @@ fn record_at(alloc: Global, b: &[u8], at: usize) -> Result<Option<(Record, usize
 
 /// The place behind the record that begins at a place; None where the place is closed.
 /// Takes no memory.
+#[tactic(auto, using(crate::proofs::Walks::skips))]
 fn skip(b: &[u8], at: usize) -> Result<Option<usize>, OpenFault>
     requires inside { at ≤ length b.now }
     requires fits { at ≤ last_end }
