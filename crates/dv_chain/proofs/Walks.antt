@@ -10,7 +10,7 @@ use Rattle.dv_model.specs.declared.types.OpenFault.TheVariants as fault
 use Rattle.dv_model.specs.declared.types.Record.{Record}
 use Rattle.dv_model.specs.Effects.{after_record}
 use Rattle.dv_model.specs.Spelling.{Spells, is_closed}
-use Rattle.dv_records.specs.Faults.{IsRecordAt}
+use Rattle.dv_records.specs.Faults.{HoldsRecord, IsRecordAt}
 use Rattle.dv_records.proofs.Apart.{not_closed}
 use Rattle.dv_records.proofs.Readings.{spelling_long}
 use Rattle.dv_logfile.specs.Layout.{last_end}
@@ -19,7 +19,7 @@ use Rattle.dv_logfile.proofs.OneScan.{readings_one}
 use Rattle.dv_logfile.proofs.Spots.{spots_end}
 use Rattle.dv_openings.specs.Openings.{Applied, Gives, Refused, spots_applied, spots_from}
 use Rattle.dv_apply.specs.States.{Held}
-use Rattle.dv_chain.specs.Walks.{Applies, Counts, EndsAt, IsLeft, IsWalked, Measures}
+use Rattle.dv_chain.specs.Walks.{Applies, Counts, EndsAt, IsLeft, IsWalked, Measures, Skips}
 
 true_is_not_false : {A : Type 0} (b : Bool) → b ≡ true → b ≡ false → A
 true_is_not_false b on off = absurd cc
@@ -49,6 +49,10 @@ was_read b at behind r in-b le there =
       eight = spelling_long r text there.1;
       inside = omega (arith, length-drop at b, there.0, le, in-b);
     }
+
+-- a record that may be any
+pub skips : (b : List ℕ) (at behind : ℕ) → at ≤ behind → behind ≤ last_end → HoldsRecord (behind - at) (drop at b) → Skips b at behind
+skips b at behind le fits held = record { is = held.0; there = held.1; rises = (le, fits) }
 
 -- ---- measuring
 

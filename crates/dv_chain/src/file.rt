@@ -27,7 +27,7 @@ pub struct File {
 
 impl File {
     /// The file of these bytes. `BadLogHeader` and `BadRecord` say what is wrong with it.
-    pub fn read(alloc: Global, bytes: Bytes) -> Result<File, OpenFault>
+    pub fn read(bytes: Bytes) -> Result<File, OpenFault>
         ensures read { ReadsFile bytes result }
         ensures disk { NoDisk result }
     {
@@ -35,7 +35,7 @@ impl File {
             Some(header) => header,
             None => return Err(OpenFault::BadLogHeader),
         };
-        let (end, count) = measure(alloc, bytes.as_slice(), usize::from(header.hdr_size))?;
+        let (end, count) = measure(bytes.as_slice(), usize::from(header.hdr_size))?;
         Ok(File {
             bytes,
             header,
@@ -63,7 +63,7 @@ impl File {
     }
 
     /// How many records stand before a place, where one begins or all end there.
-    pub fn records_before(&self, alloc: Global, place: u32) -> Result<Option<u32>, OpenFault>
+    pub fn records_before(&self, place: u32) -> Result<Option<u32>, OpenFault>
         requires { HasHeader self.now }
         ensures inside { IfOk result (λ n. IfSome n (λ _. IsInside self.now place)) }
         ensures counted { (spots : List Spot) → HasSpots spots self.now →
@@ -71,7 +71,7 @@ impl File {
         ensures disk { NoDisk result }
     {
         let from = usize::from(self.header.hdr_size);
-        count_between(alloc, self.bytes.as_slice(), from, place as usize)
+        count_between(self.bytes.as_slice(), from, place as usize)
     }
 
     /// The mailbox with all of its records.

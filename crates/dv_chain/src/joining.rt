@@ -142,7 +142,7 @@ fn from_earlier(
             if !is_next(mark.file_seq, log.header.file_seq) {
                 return from_end(alloc, log, index);
             }
-            match first.records_before(alloc, mark.offset)? {
+            match first.records_before(mark.offset)? {
                 Some(before) => from_rotated(alloc, log, first, index, before),
                 None => from_end(alloc, log, index),
             }
@@ -170,7 +170,7 @@ fn from_index(
     if mark.file_seq != log.header.file_seq {
         return from_earlier(alloc, log, rotated, index);
     }
-    match log.records_before(alloc, mark.offset)? {
+    match log.records_before(mark.offset)? {
         Some(before) => resume(alloc, log, index, before),
         None => from_earlier(alloc, log, rotated, index),
     }

@@ -40,18 +40,18 @@ fn read_log<S: Shelf>(alloc: Global, shelf: &mut S) -> Result<File, OpenFault>
     ensures cause { HasCause (S.fault_count shelf.old) (S.fault_count shelf.new) result }
 {
     match look(alloc, shelf, Name::Log)? {
-        Some(bytes) => File::read(alloc, bytes),
+        Some(bytes) => File::read(bytes),
         None => Err(OpenFault::NoLog),
     }
 }
 
 /// The file of these bytes, where it is a good one that goes before the log.
-fn rotated_of(alloc: Global, bytes: Bytes, log: &File) -> Result<Option<File>, OpenFault>
+fn rotated_of(bytes: Bytes, log: &File) -> Result<Option<File>, OpenFault>
     ensures ok { IfOk result (IsRotatedOf (Some bytes) log.now) }
     ensures whole { IfOk result (λ rotated. IfSome rotated HasHeader) }
     ensures err { IfErr result (λ e. e ≡ fault.NoMemory) }
 {
-    match File::read(alloc, bytes) {
+    match File::read(bytes) {
         Ok(file) => {
             if joins(log, &file) {
                 Ok(Some(file))
@@ -81,7 +81,7 @@ fn read_rotated<S: Shelf>(
     ensures cause { HasCause (S.fault_count shelf.old) (S.fault_count shelf.new) result }
 {
     match look(alloc, shelf, Name::Log2)? {
-        Some(bytes) => rotated_of(alloc, bytes, log),
+        Some(bytes) => rotated_of(bytes, log),
         None => Ok(None),
     }
 }

@@ -10,7 +10,7 @@ ghost use Rattle.dv_openings.specs.Openings.{spots_applied, spots_from};
 ghost use Rattle.dv_chain.specs.Walks.{Applies, Counts, IsLeft, Measures, NoDisk, OnBadRecord, Skips};
 
 use dv_apply::{ApplyFault, Live};
-use dv_logfile::{ScanEnd, next_record};
+use dv_logfile::{ScanEnd, next_place, next_record};
 use dv_model::{OpenFault, Record};
 use std::alloc::Global;
 
@@ -34,7 +34,9 @@ fn record_at(alloc: Global, b: &[u8], at: usize) -> Result<Option<(Record, usize
 }
 
 /// The place behind the record that begins at a place; None where the place is closed.
-fn skip(alloc: Global, b: &[u8], at: usize) -> Result<Option<usize>, OpenFault>
+/// Takes no memory.
+#[tactic(auto, using(crate::proofs::Walks::skips))]
+fn skip(b: &[u8], at: usize) -> Result<Option<usize>, OpenFault>
     requires inside { at ≤ length b.now }
     requires fits { at ≤ last_end }
     ensures skipped { IfOk result (λ next. IfSome next (λ behind. Skips b.now at behind)) }
@@ -42,17 +44,15 @@ fn skip(alloc: Global, b: &[u8], at: usize) -> Result<Option<usize>, OpenFault>
     ensures fault { OnBadRecord result (λ offset. (offset ≡ at) × IsFaulty at (drop at b.now)) }
     ensures disk { NoDisk result }
 {
-    match record_at(alloc, b, at)? {
-        Some((record, behind)) => {
-            drop(record);
-            Ok(Some(behind))
-        }
-        None => Ok(None),
+    match next_place(b, at) {
+        Ok(Some(behind)) => Ok(Some(behind)),
+        Ok(None) => Ok(None),
+        Err(_) => Err(OpenFault::BadRecord { offset: at as u32 }),
     }
 }
 
 /// Where the records from a place on end, and how many they are.
-pub fn measure(alloc: Global, b: &[u8], from: usize) -> Result<(u32, u32), OpenFault>
+pub fn measure(b: &[u8], from: usize) -> Result<(u32, u32), OpenFault>
     requires inside { from ≤ length b.now }
     requires fits { from ≤ last_end }
     ensures measured { Measures from b.now result }
@@ -60,7 +60,7 @@ pub fn measure(alloc: Global, b: &[u8], from: usize) -> Result<(u32, u32), OpenF
 {
     let mut at = from;
     let mut count = 0;
-    while let Some(behind) = skip(alloc, b, at)? {
+    while let Some(behind) = skip(b, at)? {
         at = behind;
         count += 1;
     }
@@ -104,12 +104,7 @@ pub fn apply_from(alloc: Global, b: &[u8], from: usize, live: Live) -> Result<Li
 }
 
 /// How many records stand from one place up to another, where one begins or all end there.
-pub fn count_between(
-    alloc: Global,
-    b: &[u8],
-    from: usize,
-    place: usize,
-) -> Result<Option<u32>, OpenFault>
+pub fn count_between(b: &[u8], from: usize, place: usize) -> Result<Option<u32>, OpenFault>
     requires inside { from ≤ length b.now }
     requires fits { from ≤ last_end }
     ensures inside { IfOk result (λ n. IfSome n (λ _.
@@ -121,7 +116,7 @@ pub fn count_between(
     let mut at = from;
     let mut count = 0;
     while at < place {
-        match skip(alloc, b, at)? {
+        match skip(b, at)? {
             Some(behind) => {
                 at = behind;
                 count += 1;

@@ -17,5 +17,5 @@ mod texts;
 pub use commit::{CommitFault, Debt, LogFile};
 pub use header::{LogHeader, read_header};
 pub use outcome::{Scan, ScanEnd};
-pub use scanning::{log_is_good, next_record, one_scan, scan};
+pub use scanning::{log_is_good, next_place, next_record, one_scan, scan};
 pub use texts::{create, group_text, one_log};

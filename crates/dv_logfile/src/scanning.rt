@@ -1,7 +1,7 @@
 ghost use Rattle.std.specs.Prelude.{◌≡◌, ◌⊎◌, ℕ, ◌+◌, ◌-◌, ◌*◌, ◌≤◌, List, Option, true, All, length, drop, IfErr, IfOk, IfSome, IsNone};
 ghost use Rattle.dv_model.specs.declared.types.Record.{Record};
 ghost use Rattle.dv_model.specs.Spelling.{IsRecord, is_closed};
-ghost use Rattle.dv_records.specs.Faults.{IsRecordAt};
+ghost use Rattle.dv_records.specs.Faults.{HoldsRecord, IsRecordAt};
 ghost use Rattle.dv_logfile.specs.declared.header.LogHeader.{LogHeader};
 ghost use Rattle.dv_logfile.specs.declared.outcome.ScanEnd.TheVariants as end;
 ghost use Rattle.dv_logfile.specs.Layout.{IsGoodHeader, IsLog, last_end, log_end, log_text};
@@ -10,7 +10,7 @@ ghost use Rattle.dv_logfile.specs.Scans.{Good, IsFaulty, IsLogScan, IsScanned, S
 use crate::header::read_header;
 use crate::{Scan, ScanEnd};
 use dv_model::{List, Record};
-use dv_records::{DecodeEnd, RecordFault, decode};
+use dv_records::{DecodeEnd, RecordFault, check, decode};
 use std::alloc::Global;
 
 /// The last place where a record may end, so that four bytes more fit.
@@ -77,6 +77,29 @@ pub fn next_record(alloc: Global, b: &[u8], at: usize) -> Result<Option<(Record,
         Ok(_) => Err(ScanEnd::BadRecord { offset: at as u32 }),
         Err(DecodeEnd::NoMemory) => Err(ScanEnd::NoMemory),
         Err(DecodeEnd::Fault(fault)) => match fault {
+            RecordFault::Closed => Ok(None),
+            _ => Err(ScanEnd::BadRecord { offset: at as u32 }),
+        },
+    }
+}
+
+/// The place behind the record that begins at a place of a log file's bytes, as `next_record` gives
+/// it; None where the place is closed. Takes no memory.
+///
+/// `BadRecord` comes exactly where the record there has a fault or ends past 1,073,741,820.
+pub fn next_place(b: &[u8], at: usize) -> Result<Option<usize>, ScanEnd>
+    requires inside { at ≤ length b.now }
+    requires fits { at ≤ last_end }
+    ensures record_at { IfOk result (λ next. IfSome next (λ behind.
+        (at ≤ behind) × (behind ≤ last_end) × HoldsRecord (behind - at) (drop at b.now))) }
+    ensures closed { IfOk result (λ next. IsNone next → is_closed (drop at b.now) ≡ true) }
+    ensures fault { IfErr result (λ e.
+        (e ≡ end.BadRecord at) × IsFaulty at (drop at b.now)) }
+{
+    match check(b, at) {
+        Ok(behind) if behind <= LAST_END => Ok(Some(behind)),
+        Ok(_) => Err(ScanEnd::BadRecord { offset: at as u32 }),
+        Err(fault) => match fault {
             RecordFault::Closed => Ok(None),
             _ => Err(ScanEnd::BadRecord { offset: at as u32 }),
         },

@@ -12,3 +12,4 @@ pub mod Apart
 pub mod Valid
 pub mod Written
 pub mod Decoded
+pub mod Checked

@@ -65,7 +65,7 @@ goes_on {A = A} size Is at reader b front rest x n so_far found e =
     } in
     subst (λ (k : ℕ). IsReadTo size Is b (front ++ x ∷ []) (drop k rest)) (sym e) step
 
-none_begins : {A : Type 0} (size : A → ℕ) (Is : A → List ℕ → Type 0) (at : List ℕ → Option A)
+pub none_begins : {A : Type 0} (size : A → ℕ) (Is : A → List ℕ → Type 0) (at : List ℕ → Option A)
     → IsReader size Is at → (zs : List A) (rest : List ℕ) → 1 ≤ length rest → at rest ≡ None
     → InTurn size Is zs rest → ⊥
 none_begins size Is at reader [] rest long none is = let e : length rest ≡ 0 = ap length is in omega arith

@@ -3,7 +3,7 @@ use Rattle.std.specs.Prelude.{◌≡◌, ◌⊎◌, ℕ, ◌≤◌, ◌%◌, ◌
 use Rattle.std.specs.Int.{w32, from_le_bytes}
 use Rattle.dv_model.specs.declared.types.Body.{Body}
 use Rattle.dv_model.specs.declared.types.Record.{Record}
-use Rattle.dv_model.specs.Spelling.{Spells, is_closed, size_value, code_of, IsPayload}
+use Rattle.dv_model.specs.Spelling.{Spells, IsRecord, is_closed, size_value, code_of, IsPayload}
 use Rattle.dv_records.specs.declared.fault.DecodeEnd.{DecodeEnd}
 use Rattle.dv_records.specs.declared.fault.DecodeEnd.TheVariants.{Fault, NoMemory}
 use Rattle.dv_records.specs.declared.fault.RecordFault.{RecordFault}
@@ -67,3 +67,7 @@ GivesSize (Err f) b = IsFault f b × ((f ≡ Closed) ⊎ (f ≡ BadSize))
 -- the record takes the first n of these bytes
 abbrev pub IsRecordAt : Record → ℕ → List ℕ → Type 0
 IsRecordAt r n b = (n ≤ length b) × Spells r (take n b)
+
+-- some record, which can be written, takes the first n of these bytes
+abbrev pub HoldsRecord : ℕ → List ℕ → Type 0
+HoldsRecord n b = (r : Record) × IsRecordAt r n b × IsRecord r

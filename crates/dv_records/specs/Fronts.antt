@@ -1,5 +1,5 @@
 -- The item that begins these bytes, and what reading gives.
-use Rattle.std.specs.Prelude.{◌≡◌, ℕ, ◌+◌, ◌-◌, ◌<◌, ◌≤◌, ◌^◌, ◌||◌, List, [], ◌∷◌, ◌++◌, length, take, drop, slice_index, Option, Some, None, Result, Ok, Err, nat_eq, nat_lt, if◌then◌else◌, ⊤}
+use Rattle.std.specs.Prelude.{◌≡◌, ℕ, ◌+◌, ◌-◌, ◌<◌, ◌≤◌, ◌^◌, ◌||◌, List, [], ◌∷◌, ◌++◌, length, take, drop, slice_index, Bool, true, false, Option, Some, None, Result, Ok, Err, nat_eq, nat_lt, if◌then◌else◌, ⊤}
 use Rattle.std.specs.Int.{w16, w32, to_le_bytes, from_le_bytes}
 use Rattle.dv_model.specs.declared.types.Change.{Change}
 use Rattle.dv_model.specs.declared.types.GuidRow.{GuidRow}
@@ -63,6 +63,25 @@ intro_front b =
     if nat_lt (length b) 20 then None
     else (if nat_lt (length b) (padded (20 + half_at b 18)) then None
     else Some (record { ext_id = word_at b 0; reset_id = word_at b 4; hdr_size = word_at b 8; record_size = half_at b 12; record_align = half_at b 14; flags = half_at b 16; name = take (half_at b 18) (drop 20 b) }))
+
+-- ---- how many bytes an item takes, without the item
+
+-- the size of the item in front, where there is one
+abbrev pub front_size : {A : Type 0} → (A → ℕ) → Option A → Option ℕ
+front_size size None = None
+front_size size (Some x) = Some (size x)
+
+-- whole words of a head of so many bytes and a text whose size stands in the head's last two
+abbrev pub padded_size : List ℕ → ℕ → Option ℕ
+padded_size b head =
+    if nat_lt (length b) head then None
+    else (if nat_lt (length b) (padded (head + half_at b (head - 2))) then None
+    else Some (padded (head + half_at b (head - 2))))
+
+-- there is such a thing, or there is none
+abbrev pub Tells : {A : Type 0} → (A → Type 0) → Bool → Type 0
+Tells {A = A} Is true = (x : A) × Is x
+Tells {A = A} Is false = (x : A) → Is x → ⊥
 
 -- ---- what reading gives, unless memory ran out
 

@@ -3,7 +3,7 @@ ghost use Rattle.dv_model.specs.declared.types.Record.{Record};
 ghost use Rattle.dv_model.specs.Spelling.{Spells, IsRecord};
 ghost use Rattle.dv_records.specs.declared.fault.DecodeEnd.TheVariants as end;
 ghost use Rattle.dv_records.specs.declared.fault.RecordFault.{RecordFault};
-ghost use Rattle.dv_records.specs.Faults.{GivesSize, IsRecordAt, IsFault, OnFault, Answers};
+ghost use Rattle.dv_records.specs.Faults.{GivesSize, IsRecordAt, IsFault, OnFault, Answers, lacks_guard};
 
 use crate::bodies::read_body;
 use crate::fault::{DecodeEnd, RecordFault};
@@ -12,8 +12,8 @@ use dv_model::Record;
 use dv_num::{size_value, u32_at};
 use std::alloc::Global;
 
-// The size of the record that these bytes begin, which are that many at least.
-fn size_of(bytes: &[u8]) -> Result<usize, RecordFault>
+/// The size of the record that these bytes begin, which are that many at least.
+pub fn size_of(bytes: &[u8]) -> Result<usize, RecordFault>
     ensures { GivesSize result bytes.now }
 {
     if bytes.len() < 4 || bytes[0] != 0x80 {
@@ -27,6 +27,13 @@ fn size_of(bytes: &[u8]) -> Result<usize, RecordFault>
     Ok(size)
 }
 
+/// Whether a type needs the bits that protect an expunge, and lacks them.
+pub fn lacks_guard(code: u32) -> bool
+    ensures { result ≡ lacks_guard code }
+{
+    code == types::UNGUARDED_EXPUNGE || code == types::UNGUARDED_EXPUNGE_GUID
+}
+
 // The record that these bytes begin, and its size.
 fn read_record(alloc: Global, bytes: &[u8]) -> Result<(Record, usize), DecodeEnd>
     ensures found { IfOk result (λ x. IsRecordAt x.0 x.1 bytes.now) }
@@ -35,7 +42,7 @@ fn read_record(alloc: Global, bytes: &[u8]) -> Result<(Record, usize), DecodeEnd
     let size = size_of(bytes)?;
     let kind = u32_at(bytes, 4);
     let code = kind % 0x1000_0000;
-    if code == types::UNGUARDED_EXPUNGE || code == types::UNGUARDED_EXPUNGE_GUID {
+    if lacks_guard(code) {
         return Err(DecodeEnd::Fault(RecordFault::BadGuard));
     }
     let body = read_body(alloc, code, &bytes[8..size])?;

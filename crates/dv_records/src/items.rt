@@ -1,6 +1,6 @@
-ghost use Rattle.std.specs.Prelude.{◌≡◌, List, ℕ, ◌+◌, ◌-◌, ◌<◌, ◌^◌, ◌||◌, not, nat_eq, nat_lt, Option, length};
+ghost use Rattle.std.specs.Prelude.{◌≡◌, ◌≤◌, List, ℕ, ◌+◌, ◌-◌, ◌<◌, ◌^◌, ◌||◌, not, nat_eq, nat_lt, Option, length};
 ghost use Rattle.dv_model.specs.Spelling.{IsPair, IsNewRow, IsChange, IsGuidRow, IsPart, IsIntro, padded};
-ghost use Rattle.dv_records.specs.Fronts.{GivesFront, pair_front, new_row_front, change_front, guid_row_front, part_front, intro_front};
+ghost use Rattle.dv_records.specs.Fronts.{GivesFront, front_size, padded_size, pair_front, new_row_front, change_front, guid_row_front, part_front, intro_front};
 
 use crate::fault::{DecodeEnd, RecordFault};
 use dv_model::{Change, GuidRow, Intro, List, NewRow, Pair, Part};
@@ -17,6 +17,10 @@ pub trait Read: Drop + Sized {
     ghost size: { Self → ℕ };
 
     ghost front: { List ℕ → Option Self };
+
+    /// How many bytes the item takes that begins these bytes; None where none does.
+    fn front_size(bytes: &[u8]) -> Option<usize>
+        ensures { result ≡ front_size size (front bytes.now) };
 
     /// The item that begins these bytes, and how many of them it takes.
     fn read(alloc: Global, bytes: &[u8]) -> Result<(Self, usize), DecodeEnd>
@@ -37,6 +41,88 @@ fn is_uid(uid: u32) -> bool
     uid != 0 && uid != u32::MAX
 }
 
+#[tactic(auto, unfolding(crate::specs::Fronts::pair_front))]
+fn pair_of(bytes: &[u8]) -> Option<Pair>
+    ensures { result ≡ pair_front bytes.now }
+{
+    if bytes.len() < 8 {
+        return None;
+    }
+    let first = u32_at(bytes, 0);
+    let last = u32_at(bytes, 4);
+    if !are_ends(first, last) {
+        return None;
+    }
+    Some(Pair { first, last })
+}
+
+#[tactic(auto, unfolding(crate::specs::Fronts::new_row_front))]
+fn new_row_of(bytes: &[u8]) -> Option<NewRow>
+    ensures { result ≡ new_row_front bytes.now }
+{
+    if bytes.len() < 8 {
+        return None;
+    }
+    let uid = u32_at(bytes, 0);
+    if !is_uid(uid) {
+        return None;
+    }
+    let flags = bytes[4];
+    Some(NewRow { uid, flags })
+}
+
+#[tactic(auto, unfolding(crate::specs::Fronts::change_front))]
+fn change_of(bytes: &[u8]) -> Option<Change>
+    ensures { result ≡ change_front bytes.now }
+{
+    if bytes.len() < 12 {
+        return None;
+    }
+    let first = u32_at(bytes, 0);
+    let last = u32_at(bytes, 4);
+    if !are_ends(first, last) {
+        return None;
+    }
+    Some(Change {
+        first,
+        last,
+        add: bytes[8],
+        remove: bytes[9],
+    })
+}
+
+#[tactic(auto, unfolding(crate::specs::Fronts::guid_row_front))]
+fn guid_row_of(bytes: &[u8]) -> Option<GuidRow>
+    ensures { result ≡ guid_row_front bytes.now }
+{
+    if bytes.len() < 20 {
+        return None;
+    }
+    let uid = u32_at(bytes, 0);
+    if !is_uid(uid) {
+        return None;
+    }
+    let mut guid = [0; 16];
+    guid.copy_from_slice(&bytes[4..20]);
+    Some(GuidRow { uid, guid })
+}
+
+/// How many bytes an item takes whose text stands behind so many, with its size in the two before.
+pub fn padded_size(bytes: &[u8], head: usize) -> Option<usize>
+    requires some { 2 ≤ head }
+    requires small { head < 2 ^ 16 }
+    ensures { result ≡ padded_size bytes.now head }
+{
+    if bytes.len() < head {
+        return None;
+    }
+    let size = padded(head + usize::from(u16_at(bytes, head - 2)));
+    if bytes.len() < size {
+        return None;
+    }
+    Some(size)
+}
+
 impl Read for Pair {
     ghost spelled = { IsPair };
 
@@ -44,17 +130,18 @@ impl Read for Pair {
 
     ghost front = { pair_front };
 
-    #[tactic(auto, unfolding(crate::specs::Fronts::pair_front))]
+    fn front_size(bytes: &[u8]) -> Option<usize> {
+        match pair_of(bytes) {
+            Some(_) => Some(8),
+            None => None,
+        }
+    }
+
     fn read(_: Global, bytes: &[u8]) -> Result<(Pair, usize), DecodeEnd> {
-        if bytes.len() < 8 {
-            return Err(BAD);
+        match pair_of(bytes) {
+            Some(pair) => Ok((pair, 8)),
+            None => Err(BAD),
         }
-        let first = u32_at(bytes, 0);
-        let last = u32_at(bytes, 4);
-        if !are_ends(first, last) {
-            return Err(BAD);
-        }
-        Ok((Pair { first, last }, 8))
     }
 }
 
@@ -65,17 +152,18 @@ impl Read for NewRow {
 
     ghost front = { new_row_front };
 
-    #[tactic(auto, unfolding(crate::specs::Fronts::new_row_front))]
+    fn front_size(bytes: &[u8]) -> Option<usize> {
+        match new_row_of(bytes) {
+            Some(_) => Some(8),
+            None => None,
+        }
+    }
+
     fn read(_: Global, bytes: &[u8]) -> Result<(NewRow, usize), DecodeEnd> {
-        if bytes.len() < 8 {
-            return Err(BAD);
+        match new_row_of(bytes) {
+            Some(row) => Ok((row, 8)),
+            None => Err(BAD),
         }
-        let uid = u32_at(bytes, 0);
-        if !is_uid(uid) {
-            return Err(BAD);
-        }
-        let flags = bytes[4];
-        Ok((NewRow { uid, flags }, 8))
     }
 }
 
@@ -86,23 +174,18 @@ impl Read for Change {
 
     ghost front = { change_front };
 
-    #[tactic(auto, unfolding(crate::specs::Fronts::change_front))]
+    fn front_size(bytes: &[u8]) -> Option<usize> {
+        match change_of(bytes) {
+            Some(_) => Some(12),
+            None => None,
+        }
+    }
+
     fn read(_: Global, bytes: &[u8]) -> Result<(Change, usize), DecodeEnd> {
-        if bytes.len() < 12 {
-            return Err(BAD);
+        match change_of(bytes) {
+            Some(change) => Ok((change, 12)),
+            None => Err(BAD),
         }
-        let first = u32_at(bytes, 0);
-        let last = u32_at(bytes, 4);
-        if !are_ends(first, last) {
-            return Err(BAD);
-        }
-        let change = Change {
-            first,
-            last,
-            add: bytes[8],
-            remove: bytes[9],
-        };
-        Ok((change, 12))
     }
 }
 
@@ -113,18 +196,18 @@ impl Read for GuidRow {
 
     ghost front = { guid_row_front };
 
-    #[tactic(auto, unfolding(crate::specs::Fronts::guid_row_front))]
+    fn front_size(bytes: &[u8]) -> Option<usize> {
+        match guid_row_of(bytes) {
+            Some(_) => Some(20),
+            None => None,
+        }
+    }
+
     fn read(_: Global, bytes: &[u8]) -> Result<(GuidRow, usize), DecodeEnd> {
-        if bytes.len() < 20 {
-            return Err(BAD);
+        match guid_row_of(bytes) {
+            Some(row) => Ok((row, 20)),
+            None => Err(BAD),
         }
-        let uid = u32_at(bytes, 0);
-        if !is_uid(uid) {
-            return Err(BAD);
-        }
-        let mut guid = [0; 16];
-        guid.copy_from_slice(&bytes[4..20]);
-        Ok((GuidRow { uid, guid }, 20))
     }
 }
 
@@ -136,16 +219,15 @@ impl Read for Part {
     ghost front = { part_front };
 
     #[tactic(auto, unfolding(crate::specs::Fronts::part_front))]
+    fn front_size(bytes: &[u8]) -> Option<usize> {
+        padded_size(bytes, 4)
+    }
+
+    #[tactic(auto, unfolding(crate::specs::Fronts::part_front))]
     fn read(alloc: Global, bytes: &[u8]) -> Result<(Part, usize), DecodeEnd> {
-        if bytes.len() < 4 {
-            return Err(BAD);
-        }
+        let size = padded_size(bytes, 4).ok_or(BAD)?;
         let offset = u16_at(bytes, 0);
         let len = usize::from(u16_at(bytes, 2));
-        let size = padded(4 + len);
-        if bytes.len() < size {
-            return Err(BAD);
-        }
         let bytes = List::from_slice(alloc, &bytes[4..4 + len])?;
         Ok((Part { offset, bytes }, size))
     }
@@ -159,15 +241,14 @@ impl Read for Intro {
     ghost front = { intro_front };
 
     #[tactic(auto, unfolding(crate::specs::Fronts::intro_front))]
+    fn front_size(bytes: &[u8]) -> Option<usize> {
+        padded_size(bytes, 20)
+    }
+
+    #[tactic(auto, unfolding(crate::specs::Fronts::intro_front))]
     fn read(alloc: Global, bytes: &[u8]) -> Result<(Intro, usize), DecodeEnd> {
-        if bytes.len() < 20 {
-            return Err(BAD);
-        }
+        let size = padded_size(bytes, 20).ok_or(BAD)?;
         let len = usize::from(u16_at(bytes, 18));
-        let size = padded(20 + len);
-        if bytes.len() < size {
-            return Err(BAD);
-        }
         let intro = Intro {
             ext_id: u32_at(bytes, 0),
             reset_id: u32_at(bytes, 4),

@@ -1,4 +1,4 @@
-ghost use Rattle.std.specs.Prelude.{◌≡◌, ◌↔◌, ◌+◌, length, take, drop, IsTrue, IfSome, IfNone};
+ghost use Rattle.std.specs.Prelude.{List, ℕ, ◌≡◌, ◌↔◌, ◌+◌, length, take, drop, IsTrue, IfSome, IfNone};
 ghost use Rattle.dv_model.specs.Names.{IsName, IsNameByte};
 ghost use Rattle.dv_model.specs.Spelling.{how_code};
 ghost use Rattle.dv_records.specs.Faults.{IsBodyOf};
@@ -45,23 +45,33 @@ pub fn is_name(name: &[u8]) -> bool
     true
 }
 
-// What stands in front of the ranges, and how many bytes it takes.
-fn read_front(alloc: Global, bytes: &[u8]) -> Result<(How, Bytes, usize), DecodeEnd>
-    ensures { Reads (λ x. IsKeywordFront x.0 x.1 x.2 bytes.now) result }
+/// What is done, the name, and how many bytes they take in front of the ranges.
+pub fn front_of(bytes: &[u8]) -> Option<(How, &[u8], usize)>
+    ensures some { IfSome result (λ x. IsKeywordFront x.0 x.1.now x.2 bytes.now) }
+    ensures none { IfNone result ((how : How) (name : List ℕ) (size : ℕ) →
+        IsKeywordFront how name size bytes.now → ⊥) }
 {
     if bytes.len() < 4 {
-        return Err(BAD);
+        return None;
     }
-    let how = how_of(bytes[0]).ok_or(BAD)?;
+    let how = how_of(bytes[0])?;
     let len = usize::from(u16_at(bytes, 2));
     let size = padded(4 + len);
     if bytes.len() < size {
-        return Err(BAD);
+        return None;
     }
     let name = &bytes[4..4 + len];
     if !is_name(name) {
-        return Err(BAD);
+        return None;
     }
+    Some((how, name, size))
+}
+
+// The same, with a copy of the name.
+fn read_front(alloc: Global, bytes: &[u8]) -> Result<(How, Bytes, usize), DecodeEnd>
+    ensures { Reads (λ x. IsKeywordFront x.0 x.1 x.2 bytes.now) result }
+{
+    let (how, name, size) = front_of(bytes).ok_or(BAD)?;
     Ok((how, List::from_slice(alloc, name)?, size))
 }
 

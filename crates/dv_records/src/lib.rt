@@ -2,6 +2,7 @@
 #![tactic(auto)]
 
 mod bodies;
+mod checking;
 mod decoding;
 mod encoding;
 mod fault;
@@ -11,6 +12,7 @@ mod lists;
 mod types;
 mod writing;
 
+pub use checking::check;
 pub use decoding::{decode, one_reading, spelled_is_valid};
 pub use encoding::encode;
 pub use fault::{DecodeEnd, RecordFault};

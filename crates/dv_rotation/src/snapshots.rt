@@ -1,5 +1,4 @@
-ghost use Rattle.std.specs.Prelude.{IfOk};
-ghost use Rattle.dv_chain.specs.Openings.{HasBounds};
+ghost use Rattle.std.specs.Prelude.{◌≤◌, IfOk};
 ghost use Rattle.dv_rotation.specs.Texts.{IsSnapshotOf};
 
 use dv_chain::Chain;
@@ -10,7 +9,7 @@ use std::alloc::Global;
 /// The text of the snapshot of a chain's mailbox at the end of its log. `NoMemory` is the only
 /// error; that is the answer too where the keywords and extensions would pass 4294967295 bytes.
 pub fn snapshot(alloc: Global, chain: &Chain) -> Result<Bytes, NoMemory>
-    requires { HasBounds chain.now }
+    requires named { 1 ≤ chain.now.indexid }
     ensures text { IfOk result (IsSnapshotOf chain.now) }
 {
     let mailbox = chain.live.mailbox(alloc)?;

@@ -1,7 +1,7 @@
 ghost use Rattle.std.specs.Prelude.{◌≡◌, ◌^◌, ◌<◌, ◌≤◌, IfErr, IfOk, unwrap_or, []};
 ghost use Rattle.dv_shelf.specs.Folders.{contents, counted};
 ghost use Rattle.dv_shelf.specs.declared.shelf.Name.TheVariants as name;
-ghost use Rattle.dv_chain.specs.Openings.{HasBounds, OnlyLooks};
+ghost use Rattle.dv_chain.specs.Openings.{OnlyLooks};
 ghost use Rattle.dv_chain.specs.Rest.{Owed, Rests};
 ghost use Rattle.dv_rotation.specs.declared.fault.ChainFault.TheVariants as fault;
 ghost use Rattle.dv_rotation.specs.Leavings.{HasFaultCause};
@@ -73,7 +73,7 @@ pub fn turn<S: Shelf>(
     now: u32,
 ) -> Result<Turn, ChainFault>
     requires room { chain.now.log.file_seq < 4294967295 }
-    requires bounds { HasBounds chain.now }
+    requires named { 1 ≤ chain.now.indexid }
     // The three texts.
     ensures is { IfOk result (IsTurnOf chain.now) }
     ensures old { S.tells → IfOk result (λ turn. turn.old

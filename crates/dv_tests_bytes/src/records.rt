@@ -17,6 +17,7 @@ fn worked_records_both_ways(rt: HostRuntime) -> Result<(), Fail> {
         let read = decode(rt.alloc(), text.as_slice(), 2);
         let (record, behind) = read.ok().ok_or("the bytes are a record")?;
         assert_eq!(rt; behind, 2 + bytes.len());
+        assert_eq!(rt; check(text.as_slice(), 2), Ok(2 + bytes.len()));
         assert_eq!(rt; record.top, top);
         assert_eq!(rt; numbers_of(rt.alloc(), &record.body)?.as_slice(), numbers);
         let mut written = List::from_slice(rt.alloc(), &[1, 2, 3])?;
@@ -32,6 +33,7 @@ fn expunge_with_guids_both_ways(rt: HostRuntime) -> Result<(), Fail> {
     let read = decode(rt.alloc(), &EXPUNGE, 0);
     let (record, behind) = read.ok().ok_or("the bytes are a record")?;
     assert_eq!(rt; behind, 108);
+    assert_eq!(rt; check(&EXPUNGE, 0), Ok(108));
     let numbers = numbers_of(rt.alloc(), &record.body)?;
     assert_eq!(rt; numbers.len(), 86);
     assert_eq!(rt; &numbers[..6], [0xed90, 5, 0, 0, 3, 0xe8].as_slice());
@@ -87,6 +89,7 @@ fn other_spellings_are_read(rt: HostRuntime) -> Result<(), Fail> {
         let read = decode(rt.alloc(), bytes, 0);
         let (record, behind) = read.ok().ok_or("the bytes are a record")?;
         assert_eq!(rt; behind, bytes.len());
+        assert_eq!(rt; check(bytes, 0), Ok(bytes.len()));
         let mut written = List::new(rt.alloc());
         assert!(rt; encode(rt.alloc(), &record, &mut written).is_ok());
         assert_eq!(rt; written.as_slice(), canonical);
@@ -106,7 +109,7 @@ fn refuses_prefixes(alloc: Global, bytes: &[u8]) -> bool {
     for n in 0..bytes.len() {
         let fault = if n < 4 { CLOSED } else { SIZE };
         let read = decode(alloc, &bytes[..n], 0);
-        if read.err() != Some(DecodeEnd::Fault(fault)) {
+        if read.err() != Some(DecodeEnd::Fault(fault)) || check(&bytes[..n], 0) != Err(fault) {
             return false;
         }
     }
@@ -231,6 +234,7 @@ fn hostile_bytes_are_refused(rt: HostRuntime) {
     for (place, (bytes, fault)) in HOSTILE.iter().enumerate() {
         let read = decode(rt.alloc(), bytes, 0);
         assert_eq!(rt; read.err(), Some(DecodeEnd::Fault(*fault)), "{place}");
+        assert_eq!(rt; check(bytes, 0), Err(*fault), "{place}");
     }
 }
 
@@ -245,6 +249,7 @@ fn keyword_names_end_at_255_bytes(rt: HostRuntime) -> Result<(), Fail> {
         }
         let read = decode(rt.alloc(), text.as_slice(), 0);
         assert_eq!(rt; read.is_ok(), is_name);
+        assert_eq!(rt; check(text.as_slice(), 0).is_ok(), is_name);
     }
     Ok(())
 }
