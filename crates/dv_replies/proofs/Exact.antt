@@ -10,13 +10,12 @@ use Rattle.dv_sets.specs.Answers.{Answers, OnBad}
 use Rattle.dv_sets.specs.declared.end.ParseEnd.{ParseEnd}
 use Rattle.dv_sets.specs.declared.end.ParseEnd.TheVariants.{Bad, NoMemory}
 use Rattle.dv_commands.specs.Reads.{Gives}
-use Rattle.dv_commands.proofs.Base.{bind_some, some_is}
+use Rattle.dv_commands.proofs.Base.{after_then, bind_some, parted, some_is}
+use Rattle.dv_commands.proofs.Names.{session_sound}
 use Rattle.dv_script.proofs.Printed.{session_here}
 use Rattle.dv_replies.specs.Lines.{Begins}
 use Rattle.dv_replies.specs.Reading.{line_at, reply_at, reply_of}
-use Rattle.dv_replies.proofs.Names.{session_sound}
 use Rattle.dv_replies.proofs.Replies.{reply_again, reply_takes}
-use Rattle.dv_replies.proofs.Steps.{after_then, parted}
 
 -- ---- lines
 
