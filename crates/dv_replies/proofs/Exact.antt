@@ -1,17 +1,16 @@
 -- The line of a reply is read where it begins the bytes, and nowhere else.
-use Rattle.std.proofs.Common.{◌≡◌, ℕ, ◌-◌, ◌≤◌, Bool, true, false, cond, List, ◌∷◌, ◌++◌, length, Some, None, Result, Ok, Err, IfOk, codes, refl, sym, ◌∙◌, ap, subst, arith, append_assoc}
+use Rattle.std.proofs.Common.{◌≡◌, ℕ, ◌-◌, ◌≤◌, List, ◌∷◌, ◌++◌, length, Some, Result, Ok, Err, IfOk, codes, refl, sym, ◌∙◌, ap, subst, arith, append_assoc}
 use Rattle.std.proofs.lemmas.List.{length-append}
 use Rattle.dv_model.specs.declared.types.Reply.{Reply}
 use Rattle.dv_model.specs.Texts.{line_text, reply_text}
-use Rattle.dv_formats.specs.Parsing.{◌>>=◌, after, before, from, is_byte, is_session_name, session_at}
+use Rattle.dv_formats.specs.Parsing.{◌>>=◌, after, session_at}
 use Rattle.dv_formats.specs.Replies.{IsReply}
 use Rattle.dv_formats.specs.Scripts.{IsSession}
 use Rattle.dv_sets.specs.Answers.{Answers, OnBad}
 use Rattle.dv_sets.specs.declared.end.ParseEnd.{ParseEnd}
 use Rattle.dv_sets.specs.declared.end.ParseEnd.TheVariants.{Bad, NoMemory}
 use Rattle.dv_commands.specs.Reads.{Gives}
-use Rattle.dv_commands.proofs.Base.{after_then, bind_some, parted, some_is}
-use Rattle.dv_commands.proofs.Names.{session_sound}
+use Rattle.dv_commands.proofs.Base.{after_then, bind_some, some_is}
 use Rattle.dv_grammar.proofs.NamedLines.{session_here, session_takes}
 use Rattle.dv_replies.specs.Lines.{Begins}
 use Rattle.dv_replies.specs.Reading.{line_at, reply_at, reply_of}

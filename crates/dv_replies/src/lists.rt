@@ -6,7 +6,7 @@ use crate::numbers::read_word;
 use dv_commands::{behind, split_word};
 use dv_model::{Bytes, List};
 use dv_records::is_name;
-use dv_sets::{flag_bit, ParseEnd};
+use dv_sets::{ParseEnd, flag_bit};
 use std::alloc::Global;
 
 /// Adds the numbers of 32 bits that have the separator before them, and gives what stands behind

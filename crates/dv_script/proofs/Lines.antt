@@ -1,7 +1,7 @@
 -- Reading line by line.
-use Rattle.std.proofs.Common.{◌≡◌, ℕ, zero, suc, ◌+◌, ◌≤◌, ◌<◌, List, [], ◌∷◌, ◌++◌, length, Option, Some, None, Ok, Err, refl, sym, ap, ◌∙◌, arith}
+use Rattle.std.proofs.Common.{◌≡◌, ℕ, zero, suc, ◌+◌, ◌≤◌, ◌<◌, List, [], ◌∷◌, ◌++◌, length, Option, Some, None, Ok, refl, sym, ap, ◌∙◌, arith}
 use Rattle.dv_formats.specs.Scripts.{NamedLine}
-use Rattle.dv_formats.specs.Parsing.{LineFault, as_list, fault_at, feeds_before, first_line, line_at, lines_at, parsed}
+use Rattle.dv_formats.specs.Parsing.{LineFault, as_list, feeds_before, first_line, line_at, lines_at, parsed}
 use Rattle.dv_grammar.proofs.GrammarScripts.{within}
 use Rattle.dv_grammar.proofs.Steps.{faulty, none_left}
 use Rattle.dv_script.specs.declared.types.Line.{Line}

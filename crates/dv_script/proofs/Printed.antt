@@ -1,12 +1,12 @@
 -- A script that is printed is parsed as the same lines.
-use Rattle.std.proofs.Common.{◌≡◌, inl, inr, ℕ, ◌^◌, ◌<◌, ◌≤◌, List, [], ◌∷◌, ◌++◌, length, map, All, Ok, codes, refl, sym, ◌∙◌, ap, arith, subst, append_assoc}
+use Rattle.std.proofs.Common.{◌≡◌, inl, inr, ℕ, ◌^◌, ◌<◌, ◌≤◌, List, [], ◌∷◌, ◌++◌, length, map, All, Ok, codes, refl, sym, ◌∙◌, ap, arith, append_assoc}
 use Rattle.std.specs.List.{AllByRecursion}
 use Rattle.std.proofs.lemmas.List.Concat.{flat_map-cons}
 use Rattle.std.proofs.lemmas.List.Elements.{All-cons, All-nil}
 use Rattle.dv_model.specs.declared.types.Command.{Command}
 use Rattle.dv_model.specs.declared.types.Command.TheVariants as command
 use Rattle.dv_formats.specs.Printing.{command_text, flags_text, line_text, script_text}
-use Rattle.dv_formats.specs.Scripts.{AreEnded, AreFlags, IsCommand, IsLine, IsLiteral, IsPiece, IsSession, IsShortLine, NamedLine, Piece, line_limit, pieces_lines, pieces_text, session_limit, sessions_of}
+use Rattle.dv_formats.specs.Scripts.{AreEnded, AreFlags, IsCommand, IsLine, IsLiteral, IsPiece, IsSession, IsShortLine, NamedLine, Piece, line_limit, pieces_lines, pieces_text}
 use Rattle.dv_formats.specs.Parsing.{parsed}
 use Rattle.dv_commands.proofs.PrintedCommands.{command_printed}
 use Rattle.dv_commands.proofs.PrintedFlags.{flags_printed}
