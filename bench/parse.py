@@ -29,10 +29,13 @@ def literal(size):
 
 SPANS = b"a FETCH " + b",".join(b"%d" % (n % 99_999 + 1) for n in range(10_000)) + b" (FLAGS)\n"
 
+WORDS = b"a STORE 1 FLAGS (" + b" ".join(b"%04x" % (n * 40_503 % 65_536) for n in range(13_000)) + b")\n"
+
 LINES = {
     "short lines": b"a NOOP\n",
     "lines of 64 sessions": b"".join(b"s%d NOOP\n" % n for n in range(64)),
     "FETCH of 10,000 ranges a line": SPANS,
+    "STORE of 13,000 keywords a line": WORDS,
     "SEARCH of 65,536 bytes a line": long_line(b"a SEARCH ", b"NOT ALL ", b"ALL"),
     "literals of 1 KiB": literal(1024),
 }
@@ -41,6 +44,7 @@ ALONE = {
     "one line of 65,536 bytes of NOT": long_line(b"a SEARCH ", b"NOT ", b""),
     "one line of 65,536 bytes of (": long_line(b"a SEARCH ", b"(", b""),
     "one line of 10,000 ranges": SPANS,
+    "one line of 13,000 keywords": WORDS,
     "one literal of 32 MiB": literal(32 * MEBIBYTE),
 }
 

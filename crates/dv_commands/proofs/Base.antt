@@ -1,9 +1,10 @@
 -- Reading step by step.
 use Rattle.std.proofs.Common.{◌≡◌, ℕ, ◌-◌, Bool, true, false, cond, ◌&&◌, List, ◌++◌, length, take, drop, Option, Some, None, refl, sym, ◌∙◌, ap, arith}
+use Rattle.std.specs.List.{position_or_len}
 use Rattle.std.specs.Str.{bytes_eq}
 use Rattle.std.proofs.lemmas.List.{take-append-drop, take_at, drop_at, length-append}
 use Rattle.std.proofs.lemmas.Slice.Eq.{bytes_eq-Decides}
-use Rattle.dv_formats.specs.Parsing.{◌>>=◌, after, ahead_of}
+use Rattle.dv_formats.specs.Parsing.{◌>>=◌, after, ahead_of, before, from}
 
 -- a step that gave something
 pub bind_some : {A B : Type 0} (r : Option A) (f : A → Option B) (y : B) → (r >>= f) ≡ Some y → (x : A) × (r ≡ Some x) × (f x ≡ Some y)
@@ -44,3 +45,17 @@ ahead_again text front =
     let start : take (length b - length text) b ≡ front = ap (λ k. take k b) n ∙ take_at front text (length front) refl in
     let same : bytes_eq (drop (length b - length text) b) text ≡ true = (bytes_eq-Decides (drop (length b - length text) b) text).1 end in
     rw (same, start) refl
+
+-- ---- one step after another
+
+pub after_then : {B P : Type 0} (text b : List ℕ) (f : List ℕ → Option B) (y : B) → (after text b >>= f) ≡ Some y
+    → ((rest : List ℕ) → b ≡ text ++ rest → f rest ≡ Some y → P) → P
+after_then {B} {P} text b f y e go = by_case (after text b) refl e
+  where
+    by_case : (r : Option (List ℕ)) → after text b ≡ r → (r >>= f) ≡ Some y → P
+    by_case (Some rest) is g = go rest (after_is text b rest is) g
+    by_case None is g = absurd cc
+
+-- what is read in parts, up to what stops it
+pub parted : (test : ℕ → Bool) (b : List ℕ) → b ≡ before test b ++ from test b
+parted test b = sym (take-append-drop (position_or_len test b) b)

@@ -4,6 +4,8 @@ pub mod Numbers
 pub mod Grammar
 pub mod Loops
 pub mod Nested
+pub mod Joined
+pub mod Names
 pub mod Words
 pub mod KeyWords
 pub mod KeyTrees

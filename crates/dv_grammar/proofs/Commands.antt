@@ -14,10 +14,10 @@ use Rattle.dv_model.specs.Mailboxes.{last_modseq}
 use Rattle.dv_model.specs.Texts.{spaced}
 use Rattle.dv_formats.specs.Scripts.{IsAppendStart, IsCommand, IsItem, IsModifier, IsSet, how_text, uid_text}
 use Rattle.dv_formats.specs.Parsing.{◌>>=◌, after, ahead_of, append_of, before, command_of, ended, fetch_of, flags_of, from, how_at, is_byte, is_stop, item_at, item_limit, list_at, modifier_at, number_of, plain_command, search_of, set_command, set_of, several, store_of, uid_command}
-use Rattle.dv_commands.proofs.Base.{after_is, ahead_is, bind_some, some_is}
+use Rattle.dv_commands.proofs.Base.{after_is, after_then, ahead_is, bind_some, parted, some_is}
 use Rattle.dv_commands.proofs.Grammar.{flags_sound, set_sound}
+use Rattle.dv_commands.proofs.Joined.{four, six, three}
 use Rattle.dv_commands.proofs.Numbers.{number_sound}
-use Rattle.dv_replies.proofs.Steps.{after_then, four, parted, six, three}
 use Rattle.dv_grammar.proofs.Keys.{sought_sound}
 use Rattle.dv_grammar.proofs.Lists.{AreFronts, IsFront, item_sound, several_sound}
 

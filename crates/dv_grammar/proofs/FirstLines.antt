@@ -2,14 +2,13 @@
 use Rattle.std.proofs.Common.{◌≡◌, ◌⊎◌, inl, inr, ℕ, zero, suc, ◌-◌, ◌<◌, Bool, true, false, not, ◌&&◌, List, [], ◌∷◌, ◌++◌, length, get_or, take, drop, Contains, Option, Some, None, codes, refl, sym, ◌∙◌, ap, subst, arith, append_assoc, nat_eq}
 use Rattle.std.specs.List.{position_or_len}
 use Rattle.std.specs.Str.Lines.{strip_carriage_return}
-use Rattle.std.proofs.lemmas.Bool.{and_parts, eqb-true}
-use Rattle.std.proofs.lemmas.List.{append-nil}
+use Rattle.std.proofs.lemmas.Bool.{and_parts, eq-eqb, eqb-true}
+use Rattle.std.proofs.lemmas.List.{append-nil, get_or-append_right, length-append, take_at}
 use Rattle.std.proofs.lemmas.List.Folds.{list_all-append}
 use Rattle.dv_formats.specs.Scripts.{IsLineEnd}
 use Rattle.dv_formats.specs.Parsing.{after, before, first_line, from, is_byte}
-use Rattle.dv_commands.proofs.Base.{after_is}
-use Rattle.dv_commands.proofs.Words.{Stops, goes_on}
-use Rattle.dv_replies.proofs.Steps.{parted}
+use Rattle.dv_commands.proofs.Base.{after_is, parted}
+use Rattle.dv_commands.proofs.Words.{Stops, append_goes_on, before_again, from_again, goes_on}
 
 -- what stands before the first byte of a kind has none, and what stands from it on begins with it
 parts : (test : ℕ → Bool) (b : List ℕ) → (goes_on test (before test b) ≡ true) × Stops test (from test b)
@@ -30,10 +29,14 @@ last_one zero (x ∷ []) long e = ap (λ y. y ∷ []) e
 last_one zero (x ∷ y ∷ p) long e = absurd (omega (arith, long))
 last_one (suc n) (x ∷ p) long e = ap (λ t. x ∷ t) (last_one n p (omega (arith, long)) e)
 
+-- a line end with what stands behind it, or the script's end
+abbrev pub IsEndedBy : List ℕ → List ℕ → Type 0
+IsEndedBy ending rest = IsLineEnd ending ⊎ ((ending ≡ []) × (rest ≡ []))
+
 pub record FirstIs (b : List ℕ) (x : List ℕ × List ℕ) : Type 0 where
   pub ending : List ℕ
   pub whole : b ≡ x.0 ++ (ending ++ x.1)
-  pub ended : IsLineEnd ending ⊎ ((ending ≡ []) × (x.1 ≡ []))
+  pub ended : IsEndedBy ending x.1
   pub free : goes_on (is_byte 10) x.0 ≡ true
 
 stripped : (part : List ℕ) → goes_on (is_byte 10) part ≡ true
@@ -94,3 +97,44 @@ feedless text free is = at text free is.0 is.1 is.2
     at [] go k less e = omega (arith, less)
     at (x ∷ t) go zero less e = let first = (and_parts (not (is_byte 10 x)) (goes_on (is_byte 10) t) go).0 in let none : not (is_byte 10 10) ≡ true = subst (λ y. not (is_byte 10 y) ≡ true) e first in cc
     at (x ∷ t) go (suc k) less e = at t (and_parts (not (is_byte 10 x)) (goes_on (is_byte 10) t) go).1 k (omega (arith, less)) e
+
+-- ---- a line with its end is read as the first one
+
+returned : (t : List ℕ) → strip_carriage_return (t ++ 13 ∷ []) ≡ t
+returned t =
+    let n : length (t ++ 13 ∷ []) - 1 ≡ length t = omega (arith, length-append t (13 ∷ [])) in
+    let last : get_or (t ++ 13 ∷ []) (length (t ++ 13 ∷ []) - 1) 0 ≡ 13 = ap (λ i. get_or (t ++ 13 ∷ []) i 0) n ∙ get_or-append_right t (13 ∷ []) (length t) (length t) 0 refl (omega arith) ∙ ap (λ i. get_or (13 ∷ []) i 0) (same_less (length t)) in
+    let init : take (length (t ++ 13 ∷ []) - 1) (t ++ 13 ∷ []) ≡ t = ap (λ i. take i (t ++ 13 ∷ [])) n ∙ take_at t (13 ∷ []) (length t) refl in
+    rw (eq-eqb (get_or (t ++ 13 ∷ []) (length (t ++ 13 ∷ []) - 1) 0) 13 last) init
+  where
+    same_less : (n : ℕ) → n - n ≡ 0
+    same_less n = omega arith
+
+feed_here : (t rest : List ℕ) → goes_on (is_byte 10) t ≡ true → ◌≡◌ {A = List ℕ × List ℕ} (first_line (t ++ 10 ∷ rest)) (strip_carriage_return t, rest)
+feed_here t rest free = rw (from_again (is_byte 10) t (10 ∷ rest) free refl) (rw (before_again (is_byte 10) t (10 ∷ rest) free refl) refl)
+
+both_here : (t rest : List ℕ) → goes_on (is_byte 10) t ≡ true → ◌≡◌ {A = List ℕ × List ℕ} (first_line (t ++ 13 ∷ 10 ∷ rest)) (t, rest)
+both_here t rest free =
+    let part = t ++ 13 ∷ [] in
+    ap first_line (sym (append_assoc t (13 ∷ []) (10 ∷ rest))) ∙ feed_here part rest (append_goes_on (is_byte 10) t (13 ∷ []) free refl) ∙ ap (λ u. (u, rest)) (returned t)
+
+last_here : (t : List ℕ) → goes_on (is_byte 10) t ≡ true → ◌≡◌ {A = List ℕ × List ℕ} (first_line t) (t, [])
+last_here t free = ap first_line (sym (append-nil t)) ∙ rw (from_again (is_byte 10) t [] free tt) (ap (λ u. (u, [])) (append-nil t))
+
+-- a carriage return that the line has may belong to its end
+pub read_first : (t ending rest : List ℕ) → goes_on (is_byte 10) t ≡ true → IsEndedBy ending rest → (P : List ℕ × List ℕ → Type 0)
+    → P (strip_carriage_return t, rest) → P (t, rest) → P (first_line (t ++ (ending ++ rest)))
+read_first t ending rest free (inl (inl feed)) P less whole = subst P (sym (ap (λ e. first_line (t ++ (e ++ rest))) feed ∙ feed_here t rest free)) less
+read_first t ending rest free (inl (inr both)) P less whole = subst P (sym (ap (λ e. first_line (t ++ (e ++ rest))) both ∙ both_here t rest free)) whole
+read_first t ending rest free (inr none) P less whole =
+    let same : ◌≡◌ {A = List ℕ × List ℕ} (first_line (t ++ (ending ++ rest))) (t, rest) = ap (λ e. first_line (t ++ (e ++ rest))) none.0 ∙ ap (λ r. first_line (t ++ r)) none.1 ∙ ap first_line (append-nil t) ∙ last_here t free ∙ ap (λ r. (t, r)) (sym none.1) in
+    subst P (sym same) whole
+
+-- what has no line feed goes on
+pub free_of_feeds : (t : List ℕ) → (Contains t 10 → ⊥) → goes_on (is_byte 10) t ≡ true
+free_of_feeds [] none = refl
+free_of_feeds (x ∷ t) none = by_test (nat_eq x 10) refl (free_of_feeds t (λ has. none (suc has.0, omega (arith, has.1), has.2)))
+  where
+    by_test : (f : Bool) → nat_eq x 10 ≡ f → goes_on (is_byte 10) t ≡ true → goes_on (is_byte 10) (x ∷ t) ≡ true
+    by_test true is others = absurd (none (0, omega arith, eqb-true x 10 is))
+    by_test false is others = rw (is, others) refl

@@ -14,11 +14,10 @@ use Rattle.dv_model.specs.declared.types.Key.TheVariants.{rolls-All, rolls-Has, 
 use Rattle.dv_model.specs.Texts.{spaced}
 use Rattle.dv_formats.specs.Scripts.{AreKeys, AreSought, IsKey, IsWord, flag_key, is_quotable, key_levels}
 use Rattle.dv_formats.specs.Parsing.{◌>>=◌, after, at_word, before, ended, from, header_key, is_byte, is_field_name, is_name, is_stop, key_at, key_flag, key_layer, keyword_key, larger_key, number_of, one_of, plain_key, search_of, set_of, several, uid_key, valued_key, word_key}
-use Rattle.dv_commands.proofs.Base.{after_is, bind_some, if_some, some_is}
+use Rattle.dv_commands.proofs.Base.{after_is, after_then, bind_some, if_some, parted, some_is}
 use Rattle.dv_commands.proofs.Grammar.{name_sound, set_sound}
+use Rattle.dv_commands.proofs.Names.{field_sound}
 use Rattle.dv_commands.proofs.Numbers.{number_sound}
-use Rattle.dv_replies.proofs.Names.{field_sound}
-use Rattle.dv_replies.proofs.Steps.{after_then, parted}
 use Rattle.dv_grammar.proofs.Lists.{AreFronts, IsFront, several_sound}
 
 -- ---- keys by their layers

@@ -2,5 +2,10 @@ pub mod Lists
 pub mod Keys
 pub mod Commands
 pub mod FirstLines
+pub mod NamedLines
+pub mod Steps
 pub mod ReadLines
+pub mod GrammarLines
+pub mod Beginnings
 pub mod ReadScripts
+pub mod GrammarScripts

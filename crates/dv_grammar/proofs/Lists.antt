@@ -8,9 +8,8 @@ use Rattle.dv_model.specs.declared.types.Item.TheVariants as item
 use Rattle.dv_model.specs.Texts.{spaced}
 use Rattle.dv_formats.specs.Scripts.{IsItem}
 use Rattle.dv_formats.specs.Parsing.{after, before, field_at, from, is_field_name, is_stop, item_at, plain_item, several, with_others}
-use Rattle.dv_commands.proofs.Base.{after_is, bind_some, if_some, some_is}
-use Rattle.dv_replies.proofs.Names.{field_sound}
-use Rattle.dv_replies.proofs.Steps.{parted}
+use Rattle.dv_commands.proofs.Base.{after_is, bind_some, if_some, parted, some_is}
+use Rattle.dv_commands.proofs.Names.{field_sound}
 
 -- ---- lists
 

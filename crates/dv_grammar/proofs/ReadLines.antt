@@ -10,14 +10,14 @@ use Rattle.dv_formats.specs.Scripts.{IsAppendStart, IsLine, IsLineEnd, IsLiteral
 use Rattle.dv_formats.specs.Parsing.{LineFault, TakenLine, after, append_of, as_list, behind_line_end, command_at, command_of, first_line, is_byte, is_skipped, line_at, literal_at, session_at, with_session}
 use Rattle.dv_commands.proofs.Base.{after_is, some_is}
 use Rattle.dv_commands.proofs.Words.{goes_on}
-use Rattle.dv_replies.proofs.Exact.{session_takes}
 use Rattle.dv_grammar.proofs.Commands.{append_sound, command_sound}
 use Rattle.dv_grammar.proofs.FirstLines.{FirstIs, feedless}
+use Rattle.dv_grammar.proofs.NamedLines.{session_takes}
 
 ok_is : {A E : Type 0} (x y : A) → ◌≡◌ {A = Result A E} (Ok x) (Ok y) → x ≡ y
 ok_is x y e = cc
 
-no_ok : {A E : Type 0} (x : E) (y : A) → ◌≡◌ {A = Result A E} (Err x) (Ok y) → ⊥
+pub no_ok : {A E : Type 0} (x : E) (y : A) → ◌≡◌ {A = Result A E} (Err x) (Ok y) → ⊥
 no_ok x y e = cc
 
 -- a good line begins the bytes, and what was read is what it says
@@ -228,7 +228,7 @@ pub record IsShort (names : List (List ℕ)) (b : List ℕ) : Type 0 where
   pub few : length (first_line b).1 < start.1
   pub allowed : length names ≤ session_limit → length (and_session names (session, command.Noop)) ≤ session_limit
 
-bad_short : {A : Type 0} → ◌≡◌ {A = Result A LineFault} (Err LineFault.bad) (Err LineFault.short) → ⊥
+pub bad_short : {A : Type 0} → ◌≡◌ {A = Result A LineFault} (Err LineFault.bad) (Err LineFault.short) → ⊥
 bad_short e = cc
 
 ok_short : {A : Type 0} (x : A) → ◌≡◌ {A = Result A LineFault} (Ok x) (Err LineFault.short) → ⊥

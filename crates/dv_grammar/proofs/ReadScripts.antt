@@ -1,23 +1,24 @@
 -- What is read is of the grammar: whole scripts.
-use Rattle.std.proofs.Common.{◌≡◌, ◌⊎◌, inl, inr, ℕ, zero, suc, ◌+◌, ◌-◌, ◌<◌, ◌≤◌, Bool, true, false, cond, List, [], ◌∷◌, ◌++◌, length, take, All, fold, Result, Ok, Err, refl, sym, ◌∙◌, ap, subst, arith, append_assoc, nat_eq, nat_lt}
+use Rattle.std.proofs.Common.{◌≡◌, ◌⊎◌, inl, inr, ℕ, zero, suc, ◌+◌, ◌<◌, ◌≤◌, Bool, true, false, cond, List, [], ◌∷◌, ◌++◌, length, All, fold, Result, Ok, Err, refl, sym, ◌∙◌, ap, subst, arith, append_assoc, nat_eq, nat_lt}
 use Rattle.std.specs.Prelude.{count_by}
-use Rattle.dv_model.specs.declared.types.Command.TheVariants as command
-use Rattle.std.proofs.lemmas.Bool.{eq-eqb, eqb-false, eqb-true, ltb-false, ltb-true, ne_eqb}
+use Rattle.std.proofs.lemmas.Bool.{ltb-false, ltb-true}
 use Rattle.std.proofs.lemmas.Grind.{flat_map-append}
-use Rattle.std.proofs.lemmas.List.{append-nil, length-append, take_at}
+use Rattle.std.proofs.lemmas.List.{append-nil, length-append}
 use Rattle.std.proofs.lemmas.List.Elements.{All-append, All-cons, All-head, All-nil, All-tail}
-use Rattle.std.proofs.lemmas.List.Sums.{fold-append, sum_by-append, sum_by-cons}
-use Rattle.dv_formats.specs.Scripts.{AreBefore, AreEnded, IsLineEnd, IsPiece, IsScript, IsShortLiteral, IsTooLong, NamedLine, Piece, and_session, line_number, pieces_lines, pieces_text, script_limit, session_limit, sessions_of}
-use Rattle.dv_formats.specs.Parsing.{LineFault, ScriptFault, TakenLine, as_list, behind_line, feeds_before, first_line, is_byte, line_at, lines_at, parsed}
+use Rattle.std.proofs.lemmas.List.Sums.{fold-append}
+use Rattle.dv_formats.specs.Scripts.{AreBefore, AreEnded, IsBadLine, IsLineEnd, IsPiece, IsScript, IsShortLiteral, IsTooLong, NamedLine, Piece, and_session, line_number, pieces_lines, pieces_text, script_limit, session_limit, sessions_of}
+use Rattle.dv_formats.specs.Parsing.{LineFault, ScriptFault, TakenLine, as_list, behind_line, feeds_before, first_line, line_at, lines_at, parsed}
+use Rattle.dv_grammar.proofs.Beginnings.{short_taken, taken_short, well_taken}
 use Rattle.dv_grammar.proofs.FirstLines.{first_is}
-use Rattle.dv_grammar.proofs.ReadLines.{IsRead, IsShort, line_sound, short_sound}
+use Rattle.dv_grammar.proofs.ReadLines.{IsRead, bad_short, line_sound, no_ok}
+use Rattle.dv_grammar.proofs.Steps.{count_append, feeds_are, none_left}
 
 -- what is read of a script is of the grammar
 abbrev pub HasLines : List ℕ → Result (List NamedLine) ScriptFault → Type 0
 HasLines script (Ok lines) = IsScript lines script
+HasLines script (Err (ScriptFault.BadLine k)) = IsBadLine script k
 HasLines script (Err (ScriptFault.ShortLiteral k)) = IsShortLiteral script k
 HasLines script (Err ScriptFault.TooLong) = IsTooLong script
-HasLines script (Err fault) = Unit {0}
 
 -- pieces with line ends, and perhaps a last one without
 all_ended : (pieces : List Piece) → All (λ (p : Piece). IsLineEnd p.ending) pieces → AreEnded pieces
@@ -46,23 +47,6 @@ one_more_text pieces p = flat_map-append (λ (q : Piece). q.text ++ q.ending) pi
 one_more_lines : (pieces : List Piece) (p : Piece) → pieces_lines (pieces ++ p ∷ []) ≡ pieces_lines pieces ++ p.lines
 one_more_lines pieces p = flat_map-append (λ (q : Piece). q.lines) pieces (p ∷ []) ∙ ap (λ t. pieces_lines pieces ++ t) (append-nil p.lines)
 
-abbrev once : Bool → ℕ
-once t = cond t 1 0
-
-count_append : (p : ℕ → Bool) (xs ys : List ℕ) → count_by p (xs ++ ys) ≡ count_by p xs + count_by p ys
-count_append p xs ys = sum_by-append (λ x. once (p x)) xs ys
-
-turned : (m n : ℕ) → nat_eq m n ≡ nat_eq n m
-turned m n = by_test (nat_eq n m) refl
-  where
-    by_test : (t : Bool) → nat_eq n m ≡ t → nat_eq m n ≡ t
-    by_test true is = eq-eqb m n (sym (eqb-true n m is))
-    by_test false is = ne_eqb m n (λ same. eqb-false n m is (sym same))
-
-same_feeds : (xs : List ℕ) → count_by (is_byte 10) xs ≡ count_by (nat_eq 10) xs
-same_feeds [] = refl
-same_feeds (x ∷ xs) = omega (arith, sum_by-cons (λ y. once (is_byte 10 y)) x xs, sum_by-cons (λ y. once (nat_eq 10 y)) x xs, ap once (turned x 10), same_feeds xs)
-
 module _ (script : List ℕ) (k : ℕ) (lines : List NamedLine) (names : List (List ℕ)) (b : List ℕ) (at : IsAt script k lines names b) (taken : TakenLine) (read : IsRead names b taken) where
   abbrev more : List NamedLine
   more = lines ++ as_list taken.0
@@ -87,9 +71,7 @@ module _ (script : List ℕ) (k : ℕ) (lines : List NamedLine) (names : List (L
       let part = read.piece.text ++ read.piece.ending in
       let old = pieces_text at.before.pieces in
       let whole : b ≡ part ++ taken.2 = read.whole ∙ sym (append_assoc read.piece.text read.piece.ending taken.2) in
-      let size : length b - length taken.2 ≡ length part = omega (arith, ap length whole, length-append part taken.2) in
-      let taken_part : take (length b - length taken.2) b ≡ part = ap (λ n. take n b) size ∙ ap (take (length part)) whole ∙ take_at part taken.2 (length part) refl in
-      let feeds : feeds_before b taken.2 ≡ count_by (nat_eq 10) part = ap (count_by (is_byte 10)) taken_part ∙ same_feeds part in
+      let feeds : feeds_before b taken.2 ≡ count_by (nat_eq 10) part = ap (λ t. feeds_before t taken.2) whole ∙ feeds_are part taken.2 in
       let before : k ≡ 1 + count_by (nat_eq 10) old = at.number ∙ ap line_number at.before.text in
       let after : count_by (nat_eq 10) (pieces_text (at.before.pieces ++ read.piece ∷ [])) ≡ count_by (nat_eq 10) old + count_by (nat_eq 10) part = ap (count_by (nat_eq 10)) (one_more_text at.before.pieces read.piece) ∙ count_append (nat_eq 10) old part in
       omega (arith, feeds, before, after)
@@ -126,40 +108,36 @@ module _ (script : List ℕ) (k : ℕ) (lines : List NamedLine) (names : List (L
   shorter (inl feed) = omega (arith, ap length read.whole, length-append read.piece.text (read.piece.ending ++ taken.2), length-append read.piece.ending taken.2, ap length feed)
   shorter (inr both) = omega (arith, ap length read.whole, length-append read.piece.text (read.piece.ending ++ taken.2), length-append read.piece.ending taken.2, ap length both)
 
-short_here : (script : List ℕ) (k : ℕ) (lines : List NamedLine) (names : List (List ℕ)) (b : List ℕ) → IsAt script k lines names b → IsShort names b → IsShortLiteral script k
-short_here script k lines names b at is = record {
+sessions_few : (script : List ℕ) (k : ℕ) (lines : List NamedLine) (names : List (List ℕ)) (b : List ℕ) (at : IsAt script k lines names b) → length names ≤ session_limit
+sessions_few script k lines names b at = subst (λ ns. length ns ≤ session_limit) (sym at.named) at.before.sessions
+
+short_here : (script : List ℕ) (k : ℕ) (lines : List NamedLine) (names : List (List ℕ)) (b : List ℕ) → IsAt script k lines names b
+    → line_at names (first_line b).0 (first_line b).1 ≡ Err LineFault.short → IsShortLiteral script k
+short_here script k lines names b at e = record {
   size = at.size;
   lines = lines;
   front = at.front;
   rest = b;
   text = at.text;
   before = at.before;
-  short = record {
-    session = is.session;
-    flags = is.start.0.0;
-    keywords = is.start.0.1;
-    number = is.start.1;
-    start = (first_line b).0;
-    ending = is.ending;
-    bytes = (first_line b).1;
-    starts = is.starts;
-    text = is.whole ∙ sym (append_assoc (first_line b).0 is.ending (first_line b).1);
-    ended = is.ended;
-    few = is.few;
-    allowed = may;
-  };
+  short = taken_short lines names at.named (sessions_few script k lines names b at) b e;
   is = at.number;
 }
-  where
-    may : length (sessions_of (lines ++ (is.session, command.Noop) ∷ [])) ≤ session_limit
-    may =
-        let same : sessions_of (lines ++ (is.session, command.Noop) ∷ []) ≡ and_session names (is.session, command.Noop) = fold-append and_session [] lines ((is.session, command.Noop) ∷ []) ∙ ap (λ ns. and_session ns (is.session, command.Noop)) (sym at.named) in
-        subst (λ ns. length ns ≤ session_limit) (sym same) (is.allowed (subst (λ ns. length ns ≤ session_limit) (sym at.named) at.before.sessions))
 
-nil_lines : (most k : ℕ) (lines : List NamedLine) (names : List (List ℕ)) → lines_at most k lines names [] ≡ Ok lines
-unfolding lines_at
-nil_lines zero k lines names = refl
-nil_lines (suc most) k lines names = refl
+bad_here : (script : List ℕ) (k : ℕ) (lines : List NamedLine) (names : List (List ℕ)) (b : List ℕ) → IsAt script k lines names b → 1 ≤ length b
+    → line_at names (first_line b).0 (first_line b).1 ≡ Err LineFault.bad → IsBadLine script k
+bad_here script k lines names b at some e = record {
+  size = at.size;
+  lines = lines;
+  front = at.front;
+  rest = b;
+  text = at.text;
+  before = at.before;
+  some = some;
+  bad = λ well. let taken = well_taken lines names at.named (sessions_few script k lines names b at) b well in no_ok LineFault.bad taken.0 (sym e ∙ taken.1);
+  not_short = λ short. bad_short (sym e ∙ short_taken lines names at.named (sessions_few script k lines names b at) b short);
+  is = at.number;
+}
 
 done : (script : List ℕ) (k : ℕ) (lines : List NamedLine) (names : List (List ℕ)) → IsAt script k lines names [] → IsScript lines script
 done script k lines names at = record {
@@ -174,7 +152,7 @@ done script k lines names at = record {
 
 lines_sound : (script : List ℕ) (most k : ℕ) (lines : List NamedLine) (names : List (List ℕ)) (b : List ℕ) → length b ≤ most → IsAt script k lines names b → HasLines script (lines_at most k lines names b)
 unfolding lines_at
-lines_sound script most k lines names [] few at = subst (HasLines script) (sym (nil_lines most k lines names)) (done script k lines names at)
+lines_sound script most k lines names [] few at = subst (HasLines script) (sym (none_left most k lines names)) (done script k lines names at)
 lines_sound script zero k lines names (x ∷ b) few at = absurd (omega (arith, few))
 lines_sound script (suc most) k lines names (x ∷ b) few at = by_line (line_at names (first_line (x ∷ b)).0 (first_line (x ∷ b)).1) refl (λ taken less next. lines_sound script most (k + feeds_before (x ∷ b) taken.2) (lines ++ as_list taken.0) taken.1 taken.2 (omega (arith, few, less)) next)
   where
@@ -184,14 +162,14 @@ lines_sound script (suc most) k lines names (x ∷ b) few at = by_line (line_at 
         → HasLines script (lines_at most (k + feeds_before (x ∷ b) taken.2) (lines ++ as_list taken.0) taken.1 taken.2)
     by_end taken read others (inl ends) = others (shorter script k lines names (x ∷ b) at taken read ends) (goes_on script k lines names (x ∷ b) at taken read ends)
     by_end taken read others (inr none) =
-        let same : lines_at most (k + feeds_before (x ∷ b) taken.2) (lines ++ as_list taken.0) taken.1 taken.2 ≡ Ok (lines ++ as_list taken.0) = ap (lines_at most (k + feeds_before (x ∷ b) taken.2) (lines ++ as_list taken.0) taken.1) none.1 ∙ nil_lines most (k + feeds_before (x ∷ b) taken.2) (lines ++ as_list taken.0) taken.1 in
+        let same : lines_at most (k + feeds_before (x ∷ b) taken.2) (lines ++ as_list taken.0) taken.1 taken.2 ≡ Ok (lines ++ as_list taken.0) = ap (lines_at most (k + feeds_before (x ∷ b) taken.2) (lines ++ as_list taken.0) taken.1) none.1 ∙ none_left most (k + feeds_before (x ∷ b) taken.2) (lines ++ as_list taken.0) taken.1 in
         subst (HasLines script) (sym same) (ends_here script k lines names (x ∷ b) at taken read (omega arith) none.0 none.1)
 
     by_line : (r : Result TakenLine LineFault) → line_at names (first_line (x ∷ b)).0 (first_line (x ∷ b)).1 ≡ r
         → ((taken : TakenLine) → length taken.2 < length (x ∷ b) → IsAt script (k + feeds_before (x ∷ b) taken.2) (lines ++ as_list taken.0) taken.1 taken.2 → HasLines script (lines_at most (k + feeds_before (x ∷ b) taken.2) (lines ++ as_list taken.0) taken.1 taken.2))
         → HasLines script (behind_line k r (λ taken. lines_at most (k + feeds_before (x ∷ b) taken.2) (lines ++ as_list taken.0) taken.1 taken.2))
-    by_line (Err LineFault.bad) is others = tt
-    by_line (Err LineFault.short) is others = short_here script k lines names (x ∷ b) at (short_sound names (x ∷ b) (first_is (x ∷ b)) is)
+    by_line (Err LineFault.bad) is others = bad_here script k lines names (x ∷ b) at (omega arith) is
+    by_line (Err LineFault.short) is others = short_here script k lines names (x ∷ b) at is
     by_line (Ok taken) is others = let read = line_sound names (x ∷ b) taken (first_is (x ∷ b)) is in by_end taken read (others taken) read.ended
 
 pub script_sound : (script : List ℕ) → HasLines script (parsed script)

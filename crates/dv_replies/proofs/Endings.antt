@@ -13,11 +13,12 @@ use Rattle.dv_model.specs.Texts.{given_text, mark_text, modified_text, reply_tex
 use Rattle.dv_formats.specs.Parsing.{◌>>=◌, after, before, from, is_byte}
 use Rattle.dv_formats.specs.Replies.{AreNumbers, IsGiven, IsPlace, IsReply}
 use Rattle.dv_formats.proofs.Stops.{comma_words}
-use Rattle.dv_commands.proofs.Base.{bind_some, some_is}
+use Rattle.dv_commands.proofs.Base.{after_then, bind_some, parted, some_is}
+use Rattle.dv_commands.proofs.Joined.{four, seven, six}
 use Rattle.dv_commands.proofs.Words.{Stops}
 use Rattle.dv_replies.specs.Reading.{bad_at, done_at, each_behind, given_at, gone_at, is_no_digit, message_at, modified_at, name_at, refused_at, word_at, word_of}
 use Rattle.dv_replies.proofs.Marks.{mark_again, mark_then}
-use Rattle.dv_replies.proofs.Steps.{after_then, each_again, each_takes, else_then, four, list_long, list_text, number_again, number_takes, number_then, parted, seven, six}
+use Rattle.dv_replies.proofs.Steps.{each_again, each_takes, else_then, list_long, list_text, number_again, number_takes, number_then}
 
 abbrev pub IsOf : List ℕ → Reply × List ℕ → Type 0
 IsOf b y = IsReply y.0 × (b ≡ reply_text y.0 ++ y.1)

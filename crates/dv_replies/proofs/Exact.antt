@@ -1,22 +1,20 @@
 -- The line of a reply is read where it begins the bytes, and nowhere else.
-use Rattle.std.proofs.Common.{◌≡◌, ℕ, ◌-◌, ◌≤◌, Bool, true, false, cond, List, ◌∷◌, ◌++◌, length, Some, None, Result, Ok, Err, IfOk, codes, refl, sym, ◌∙◌, ap, subst, arith, append_assoc}
+use Rattle.std.proofs.Common.{◌≡◌, ℕ, ◌-◌, ◌≤◌, List, ◌∷◌, ◌++◌, length, Some, Result, Ok, Err, IfOk, codes, refl, sym, ◌∙◌, ap, subst, arith, append_assoc}
 use Rattle.std.proofs.lemmas.List.{length-append}
 use Rattle.dv_model.specs.declared.types.Reply.{Reply}
 use Rattle.dv_model.specs.Texts.{line_text, reply_text}
-use Rattle.dv_formats.specs.Parsing.{◌>>=◌, after, before, from, is_byte, is_session_name, session_at}
+use Rattle.dv_formats.specs.Parsing.{◌>>=◌, after, session_at}
 use Rattle.dv_formats.specs.Replies.{IsReply}
 use Rattle.dv_formats.specs.Scripts.{IsSession}
 use Rattle.dv_sets.specs.Answers.{Answers, OnBad}
 use Rattle.dv_sets.specs.declared.end.ParseEnd.{ParseEnd}
 use Rattle.dv_sets.specs.declared.end.ParseEnd.TheVariants.{Bad, NoMemory}
 use Rattle.dv_commands.specs.Reads.{Gives}
-use Rattle.dv_commands.proofs.Base.{bind_some, some_is}
-use Rattle.dv_script.proofs.Printed.{session_here}
+use Rattle.dv_commands.proofs.Base.{after_then, bind_some, some_is}
+use Rattle.dv_grammar.proofs.NamedLines.{session_here, session_takes}
 use Rattle.dv_replies.specs.Lines.{Begins}
 use Rattle.dv_replies.specs.Reading.{line_at, reply_at, reply_of}
-use Rattle.dv_replies.proofs.Names.{session_sound}
 use Rattle.dv_replies.proofs.Replies.{reply_again, reply_takes}
-use Rattle.dv_replies.proofs.Steps.{after_then, parted}
 
 -- ---- lines
 
@@ -29,18 +27,6 @@ LineIs b y = IsSession y.0 × IsReply y.1 × (b ≡ line_text y.0 y.1 ++ y.2)
 line_whole : (session : List ℕ) (r : Reply) (b c d e rest : List ℕ) → b ≡ session ++ c → c ≡ codes " " ++ d → d ≡ reply_text r ++ e → e ≡ codes "\n" ++ rest
     → b ≡ line_text session r ++ rest
 line_whole session r b c d e rest p q s t = rw (p, q, s, t) (simp append_assoc)
-
-pub session_takes : (b : List ℕ) (y : List ℕ × List ℕ) → session_at b ≡ Some y → IsSession y.0 × (b ≡ y.0 ++ 32 ∷ y.1)
-session_takes b y e = by_test (is_session_name name) refl e
-  where
-    name : List ℕ
-    name = before (is_byte 32) b
-
-    by_test : (t : Bool) → is_session_name (before (is_byte 32) b) ≡ t
-        → cond t (after (codes " ") (from (is_byte 32) b) >>= λ rest. Some (before (is_byte 32) b, rest)) None ≡ Some y → IsSession y.0 × (b ≡ y.0 ++ 32 ∷ y.1)
-    by_test true is f = after_then (codes " ") (from (is_byte 32) b) _ y f (λ rest p g.
-        subst (λ (z : List ℕ × List ℕ). IsSession z.0 × (b ≡ z.0 ++ 32 ∷ z.1)) (some_is (before (is_byte 32) b, rest) y g) (session_sound (before (is_byte 32) b) is, parted (is_byte 32) b ∙ ap (λ t. before (is_byte 32) b ++ t) p))
-    by_test false is f = absurd cc
 
 pub line_takes : (b : List ℕ) (y : Line) → line_at b ≡ Some y → LineIs b y
 unfolding line_at

@@ -15,12 +15,13 @@ use Rattle.dv_model.specs.Texts.{flag_words, spaced, value_text}
 use Rattle.dv_formats.specs.Parsing.{◌>>=◌, after, before, from, is_name, is_stop}
 use Rattle.dv_formats.specs.Replies.{IsValue}
 use Rattle.dv_formats.specs.Scripts.{flag_bit}
-use Rattle.dv_commands.proofs.Base.{bind_some, if_some, some_is}
+use Rattle.dv_commands.proofs.Base.{after_then, bind_some, if_some, parted, some_is}
 use Rattle.dv_commands.proofs.Grammar.{name_complete, name_sound}
+use Rattle.dv_commands.proofs.Joined.{three}
 use Rattle.dv_commands.proofs.Plain.{system_word}
 use Rattle.dv_commands.proofs.Words.{before_again, from_again, goes_on, name_goes_on}
 use Rattle.dv_replies.specs.Reading.{behind_else, flag_behind, flag_list_at, flags_at}
-use Rattle.dv_replies.proofs.Steps.{after_then, else_then, parted, three}
+use Rattle.dv_replies.proofs.Steps.{else_then}
 
 abbrev State : Type 0
 State = ℕ × List (List ℕ)

@@ -2,7 +2,6 @@ pub mod Steps
 pub mod Loops
 pub mod Marks
 pub mod Flags
-pub mod Names
 pub mod Values
 pub mod Endings
 pub mod Replies

@@ -7,10 +7,10 @@ use Rattle.dv_model.specs.declared.types.Mark.{Mark}
 use Rattle.dv_model.specs.Texts.{literal, mark_text}
 use Rattle.dv_formats.specs.Replies.{IsPlace}
 use Rattle.dv_formats.specs.Parsing.{◌>>=◌}
-use Rattle.dv_commands.proofs.Base.{bind_some, some_is}
+use Rattle.dv_commands.proofs.Base.{after_then, bind_some, some_is}
 use Rattle.dv_commands.proofs.Words.{Stops}
 use Rattle.dv_replies.specs.Reading.{is_no_digit, literal_at, mark_at}
-use Rattle.dv_replies.proofs.Steps.{after_then, number_again, number_then}
+use Rattle.dv_replies.proofs.Steps.{number_again, number_then}
 
 -- ---- marks
 

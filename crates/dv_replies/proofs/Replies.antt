@@ -11,10 +11,11 @@ use Rattle.dv_model.specs.Texts.{given_text, mark_text, modified_text, reply_tex
 use Rattle.dv_formats.specs.Parsing.{◌>>=◌, after}
 use Rattle.dv_formats.specs.Replies.{AreNumbers, IsReply, IsValue}
 use Rattle.dv_formats.proofs.Stops.{spaced_map}
-use Rattle.dv_commands.proofs.Base.{bind_some, some_is}
+use Rattle.dv_commands.proofs.Base.{after_then, bind_some, some_is}
+use Rattle.dv_commands.proofs.Joined.{five, four, seven, six, three}
 use Rattle.dv_commands.proofs.Words.{IsDigit, Stops, digits_are}
 use Rattle.dv_replies.specs.Reading.{bad_at, bracketed_at, each_behind, fetch_at, is_no_digit, numbered_at, refused_at, reply_at, search_at, untagged_at, value_at, word_at}
-use Rattle.dv_replies.proofs.Steps.{after_then, each_again, each_takes, else_then, five, four, list_long, list_text, number_again, number_takes, number_then, seven, six, three}
+use Rattle.dv_replies.proofs.Steps.{each_again, each_takes, else_then, list_long, list_text, number_again, number_takes, number_then}
 use Rattle.dv_replies.proofs.Endings.{IsOf, bad_takes, damaged_again, done_again, done_takes, gone_again, no_message_again, refused_takes, too_long_again, unavailable_again}
 use Rattle.dv_replies.proofs.Values.{value_again, value_takes}
 

@@ -1,26 +1,17 @@
 -- Reading step by step: what a step took begins the bytes.
-use Rattle.std.proofs.Common.{◌≡◌, ℕ, zero, suc, ◌^◌, ◌<◌, ◌≤◌, Bool, true, false, List, [], ◌∷◌, ◌++◌, length, All, Option, Some, None, flat_map, refl, sym, ◌∙◌, ap, subst, arith, append_assoc}
+use Rattle.std.proofs.Common.{◌≡◌, ℕ, zero, suc, ◌^◌, ◌<◌, ◌≤◌, true, false, List, [], ◌∷◌, ◌++◌, length, All, Option, Some, None, flat_map, refl, sym, ◌∙◌, ap, subst, arith, append_assoc}
 use Rattle.std.specs.Fmt.{decimal}
-use Rattle.std.specs.List.{position_or_len}
 use Rattle.std.proofs.lemmas.Bool.{eq-eqb}
 use Rattle.std.proofs.lemmas.Bool.Decides.{nat_tests}
-use Rattle.std.proofs.lemmas.List.{append-nil, length-append, take-append-drop}
+use Rattle.std.proofs.lemmas.List.{append-nil, length-append}
 use Rattle.std.proofs.lemmas.List.Elements.{All-cons, All-head, All-nil, All-tail}
 use Rattle.dv_formats.specs.Parsing.{◌>>=◌, after, before, from, number_of}
-use Rattle.dv_commands.proofs.Base.{after_is, bind_some, some_is}
+use Rattle.dv_commands.proofs.Base.{after_is, bind_some, parted, some_is}
 use Rattle.dv_commands.proofs.Numbers.{number_complete, number_sound}
 use Rattle.dv_commands.proofs.Words.{IsDigit, Stops, all_goes_on, before_again, digits_are, from_again, goes_on}
 use Rattle.dv_replies.specs.Reading.{behind_else, each_behind, is_no_digit, number_at}
 
 -- ---- a text that begins the bytes
-
-pub after_then : {B P : Type 0} (text b : List ℕ) (f : List ℕ → Option B) (y : B) → (after text b >>= f) ≡ Some y
-    → ((rest : List ℕ) → b ≡ text ++ rest → f rest ≡ Some y → P) → P
-after_then {B} {P} text b f y e go = by_case (after text b) refl e
-  where
-    by_case : (r : Option (List ℕ)) → after text b ≡ r → (r >>= f) ≡ Some y → P
-    by_case (Some rest) is g = go rest (after_is text b rest is) g
-    by_case None is g = absurd cc
 
 pub else_then : {B P : Type 0} (text b : List ℕ) (read : List ℕ → Option B) (other : Option B) (y : B) → behind_else (after text b) read other ≡ Some y
     → ((rest : List ℕ) → b ≡ text ++ rest → read rest ≡ Some y → P) → (other ≡ Some y → P) → P
@@ -29,10 +20,6 @@ else_then {B} {P} text b read other y e go none = by_case (after text b) refl e
     by_case : (r : Option (List ℕ)) → after text b ≡ r → behind_else r read other ≡ Some y → P
     by_case (Some rest) is g = go rest (after_is text b rest is) g
     by_case None is g = none g
-
--- what is read in parts, up to what stops it
-pub parted : (test : ℕ → Bool) (b : List ℕ) → b ≡ before test b ++ from test b
-parted test b = sym (take-append-drop (position_or_len test b) b)
 
 -- ---- numbers
 
@@ -116,20 +103,3 @@ list_long f s (a ∷ items) rest some =
     let others = list_long f s items rest some in
     let whole : length (list_text f s (a ∷ items) ++ rest) ≡ suc (length (f a ++ (list_text f s items ++ rest))) = ap (λ t. suc (length t)) (append_assoc (f a) (list_text f s items) rest) in
     omega (arith, others, whole, length-append (f a) (list_text f s items ++ rest))
-
--- ---- texts with their parts one behind another
-
-pub three : (a b c x : List ℕ) → ((a ++ b) ++ c) ++ x ≡ a ++ (b ++ (c ++ x))
-three a b c x = append_assoc (a ++ b) c x ∙ append_assoc a b (c ++ x)
-
-pub four : (a b c d x : List ℕ) → (((a ++ b) ++ c) ++ d) ++ x ≡ a ++ (b ++ (c ++ (d ++ x)))
-four a b c d x = append_assoc (a ++ b ++ c) d x ∙ three a b c (d ++ x)
-
-pub five : (a b c d e x : List ℕ) → ((((a ++ b) ++ c) ++ d) ++ e) ++ x ≡ a ++ (b ++ (c ++ (d ++ (e ++ x))))
-five a b c d e x = append_assoc (a ++ b ++ c ++ d) e x ∙ four a b c d (e ++ x)
-
-pub six : (a b c d e f x : List ℕ) → (((((a ++ b) ++ c) ++ d) ++ e) ++ f) ++ x ≡ a ++ (b ++ (c ++ (d ++ (e ++ (f ++ x)))))
-six a b c d e f x = append_assoc (a ++ b ++ c ++ d ++ e) f x ∙ five a b c d e (f ++ x)
-
-pub seven : (a b c d e f g x : List ℕ) → ((((((a ++ b) ++ c) ++ d) ++ e) ++ f) ++ g) ++ x ≡ a ++ (b ++ (c ++ (d ++ (e ++ (f ++ (g ++ x))))))
-seven a b c d e f g x = append_assoc (a ++ b ++ c ++ d ++ e ++ f) g x ∙ six a b c d e f (g ++ x)

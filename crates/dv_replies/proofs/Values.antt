@@ -7,13 +7,14 @@ use Rattle.dv_model.specs.Texts.{flag_words, literal, spaced, value_text}
 use Rattle.dv_formats.specs.Parsing.{◌>>=◌, after, before, from, is_field_name, is_stop}
 use Rattle.dv_formats.specs.Replies.{IsValue}
 use Rattle.dv_formats.specs.Scripts.{IsFieldName}
-use Rattle.dv_commands.proofs.Base.{bind_some, if_some, some_is}
+use Rattle.dv_commands.proofs.Base.{after_then, bind_some, if_some, parted, some_is}
+use Rattle.dv_commands.proofs.Joined.{four, three}
+use Rattle.dv_commands.proofs.Names.{field_sound}
 use Rattle.dv_commands.proofs.Words.{Stops, before_again, field_goes_on, field_test, from_again}
 use Rattle.dv_replies.specs.Reading.{behind_else, body_at, field_value_at, is_no_digit, literal_at, modseq_at, size_at, value_at}
 use Rattle.dv_replies.proofs.Flags.{flag_list_again, flag_list_takes}
-use Rattle.dv_replies.proofs.Names.{field_sound}
 use Rattle.dv_replies.proofs.Marks.{literal_again, literal_then}
-use Rattle.dv_replies.proofs.Steps.{after_then, else_then, four, number_again, number_then, parted, three}
+use Rattle.dv_replies.proofs.Steps.{else_then, number_again, number_then}
 
 abbrev ValueIs : List ℕ → Value × List ℕ → Type 0
 ValueIs b y = IsValue y.0 × (b ≡ value_text y.0 ++ y.1)

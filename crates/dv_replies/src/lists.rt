@@ -1,5 +1,4 @@
-ghost use Rattle.std.specs.Prelude.{◌≡◌, [], length, Some, None};
-ghost use Rattle.dv_formats.specs.Scripts.{flag_bit};
+ghost use Rattle.std.specs.Prelude.{[], length};
 ghost use Rattle.dv_commands.specs.Reads.{Gives};
 ghost use Rattle.dv_replies.specs.Reading.{each_behind, flag_behind, flags_at, keyword_behind, word_at};
 
@@ -7,7 +6,7 @@ use crate::numbers::read_word;
 use dv_commands::{behind, split_word};
 use dv_model::{Bytes, List};
 use dv_records::is_name;
-use dv_sets::ParseEnd;
+use dv_sets::{ParseEnd, flag_bit};
 use std::alloc::Global;
 
 /// Adds the numbers of 32 bits that have the separator before them, and gives what stands behind
@@ -30,27 +29,6 @@ pub(crate) fn add_numbers<'a>(
         rest = end;
     }
     Err(ParseEnd::Bad)
-}
-
-fn flag_bit(word: &[u8]) -> Option<u8>
-    ensures { result ≡ flag_bit word.now }
-{
-    if word == b"\\Answered".as_slice() {
-        return Some(1);
-    }
-    if word == b"\\Flagged".as_slice() {
-        return Some(2);
-    }
-    if word == b"\\Deleted".as_slice() {
-        return Some(4);
-    }
-    if word == b"\\Seen".as_slice() {
-        return Some(8);
-    }
-    if word == b"\\Draft".as_slice() {
-        return Some(16);
-    }
-    None
 }
 
 // Keywords come behind the others.

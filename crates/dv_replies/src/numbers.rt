@@ -20,7 +20,7 @@ fn end_of_digits(b: &[u8]) -> Option<usize>
     b.iter().position(|byte| is_no_digit(*byte))
 }
 
-#[tactic(auto, using(dv_commands::proofs::Places::place_or_end, dv_commands::proofs::Places::place_within))]
+#[tactic(auto, using(dv_commands::proofs::Places::place_or_end))]
 fn digits_or_all(b: &[u8]) -> usize
     ensures place { result ≡ position_or_len is_no_digit b.now }
     ensures within { result ≤ length b.now }

@@ -1,8 +1,9 @@
 -- Reading line by line.
-use Rattle.std.proofs.Common.{◌≡◌, ℕ, zero, suc, ◌+◌, ◌≤◌, ◌<◌, List, [], ◌∷◌, ◌++◌, length, Option, Some, None, Ok, Err, refl, sym, ap, ◌∙◌, arith}
-use Rattle.std.proofs.lemmas.Bool.{le-ltb, lt-ltb}
-use Rattle.dv_formats.specs.Scripts.{NamedLine, script_limit}
-use Rattle.dv_formats.specs.Parsing.{LineFault, ScriptFault, as_list, fault_at, feeds_before, first_line, line_at, lines_at, parsed}
+use Rattle.std.proofs.Common.{◌≡◌, ℕ, zero, suc, ◌+◌, ◌≤◌, ◌<◌, List, [], ◌∷◌, ◌++◌, length, Option, Some, None, Ok, refl, sym, ap, ◌∙◌, arith}
+use Rattle.dv_formats.specs.Scripts.{NamedLine}
+use Rattle.dv_formats.specs.Parsing.{LineFault, as_list, feeds_before, first_line, line_at, lines_at, parsed}
+use Rattle.dv_grammar.proofs.GrammarScripts.{within}
+use Rattle.dv_grammar.proofs.Steps.{faulty, none_left}
 use Rattle.dv_script.specs.declared.types.Line.{Line}
 use Rattle.dv_script.specs.declared.script.LineEnd.{LineEnd}
 use Rattle.dv_script.specs.declared.script.LineEnd.TheVariants as line_end
@@ -41,21 +42,6 @@ goes_on b k lines more line names others (x ∷ rest) next so_far some less read
       same = ap (λ ls. lines_at most (k + feeds_before (x ∷ rest) next) ls others next) (ap all_named added ∙ named_more lines line) ∙ sym (rw read refl) ∙ same;
     }
 
-pub within : (b : List ℕ) → length b ≤ 67108864 → parsed b ≡ lines_at (length b) 1 [] [] b
-unfolding parsed
-within b short = rw (le-ltb script_limit (length b) short) refl
-
-pub beyond : (b : List ℕ) → 67108864 < length b → parsed b ≡ Err ScriptFault.TooLong
-unfolding parsed
-beyond b long = rw (lt-ltb script_limit (length b) long) refl
-
-faulty : (most k : ℕ) (lines : List NamedLine) (names : List (List ℕ)) (rest : List ℕ) (fault : LineFault) → 0 < length rest → length rest ≤ most
-    → line_at names (first_line rest).0 (first_line rest).1 ≡ Err fault → lines_at most k lines names rest ≡ Err (fault_at k fault)
-unfolding lines_at
-faulty most k lines names [] fault some enough e = absurd (omega (arith, some))
-faulty zero k lines names (x ∷ rest) fault some enough e = absurd (omega (arith, enough))
-faulty (suc most) k lines names (x ∷ rest) fault some enough e = rw e refl
-
 -- a line with a fault
 pub fails : (b : List ℕ) (k : ℕ) (lines : List Line) (names : List (List ℕ)) (rest : List ℕ) (end : LineEnd)
     → IsReadTo b k lines names rest → 0 < length rest → length b ≤ 67108864
@@ -67,8 +53,7 @@ fails b k lines names rest line_end.Short so_far some short fault = within b sho
 
 -- all was read
 ended : (most k : ℕ) (lines : List NamedLine) (names : List (List ℕ)) (rest : List ℕ) → length rest ≡ 0 → lines_at most k lines names rest ≡ Ok lines
-unfolding lines_at
-ended most k lines names [] empty = refl
+ended most k lines names [] empty = none_left most k lines names
 ended most k lines names (x ∷ rest) empty = absurd (omega (arith, empty))
 
 pub done : (b : List ℕ) (k : ℕ) (lines : List Line) (names : List (List ℕ)) (rest : List ℕ) → IsReadTo b k lines names rest → length rest ≡ 0 → length b ≤ 67108864

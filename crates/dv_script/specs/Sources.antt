@@ -1,6 +1,6 @@
 -- Lines and faults of a script as the program has them.
 use Rattle.std.specs.Prelude.{◌≡◌, ℕ, List, map, Option, Some, None, Result, Ok, Err}
-use Rattle.dv_formats.specs.Scripts.{NamedLine}
+use Rattle.dv_formats.specs.Scripts.{IsBadLine, IsScript, IsShortLiteral, IsTooLong, NamedLine}
 use Rattle.dv_formats.specs.Parsing.{LineFault, ScriptFault}
 use Rattle.dv_script.specs.declared.types.Line.{Line}
 use Rattle.dv_script.specs.declared.types.ScriptEnd.{ScriptEnd}
@@ -38,6 +38,14 @@ ScriptFails script_end.NoMemory read = Unit {0}
 abbrev pub ScriptGives : Result (List Line) ScriptEnd → Result (List NamedLine) ScriptFault → Type 0
 ScriptGives (Ok lines) read = read ≡ Ok (all_named lines)
 ScriptGives (Err e) read = ScriptFails e read
+
+-- by the grammar these are the script's lines, or this is its first fault
+abbrev pub IsOf : Result (List Line) ScriptEnd → List ℕ → Type 0
+IsOf (Ok lines) script = IsScript (all_named lines) script
+IsOf (Err (script_end.BadLine k)) script = IsBadLine script k
+IsOf (Err script_end.TooLong) script = IsTooLong script
+IsOf (Err (script_end.ShortLiteral k)) script = IsShortLiteral script k
+IsOf (Err script_end.NoMemory) script = Unit {0}
 
 -- a line that may have a command
 abbrev pub may_name : Option Line → Option NamedLine

@@ -1,9 +1,9 @@
-ghost use Rattle.std.specs.Prelude.{◌≡◌, ◌+◌, ◌<◌, ◌≤◌, ◌++◌, ℕ, List, bytes_eq, count_by, length, IfOk, IfSome, MatchBool, MatchOption, OnOk, Some, None};
+ghost use Rattle.std.specs.Prelude.{◌≡◌, ◌+◌, ◌<◌, ◌≤◌, ◌++◌, ℕ, List, bytes_eq, count_by, length, IfOk, IfSome, MatchBool, MatchOption, OnOk, Ok, Err, Some, None};
 ghost use Rattle.std.specs.List.{list_all, list_any};
 ghost use Rattle.std.specs.Str.Lines.{strip_carriage_return};
-ghost use Rattle.dv_formats.specs.Scripts.{is_session_byte};
-ghost use Rattle.dv_formats.specs.Parsing.{as_list, behind_line_end, command_at, feeds_before, first_line, is_byte, is_session_name, is_skipped, line_at, literal_at, parsed, session_at, with_session};
-ghost use Rattle.dv_script.specs.Sources.{LineGives, ScriptGives, may_name, named, script_end_of};
+ghost use Rattle.dv_formats.specs.Scripts.{IsBadLine, IsScript, IsShortLiteral, IsTooLong, NamedLine, is_session_byte};
+ghost use Rattle.dv_formats.specs.Parsing.{ScriptFault, as_list, behind_line_end, command_at, feeds_before, first_line, is_byte, is_session_name, is_skipped, line_at, literal_at, parsed, session_at, with_session};
+ghost use Rattle.dv_script.specs.Sources.{IsOf, LineGives, ScriptGives, may_name, named, script_end_of};
 
 use crate::{Line, ScriptEnd};
 use dv_commands::{behind, parse_append, parse_command, split_at_byte};
@@ -44,6 +44,24 @@ pub fn parse(alloc: Global, b: &[u8]) -> Result<List<Line>, ScriptEnd>
     // The lines are those that the script says, and a fault is its first one.
     ensures lines { ScriptGives result (parsed b.now) }
     // Each line has a byte.
+    ensures few { IfOk result (λ lines. length lines ≤ length b.now) }
+    // By the grammar, too, these are the script's lines, or this is its first fault.
+    ensures found { IsOf result b.now }
+    // The lines of a script are read, and each fault is told.
+    ensures only { (lines : List NamedLine) → IsScript lines b.now
+        → ScriptGives result (Ok lines) }
+    ensures bad { (number : ℕ) → IsBadLine b.now number
+        → ScriptGives result (Err (ScriptFault.BadLine number)) }
+    ensures short { (number : ℕ) → IsShortLiteral b.now number
+        → ScriptGives result (Err (ScriptFault.ShortLiteral number)) }
+    ensures long { IsTooLong b.now → ScriptGives result (Err ScriptFault.TooLong) }
+{
+    read_lines(alloc, b)
+}
+
+// One line after another, up to the first fault.
+fn read_lines(alloc: Global, b: &[u8]) -> Result<List<Line>, ScriptEnd>
+    ensures lines { ScriptGives result (parsed b.now) }
     ensures few { IfOk result (λ lines. length lines ≤ length b.now) }
 {
     if b.len() > MAX_SCRIPT {

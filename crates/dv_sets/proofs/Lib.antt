@@ -8,3 +8,4 @@ pub mod Reading
 pub mod Words
 pub mod Reread
 pub mod Joins
+pub mod Known

@@ -1,3 +1,4 @@
 pub mod Answers
 pub mod Intervals
 pub mod Joined
+pub mod Known

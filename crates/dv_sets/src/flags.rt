@@ -1,7 +1,7 @@
-ghost use Rattle.std.specs.Prelude.{◌≡◌, ◌++◌, ◌∷◌, [], ℕ, List, IfOk, MatchOption, OnErr, Ok, Err, bytes_eq};
-ghost use Rattle.std.specs.List.{list_any};
+ghost use Rattle.std.specs.Prelude.{◌≡◌, ◌++◌, ◌∷◌, [], ℕ, List, IfOk, MatchOption, OnErr, Ok, Err};
 ghost use Rattle.dv_formats.specs.Scripts.{AreFlags, IsFlag, flag_bit, with_flag};
 ghost use Rattle.dv_sets.specs.Answers.{Answers, OnBad};
+ghost use Rattle.dv_sets.specs.Known.{KnowsAll};
 ghost use Rattle.dv_sets.specs.declared.end.ParseEnd.TheVariants as parse_end;
 
 use crate::cutting::cut;
@@ -9,6 +9,7 @@ use crate::end::ParseEnd;
 use dv_model::{Bytes, List};
 use dv_records::is_name;
 use std::alloc::Global;
+use std::collections::BTreeSet;
 
 // What stands in parentheses.
 fn inside(b: &[u8]) -> Option<&[u8]>
@@ -24,7 +25,9 @@ fn inside(b: &[u8]) -> Option<&[u8]>
     Some(text)
 }
 
-fn flag_bit(word: &[u8]) -> Option<u8>
+/// The bit of a system flag, as in [dv_model::Row], or none for another word (RFC 3501, section
+/// 2.3.2).
+pub fn flag_bit(word: &[u8]) -> Option<u8>
     ensures { result ≡ flag_bit word.now }
 {
     if word == b"\\Answered".as_slice() {
@@ -45,19 +48,16 @@ fn flag_bit(word: &[u8]) -> Option<u8>
     None
 }
 
-fn is_known(keywords: &[Bytes], word: &[u8]) -> bool
-    ensures { result ≡ list_any (bytes_eq word.now) keywords.now }
-{
-    keywords.iter().any(|known| word == known.as_slice())
-}
-
-// The flags with this one; a keyword goes to the end of the list, unless it is there.
-fn add_flag(
+// The flags with this one; a keyword goes to the end of the list, unless it is known.
+fn add_flag<'a>(
     alloc: Global,
-    word: &[u8],
+    word: &'a [u8],
     flags: u8,
+    known: &mut BTreeSet<&'a [u8]>,
     keywords: &mut List<Bytes>,
 ) -> Result<u8, ParseEnd>
+    requires known { KnowsAll known.old keywords.old }
+    ensures known { IfOk result (λ more. KnowsAll known.new keywords.new) }
     ensures ok { IfOk result (λ more. IsFlag word.now
         × (with_flag (flags, keywords.old) word.now ≡ (more, keywords.new))) }
     ensures bad { OnBad result (IsFlag word.now → ⊥) }
@@ -68,15 +68,14 @@ fn add_flag(
     if !is_name(word) {
         return Err(ParseEnd::Bad);
     }
-    if !is_known(keywords.as_slice(), word) {
+    if known.insert(word)? {
         keywords.push(Bytes::from_slice(alloc, word)?)?;
     }
     Ok(flags)
 }
 
 /// The flags and keywords of a list in parentheses (`flag-list` of RFC 3501, section 9): flag bits
-/// as in [dv_model::Row], and keywords in the order of their first places. Each keyword is compared
-/// with those before it: lists are short.
+/// as in [dv_model::Row], and keywords in the order of their first places.
 pub fn parse_flags(alloc: Global, b: &[u8]) -> Result<(u8, List<Bytes>), ParseEnd>
     // What is read is what the text says.
     ensures found { IfOk result (λ x. AreFlags x.0 x.1 b.now) }
@@ -98,10 +97,11 @@ pub fn parse_flags(alloc: Global, b: &[u8]) -> Result<(u8, List<Bytes>), ParseEn
     if words.is_empty() {
         return Ok((flags, keywords));
     }
+    let mut known = BTreeSet::new(alloc);
     let mut text = words;
     'each_word: loop {
         let (word, behind) = cut(text, b' ');
-        match add_flag(alloc, word, flags, &mut keywords) {
+        match add_flag(alloc, word, flags, &mut known, &mut keywords) {
             Ok(more) => flags = more,
             Err(end) => return Err(end),
         }

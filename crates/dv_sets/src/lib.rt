@@ -14,7 +14,7 @@ mod sets;
 
 pub use choosing::{is_in_set, largest_uid, missing_end, numbers, numbers_among, uids};
 pub use end::{ParseEnd, SetEnd};
-pub use flags::parse_flags;
+pub use flags::{flag_bit, parse_flags};
 pub use joining::{is_in_joined, join_set};
 pub use law::{one_flags, one_set, written_set_is_read};
 pub use printing::{print_flags, print_set};

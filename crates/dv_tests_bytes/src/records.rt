@@ -2,7 +2,7 @@ mod numbers;
 mod worked;
 
 use dv_model::List;
-use dv_records::{DecodeEnd, RecordFault, decode, encode, is_name};
+use dv_records::{DecodeEnd, RecordFault, check, decode, encode, is_name};
 use numbers::numbers_of;
 use std::alloc::Global;
 use std::test::*;

@@ -10,3 +10,6 @@ returns-clause-short c = λ script number e. subst (HasLines script) e (script_s
 
 pub returns-clause-long : goal.returns-clause-long
 returns-clause-long c = λ script e. subst (HasLines script) e (script_sound script)
+
+pub returns-clause-bad : goal.returns-clause-bad
+returns-clause-bad c = λ script number e. subst (HasLines script) e (script_sound script)

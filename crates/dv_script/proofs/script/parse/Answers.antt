@@ -1,38 +1,20 @@
-use Rattle.std.proofs.Common.{◌≡◌, ◌∙◌, ◌<◌, ◌+◌, length, sym, subst, arith, rules}
-use Rattle.dv_formats.specs.Parsing.{feeds_before, first_line, line_at, parsed}
-use Rattle.dv_script.specs.Sources.{LineFails, ScriptFails}
-use Rattle.dv_script.proofs.Lines.{IsReadTo, beyond, done, fails, goes_on, same_line}
+use Rattle.std.proofs.Common.{Ok, Err}
+use Rattle.dv_formats.specs.Parsing.{ScriptFault}
+use Rattle.dv_grammar.proofs.GrammarScripts.{bad_read, long_read, script_read, short_read}
+use Rattle.dv_script.proofs.Grammar.{gives_so, is_of}
 use Rattle.dv_script.proofs.script.parse.Goals as goal
 
-pub returns-then-b-gt-MAX_SCRIPT-clause-lines : goal.returns-then-b-gt-MAX_SCRIPT-clause-lines
-returns-then-b-gt-MAX_SCRIPT-clause-lines c = beyond c.args.b.now c.if-b-gt-MAX_SCRIPT.true
+pub returns-clause-found : goal.returns-clause-found
+returns-clause-found c = is_of c.args.b.now c.read_lines.result c.read_lines.ensures.lines
 
-pub returns-in-Err-clause-lines : goal.returns-in-Err-clause-lines
-returns-in-Err-clause-lines c =
-    let rest = c.lines.rest.now in
-    let some : 0 < length rest = search rules in
-    let same = same_line c.lines.names rest c.first_line.result.0.now c.first_line.result.1.now c.first_line.ensures.text c.first_line.ensures.rest in
-    let fault : LineFails c.in-Err.fault (line_at c.lines.names (first_line rest).0 (first_line rest).1) = subst (LineFails c.in-Err.fault) same c.in-Err.ensures.line in
-    subst (λ e. ScriptFails e (parsed c.args.b.now)) (sym c.script_end.ensures) (fails c.args.b.now c.lines.number c.lines.lines c.lines.names rest c.in-Err.fault c.lines.invariant.same some c.lines.invariant.short fault)
+pub returns-clause-only : goal.returns-clause-only
+returns-clause-only c = λ lines is. gives_so c.args.b.now c.read_lines.result (Ok lines) c.read_lines.ensures.lines (script_read c.args.b.now lines is)
 
-pub lines-preserved : goal.lines-preserved
-lines-preserved c =
-    let rest = c.lines.rest.now in
-    let next = c.in-Ok.read.1.now in
-    let some : 0 < length rest = search rules in
-    let less : length next < length rest = omega (arith, c.in-Ok.ensures.within, c.first_line.ensures.shorter some) in
-    let same = same_line c.lines.names rest c.first_line.result.0.now c.first_line.result.1.now c.first_line.ensures.text c.first_line.ensures.rest in
-    let read = sym same ∙ c.in-Ok.ensures.line in
-    let to : IsReadTo c.args.b.now (c.lines.number + feeds_before rest next) c.add_line.new.lines c.read_line.new.names next =
-    goes_on c.args.b.now c.lines.number c.lines.lines c.add_line.new.lines c.in-Ok.read.0 c.lines.names c.read_line.new.names rest next c.lines.invariant.same some less read c.in_ok-add_line.ensures.lines in
-    record {
-      short = c.lines.invariant.short;
-      counted = omega (arith, c.lines.invariant.counted, c.feeds_before-number.ensures.left);
-      few = omega (arith, c.lines.invariant.few, c.in_ok-add_line.ensures.one, less);
-      same = subst (λ n. IsReadTo c.args.b.now (c.lines.number + n) c.add_line.new.lines c.read_line.new.names next) (sym c.feeds_before-number.ensures.count) to;
-    }
+pub returns-clause-bad : goal.returns-clause-bad
+returns-clause-bad c = λ number is. gives_so c.args.b.now c.read_lines.result (Err (ScriptFault.BadLine number)) c.read_lines.ensures.lines (bad_read c.args.b.now number is)
 
-pub returns-clause-lines : goal.returns-clause-lines
-returns-clause-lines c =
-    let empty : length c.lines.rest.now ≡ 0 = search rules in
-    done c.args.b.now c.lines.number c.lines.lines c.lines.names c.lines.rest.now c.lines.invariant.same empty c.lines.invariant.short
+pub returns-clause-short : goal.returns-clause-short
+returns-clause-short c = λ number is. gives_so c.args.b.now c.read_lines.result (Err (ScriptFault.ShortLiteral number)) c.read_lines.ensures.lines (short_read c.args.b.now number is)
+
+pub returns-clause-long : goal.returns-clause-long
+returns-clause-long c = λ is. gives_so c.args.b.now c.read_lines.result (Err ScriptFault.TooLong) c.read_lines.ensures.lines (long_read c.args.b.now is)

@@ -1,6 +1,6 @@
 use Rattle.std.proofs.Common.{◌+◌, ◌≤◌, length}
 use Rattle.dv_script.proofs.Lines.{IsReadTo}
-use Rattle.dv_script.proofs.script.parse.Given as goal
+use Rattle.dv_script.proofs.script.read_lines.Given as goal
 
 abbrev pub invariant-lines : goal.invariant-lines
 invariant-lines l = record {

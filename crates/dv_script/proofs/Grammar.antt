@@ -1,0 +1,19 @@
+-- What is parsed is what the grammar gives.
+use Rattle.std.proofs.Common.{◌≡◌, ℕ, List, Result, Ok, Err, subst}
+use Rattle.dv_formats.specs.Scripts.{NamedLine}
+use Rattle.dv_formats.specs.Parsing.{ScriptFault, parsed}
+use Rattle.dv_grammar.proofs.ReadScripts.{HasLines, script_sound}
+use Rattle.dv_script.specs.declared.types.Line.{Line}
+use Rattle.dv_script.specs.declared.types.ScriptEnd.{ScriptEnd}
+use Rattle.dv_script.specs.declared.types.ScriptEnd.TheVariants as script_end
+use Rattle.dv_script.specs.Sources.{IsOf, ScriptGives}
+
+pub is_of : (script : List ℕ) (r : Result (List Line) ScriptEnd) → ScriptGives r (parsed script) → IsOf r script
+is_of script (Ok lines) gives = subst (HasLines script) gives (script_sound script)
+is_of script (Err (script_end.BadLine k)) gives = subst (HasLines script) gives (script_sound script)
+is_of script (Err script_end.TooLong) gives = subst (HasLines script) gives (script_sound script)
+is_of script (Err (script_end.ShortLiteral k)) gives = subst (HasLines script) gives (script_sound script)
+is_of script (Err script_end.NoMemory) gives = tt
+
+pub gives_so : (script : List ℕ) (r : Result (List Line) ScriptEnd) (read : Result (List NamedLine) ScriptFault) → ScriptGives r (parsed script) → parsed script ≡ read → ScriptGives r read
+gives_so script r read gives same = subst (ScriptGives r) same gives
