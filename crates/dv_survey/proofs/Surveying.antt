@@ -18,7 +18,7 @@ use Rattle.dv_model.specs.declared.types.GuidRow.{GuidRow}
 use Rattle.dv_model.specs.declared.types.Mailbox.{Mailbox}
 use Rattle.dv_model.specs.declared.types.Record.{Record}
 use Rattle.dv_model.specs.declared.types.Row.{Row}
-use Rattle.dv_model.specs.Effects.{after_record, applied, effect, is_in_guid_rows, on_current, with_higher, with_intro}
+use Rattle.dv_model.specs.Effects.{after_record, applied, effect, is_in_guid_rows, with_higher, with_intro}
 use Rattle.dv_model.specs.Mailboxes.{IsValid}
 use Rattle.dv_ext.specs.Changes.{Does, HasTable}
 use Rattle.dv_ext.specs.Sizes.{leave_parts}
@@ -161,15 +161,6 @@ moves_by before after body is same moves = subst (λ (b : Body). MovesOn before 
 -- an effect without refusal
 pub effect_moves : (before after : Table) (body : Body) (f : Mailbox → Mailbox) → ((m : Mailbox) → effect m body ≡ Some (f m)) → (change : PartsChange) → Does f before after change → MovesOn before body after
 effect_moves before after body f is change does m n valid e made = by_some (λ k. table_of k ≡ after) (f m) n (does_table f before after change does m valid e) (sym (is m) ∙ made)
-
--- where no extension is current, none is changed
-none_current : (m : Mailbox) (change : Current → Mailbox) → m.current ≡ None → on_current m change ≡ m
-none_current m change none = rw none refl
-
-pub no_move : (t : Table) (body is : Body) (change : Mailbox → Current → Mailbox) → body ≡ is → ((m : Mailbox) → effect m is ≡ Some (on_current m (change m))) → t.current ≡ None → MovesOn t body t
-no_move t body is change same does none =
-    moves_by t t body is same
-    (λ m n valid at made. by_some (λ k. table_of k ≡ t) (on_current m (change m)) n (ap table_of (none_current m (change m) (ap (λ (u : Table). u.current) at ∙ none)) ∙ at) (sym (does m) ∙ made))
 
 -- one record more leaves a valid mailbox with the next table
 pub table_next : (m n : Mailbox) (rs : List Record) (j : ℕ) (r : Record) (before after : Table) → j < length rs → IsValid m → All (λ x. IsInRange x.body) rs
