@@ -90,17 +90,39 @@ fn counts(live: &Live) -> Counts {
     )
 }
 
-// Whether a record is shown as it has to be. Where memory is refused before that, the mailbox is as
-// before, and a second try is made.
+// The UID, the flags, the modification sequence, the number of keywords and that of the parts of
+// the row at a place, or zeros where there is none.
+fn shown_at(live: &Live, at: u32) -> (u32, u8, u64, usize, usize) {
+    if at >= live.count() {
+        return (0, 0, 0, 0, 0);
+    }
+    let row = live.row(at);
+    (
+        row.uid,
+        row.flags,
+        row.modseq,
+        row.keywords.len(),
+        row.parts.len(),
+    )
+}
+
+// What is seen of a mailbox of three rows at most.
+fn shown(live: &Live) -> (Counts, [(u32, u8, u64, usize, usize); 3]) {
+    let rows = [shown_at(live, 0), shown_at(live, 1), shown_at(live, 2)];
+    (counts(live), rows)
+}
+
+// Whether a record is made ready and shown as it has to be. Where memory is refused before it is
+// ready, the mailbox is as before, and a second try is made.
 fn shows(alloc: Global, live: &mut Live, step: Step) -> bool {
     let (bytes, expected, uids) = step;
-    let before = counts(live);
+    let before = shown(live);
     for _ in 0..2 {
         let Ok((record, _)) = decode(alloc, bytes, 0) else {
             continue;
         };
         let Ok(prepared) = live.prepare(slice::from_ref(&record)) else {
-            if counts(live) != before {
+            if shown(live) != before {
                 return false;
             }
             continue;
@@ -111,16 +133,51 @@ fn shows(alloc: Global, live: &mut Live, step: Step) -> bool {
     false
 }
 
+// Whether a record is applied as it has to be. Where memory is refused, the mailbox is as before,
+// and a second try is made.
+fn applies(alloc: Global, live: &mut Live, step: Step) -> bool {
+    let (bytes, expected, _) = step;
+    let before = shown(live);
+    for _ in 0..2 {
+        let Ok((record, _)) = decode(alloc, bytes, 0) else {
+            continue;
+        };
+        if live.apply(&record).is_err() {
+            if shown(live) != before {
+                return false;
+            }
+            continue;
+        }
+        return counts(live) == expected;
+    }
+    false
+}
+
+// The row that is left has Seen, the keyword k1 and the modification sequence of that record.
+fn is_left(live: &Live) -> bool {
+    if live.count() != 1 {
+        return false;
+    }
+    let row = live.row(0);
+    row.keywords.as_slice() == [0].as_slice() && (row.uid, row.flags, row.modseq) == (1, 8, 5)
+}
+
 #[test]
 fn records_are_shown_whichever_allocation_is_refused(rt: HostRuntime) -> Result<(), Fail> {
     let mut live = Live::empty(rt.alloc(), 1000);
     for step in STEPS {
         assert!(rt; shows(rt.alloc(), &mut live, step));
     }
-    if live.count() > 0 {
-        let row = live.row(0);
-        assert_eq!(rt; (row.uid, row.flags, row.modseq), (1, 8, 5));
-        assert_eq!(rt; row.keywords.as_slice(), [0].as_slice());
+    assert!(rt; is_left(&live));
+    Ok(())
+}
+
+#[test]
+fn records_are_applied_whichever_allocation_is_refused(rt: HostRuntime) -> Result<(), Fail> {
+    let mut live = Live::empty(rt.alloc(), 1000);
+    for step in STEPS {
+        assert!(rt; applies(rt.alloc(), &mut live, step));
     }
+    assert!(rt; is_left(&live));
     Ok(())
 }
