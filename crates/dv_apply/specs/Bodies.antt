@@ -52,7 +52,7 @@ abbrev pub IsOther : Body → Type 0
 IsOther (Append rows) = ⊥
 IsOther body = ⊤
 
--- takes no memory, where the mailbox has these extensions and so many rows are spare
+-- needs no memory, where the mailbox has these extensions and so many rows are spare
 abbrev pub TakesNone : List Extension → ℕ → Body → Type 0
 TakesNone es n (Append rows) = length rows ≤ n
 TakesNone es n (KeywordUpdate how name pairs) = ⊥

@@ -14,18 +14,6 @@ use crate::state::State;
 use dv_ext::{Extensions, RowUpdates, have_sizes};
 use dv_model::{Duplicate, Intro, List, NoMemory, Part};
 
-/// Whether the introductions leave the extensions, and so each row, as they are.
-pub fn are_quiet(extensions: &Extensions, intros: &[Intro]) -> bool
-    ensures { result ≡ list_all (is_quiet extensions.now.extensions) intros.now }
-{
-    for intro in intros {
-        if !extensions.is_quiet(intro) {
-            return false;
-        }
-    }
-    true
-}
-
 // Makes the introduced extensions current in turn, where that leaves them all as they are.
 fn make_current(extensions: &mut Extensions, intros: &[Intro])
     requires { list_all (is_quiet extensions.old.extensions) intros.now ≡ true }
@@ -81,7 +69,7 @@ pub fn introduce_all(state: &mut State, intros: &[Intro]) -> Result<(), NoMemory
     ensures memory { list_all (is_quiet state.old.extensions.extensions) intros.now ≡ true →
         result ≡ Ok tt }
 {
-    if are_quiet(&state.extensions, intros) {
+    if state.extensions.are_quiet(intros) {
         introduce_quietly(state, intros);
         return Ok(());
     }

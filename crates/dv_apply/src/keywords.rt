@@ -1,14 +1,40 @@
-ghost use Rattle.std.specs.Prelude.{◌≡◌, ◌≢◌, OnErr, OnOk, None, Some};
+ghost use Rattle.std.specs.Prelude.{◌≡◌, ◌≢◌, OnErr, OnOk, None, Some, map};
 ghost use Rattle.dv_model.specs.declared.types.Body.TheVariants.{KeywordReset, KeywordUpdate};
 ghost use Rattle.dv_model.specs.declared.types.How.TheVariants.{Remove};
-ghost use Rattle.dv_model.specs.Effects.{place_of};
+ghost use Rattle.dv_model.specs.Effects.{keywords_after, place_of};
 ghost use Rattle.dv_model.specs.Names.{IsName};
+ghost use Rattle.dv_rows.specs.Adding.{AreInOrder};
+ghost use Rattle.dv_rows.specs.Changed.{changed_keywords};
+ghost use Rattle.dv_validity.specs.Laws.{restamped};
 ghost use Rattle.dv_apply.specs.States.{Becomes, IsKept, kept_of};
 
 use crate::changes::higher;
 use crate::state::State;
 use dv_model::{How, NoMemory, Pair};
-use dv_overlaps::change_keywords;
+use dv_rows::Rows;
+use std::alloc::Global;
+
+// Changes a keyword of rows, whose keywords rise.
+fn change_keywords(
+    alloc: Global,
+    rows: &mut Rows,
+    pairs: &[Pair],
+    how: How,
+    place: u32,
+    modseq: u64,
+) -> Result<(), NoMemory>
+    requires { AreInOrder rows.old.rows }
+    ensures ok { OnOk result (rows.new.rows
+        ≡ map (λ row. restamped modseq row
+        (changed_keywords pairs.now (keywords_after how place) row)) rows.old.rows) }
+    ensures room { rows.new.room ≡ rows.old.room }
+    ensures err { OnErr result (rows.new ≡ rows.old) }
+{
+    match how {
+        How::Add => dv_overlaps::add_keyword(alloc, rows, pairs, place, modseq),
+        _ => dv_overlaps::change_keywords(alloc, rows, pairs, how, place, modseq),
+    }
+}
 
 // Changes a keyword that the table has.
 fn change_known(

@@ -104,7 +104,7 @@ impl Live {
     /// it names the first such row. After an error all is as before. An append of at most the spare
     /// rows, an expunge, a flag update, a header update, a keyword reset, an introduction that
     /// leaves the extensions as they are, and a reset or an update of an extension's header or rows
-    /// take no memory.
+    /// need no memory: several ranges are joined where there is some, else taken one by one.
     pub fn apply(&mut self, r: &Record) -> Result<(), ApplyFault>
         requires { IsRecord r.now }
         // What is applied has the record's effect.
@@ -121,7 +121,7 @@ impl Live {
         // Only appends use up spare rows, and introductions that change the parts of rows.
         ensures spare { OnOk result (self.new.spare
             ≡ spare_after self.old.mailbox.extensions self.old.spare r.now.body) }
-        // Some records take no memory.
+        // Some records need no memory.
         ensures memory { TakesNone self.old.mailbox.extensions self.old.spare r.now.body →
             result ≡ Err fault.NoMemory → ⊥ }
     {

@@ -16,7 +16,7 @@ use crate::fault::ApplyFault;
 use crate::refusals::test_records;
 use crate::share::Made;
 use crate::state::State;
-use dv_model::{Duplicate, NoMemory, Record, Row};
+use dv_model::{NoMemory, Record, Row};
 use dv_rows::{Rows, sort_uids};
 use dv_survey::named_rows;
 use dv_touched::Touched;
@@ -85,8 +85,7 @@ fn make_ready(state: &mut State, records: &[Record]) -> Result<Made, ApplyFault>
     ensures spare { IfOk result (λ made. state.new.spare ≡ max made.appended state.old.spare) }
     ensures err { OnErr result (state.new.spare ≡ state.old.spare) }
 {
-    let extensions = state.extensions.duplicate(state.alloc)?;
-    let mut uids = named_rows(state.alloc, &state.rows, extensions, records)?;
+    let mut uids = named_rows(state.alloc, &state.rows, &state.extensions, records)?;
     sort_uids(&mut uids);
     let share = match apply_apart(state, &uids, records) {
         Ok(share) => share,

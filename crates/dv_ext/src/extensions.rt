@@ -1,4 +1,5 @@
 ghost use Rattle.std.specs.Prelude.{◌≡◌, ◌<◌, ◌&&◌, true, fold, IfOk, IsSomeAnd, None, OnErr, OnOk, length, nat_le, slice_get, if◌then◌else◌};
+ghost use Rattle.std.specs.List.{list_all};
 ghost use Rattle.dv_model.specs.Effects.{added_extension, introduced, may_be_added, on_current, reintroduced, with_header_parts, with_intro, with_reset, without_current};
 ghost use Rattle.dv_model.specs.declared.types.Mailbox.{Mailbox};
 ghost use Rattle.dv_model.specs.Mailboxes.{IsValid};
@@ -141,6 +142,19 @@ impl Extensions {
             }
             None => !may_be_added(intro) || !fits_added(list, intro),
         }
+    }
+
+    /// Whether introductions leave the extensions, and so each row, as they are.
+    pub fn are_quiet(&self, intros: &[Intro]) -> bool
+        ensures is { result ≡ list_all (is_quiet self.now.extensions) intros.now }
+        ensures parts { result ≡ true → leave_parts self.now.extensions intros.now ≡ true }
+    {
+        for intro in intros {
+            if !self.is_quiet(intro) {
+                return false;
+            }
+        }
+        true
     }
 
     /// Introduces an extension, which becomes current, or none does, where that leaves the

@@ -1,4 +1,6 @@
 ghost use Rattle.std.specs.Prelude.{◌≡◌, [], filter, fold, map, not, OnErr, OnOk};
+ghost use Rattle.dv_model.specs.declared.types.How.TheVariants.{Add};
+ghost use Rattle.dv_rows.specs.Adding.{AreInOrder};
 ghost use Rattle.dv_model.specs.Effects.{is_in_pairs, keywords_after};
 ghost use Rattle.dv_rows.specs.Changed.{changed_keywords};
 ghost use Rattle.dv_validity.specs.Laws.{changed_flags, restamped};
@@ -57,6 +59,29 @@ pub fn change_keywords(
     match join_pairs(alloc, pairs)? {
         Some(joined) => rows.change_keywords(&joined, how, place, modseq),
         None => rows.change_keywords(pairs, how, place, modseq),
+    }
+}
+
+/// Adds the keyword at a place of the table to the rows in the ranges, whose keywords rise: none is
+/// copied. A row that lacked it then has this modification sequence. After `NoMemory` all is as
+/// before.
+pub fn add_keyword(
+    alloc: Global,
+    rows: &mut Rows,
+    pairs: &[Pair],
+    place: u32,
+    modseq: u64,
+) -> Result<(), NoMemory>
+    requires { AreInOrder rows.old.rows }
+    ensures ok { OnOk result (rows.new.rows
+        ≡ map (λ row. restamped modseq row
+        (changed_keywords pairs.now (keywords_after Add place) row)) rows.old.rows) }
+    ensures room { rows.new.room ≡ rows.old.room }
+    ensures err { OnErr result (rows.new ≡ rows.old) }
+{
+    match join_pairs(alloc, pairs)? {
+        Some(joined) => rows.add_keyword(&joined, place, modseq),
+        None => rows.add_keyword(pairs, place, modseq),
     }
 }
 

@@ -5,5 +5,5 @@
 mod changes;
 mod names;
 
-pub use changes::{change_flags, change_keywords, clear_keywords, expunge};
+pub use changes::{add_keyword, change_flags, change_keywords, clear_keywords, expunge};
 pub use names::{name_changed, name_pairs};

@@ -1,3 +1,4 @@
+pub mod GivenPlaces
 pub mod Counting
 pub mod Filtered
 pub mod FlagChanges

@@ -15,9 +15,19 @@ use Rattle.dv_rows.specs.Plans.{IsPlan, IsPlanned, IsRight}
 use Rattle.dv_rows.specs.declared.keywords.Other.{Other}
 use Rattle.dv_rows.proofs.OtherPlaces.{gets_others, stays_out, stays_same}
 
+-- ---- two places
+
+pub same_or : (k at : ℕ) → (k ≡ at) ⊎ (k ≢ at)
+same_or k at = go (cases_lt k at) (cases_lt at k)
+  where
+    go : (k < at) ⊎ (at ≤ k) → (at < k) ⊎ (k ≤ at) → (k ≡ at) ⊎ (k ≢ at)
+    go (inl less) o = inr (λ e. omega (arith, e, less))
+    go (inr up) (inl more) = inr (λ e. omega (arith, e, more))
+    go (inr up) (inr down) = inl (omega (arith, up, down))
+
 -- ---- one more
 
-any_left : {X : Type 0} (P : X → Type 0) (xs : List X) (y : X) → Any P xs → Any P (xs ++ y ∷ [])
+pub any_left : {X : Type 0} (P : X → Type 0) (xs : List X) (y : X) → Any P xs → Any P (xs ++ y ∷ [])
 any_left P xs y a = (a.0, a.1, (let many = length_push xs y in let less = a.2 in omega (arith, many, less)), get_or_append_left xs (y ∷ []) a.1 a.0 a.2 ∙ a.3, a.4)
 
 any_by : {X : Type 0} (P : X → Type 0) (xs : List X) (y : X) (a : Any P (xs ++ y ∷ [])) → (a.0 < length xs) ⊎ (length xs ≤ a.0) → Any P xs ⊎ P y
@@ -89,14 +99,6 @@ put_more pairs how place n before rows all others other row so_far popped read =
     right =
         let many = length_push others other in
         subst (IsRight pairs how place before) (get_or_push others other other (length others) refl) (subst (All (IsRight pairs how place before)) popped so_far.right (length others) other (omega (arith, many)))
-
-    same_or : (k at : ℕ) → (k ≡ at) ⊎ (k ≢ at)
-    same_or k at = go (cases_lt k at) (cases_lt at k)
-      where
-        go : (k < at) ⊎ (at ≤ k) → (at < k) ⊎ (k ≤ at) → (k ≡ at) ⊎ (k ≢ at)
-        go (inl less) o = inr (λ e. omega (arith, e, less))
-        go (inr up) (inl more) = inr (λ e. omega (arith, e, more))
-        go (inr up) (inr down) = inl (omega (arith, up, down))
 
     known : (d : Row) → (row ≡ restamped n (get_or before other.at d) (changed_keywords pairs (keywords_after how place) (get_or before other.at d))) ⊎ (row ≡ get_or before other.at d)
     known d = by_each (so_far.each other.at row right.inside)

@@ -1,3 +1,4 @@
+pub mod Adding
 pub mod Changed
 pub mod Kept
 pub mod Noted

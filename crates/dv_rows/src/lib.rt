@@ -2,6 +2,7 @@
 //! `mail-transaction-log.h`).
 #![tactic(auto)]
 
+mod adding;
 mod counts;
 mod flags;
 mod keywords;

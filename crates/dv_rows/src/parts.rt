@@ -11,8 +11,8 @@ use dv_model::{Bytes, Duplicate, Extension, List, NoMemory, Row};
 use std::alloc::Global;
 use std::mem;
 
-// The list's vector, in whose place an empty list is left.
-fn taken<T: Drop>(alloc: Global, list: &mut List<T>) -> Vec<T>
+/// The list's vector, in whose place an empty list is left.
+pub fn taken<T: Drop>(alloc: Global, list: &mut List<T>) -> Vec<T>
     ensures items { result.items ≡ list.old }
     ensures left { list.new ≡ [] }
 {

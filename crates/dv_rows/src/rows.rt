@@ -1,5 +1,7 @@
 ghost use Rattle.std.specs.Prelude.{◌≡◌, ◌↔◌, ◌⊎◌, ℕ, ◌+◌, ◌-◌, ◌^◌, ◌<◌, ◌≤◌, [], ◌∷◌, ◌++◌, All, filter, fold, length, map, not, position, nat_eq, IfOk, IfSome, IsTrue, OnOk, OnErr, Ok, Some, slice_get, if◌then◌else◌, true, Contains, count_by, nat_le};
 ghost use Rattle.dv_ext.specs.Sizes.{fitted, sizes_of};
+ghost use Rattle.dv_model.specs.declared.types.How.TheVariants.{Add};
+ghost use Rattle.dv_rows.specs.Adding.{AreInOrder};
 ghost use Rattle.dv_model.specs.Effects.{is_in_pairs, is_in_guid_rows, keywords_after, with_item, with_row_parts, zeroed};
 ghost use Rattle.dv_rows.specs.Changed.{changed_keywords, written_at_front};
 ghost use Rattle.dv_rows.specs.Kept.{AreRows, flag_count};
@@ -9,6 +11,7 @@ ghost use Rattle.std.specs.List.{list_any};
 ghost use Rattle.std.specs.List.Sorted.{IsStrictlyIncreasing};
 ghost use Rattle.dv_validity.specs.Laws.{changed_flags, restamped};
 
+use crate::adding::add_keyword;
 use crate::counts::{Counts, flags_of, put_note, tally};
 use crate::flags::{ChangeFlags, StampFlags};
 use crate::keywords::{ClearKeywords, change_keywords};
@@ -320,6 +323,21 @@ impl Rows {
         ensures err { OnErr result (self.new ≡ self.old) }
     {
         change_keywords(self.alloc, &mut self.rows, pairs, how, place, modseq)?;
+        Ok(())
+    }
+
+    /// Adds the keyword at a place of the table to the rows in the ranges, as `change_keywords`
+    /// does: each row's keywords rise, so it is put among them where they stand, and none is
+    /// copied. After `NoMemory` all is as before.
+    pub fn add_keyword(&mut self, pairs: &[Pair], place: u32, modseq: u64) -> Result<(), NoMemory>
+        requires { AreInOrder self.old.rows }
+        ensures ok { OnOk result (self.new.rows
+            ≡ map (λ row. restamped modseq row
+            (changed_keywords pairs.now (keywords_after Add place) row)) self.old.rows) }
+        ensures room { self.new.room ≡ self.old.room }
+        ensures err { OnErr result (self.new ≡ self.old) }
+    {
+        add_keyword(self.alloc, &mut self.rows, pairs, place, modseq)?;
         Ok(())
     }
 

@@ -1,5 +1,5 @@
 -- Which rows the records of a group may change, found before they are applied.
-use Rattle.std.specs.Prelude.{◌≡◌, ◌⊎◌, ℕ, ◌<◌, Bool, true, ⊤, List, Some, Contains, get_or, length, take}
+use Rattle.std.specs.Prelude.{◌≡◌, ◌⊎◌, ℕ, ◌<◌, Bool, true, ⊤, List, Option, None, Some, Contains, get_or, length, take}
 use Rattle.dv_model.specs.declared.types.Body.{Body}
 use Rattle.dv_model.specs.declared.types.Mailbox.{Mailbox}
 use Rattle.dv_model.specs.declared.types.Record.{Record}
@@ -33,3 +33,8 @@ MovesOn before body after = (m n : Mailbox) → IsValid m → table_of m ≡ bef
 abbrev pub LeavesParts : Bool → Table → Body → Type 0
 LeavesParts stay t (ExtIntro intros) = stay ≡ true → leave_parts t.extensions intros ≡ true
 LeavesParts stay t body = ⊤
+
+-- the table that records moved on to, or else the first one
+abbrev pub seen : Table → Option Table → Table
+seen t None = t
+seen t (Some moved) = moved

@@ -1,4 +1,4 @@
-use Rattle.std.proofs.Common.{◌≡◌, ◌⊎◌, ◌↔◌, ℕ, ◌++◌, ◌≤◌, List, Some, length, nat_le, take, ap, sym, ◌∙◌, subst, arith}
+use Rattle.std.proofs.Common.{◌≡◌, ◌⊎◌, ◌↔◌, ℕ, ◌++◌, ◌≤◌, List, Some, length, nat_le, take, ap, refl, sym, ◌∙◌, subst, arith}
 use Rattle.std.specs.Prelude.{Contains, count_by}
 use Rattle.dv_keywords.specs.Tables.{Keywords}
 use Rattle.dv_model.specs.declared.types.Mailbox.{Mailbox}
@@ -37,7 +37,7 @@ returns-clause-ok c =
     (record {
       valid = c.requires.kept.valid;
       range = c.in-Ok.ensures.range;
-      named_all = c.in_ok-uids.ensures.named m c.requires.kept.valid c.in-Ok.ensures.range (sym c.in_ok-extensions.ensures);
+      named_all = c.in_ok-uids.ensures.named m c.requires.kept.valid c.in-Ok.ensures.range refl;
       same = c.sort_uids.ensures.same;
       only = c.in_ok-uids.ensures.only;
       rising = c.sort_uids.ensures.rising;
