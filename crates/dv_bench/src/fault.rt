@@ -1,4 +1,5 @@
 use dv_apply::ApplyFault;
+use dv_model::NoMemory;
 use dv_records::DecodeEnd;
 use std::alloc::AllocFailed;
 use std::io;
@@ -12,12 +13,20 @@ pub enum Fault {
     BadRecord,
     #[error("an append's UID was given out before")]
     BadAppend,
+    #[error("a session hasn't selected the mailbox")]
+    NotSelected,
     #[error("the input, the output or the clock failed")]
     System,
 }
 
 impl<T: Drop> From<AllocFailed<T>> for Fault {
     fn from(_: AllocFailed<T>) -> Fault {
+        Fault::NoMemory
+    }
+}
+
+impl From<NoMemory> for Fault {
+    fn from(_: NoMemory) -> Fault {
         Fault::NoMemory
     }
 }

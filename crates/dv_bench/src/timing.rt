@@ -14,8 +14,8 @@ pub struct Times {
     pub others: u128,
 }
 
-// Applies them in turn.
-fn apply_all(rt: HostRuntime, live: &mut Live, records: &[Record]) -> Result<u128, Fault>
+/// Applies them in turn, and gives the microseconds that it took.
+pub fn apply_all(rt: HostRuntime, live: &mut Live, records: &[Record]) -> Result<u128, Fault>
     requires { All IsRecord records.now }
 {
     let start = Instant::now(&rt)?;
