@@ -25,6 +25,12 @@ def change(uid, add, remove):
     return record(FLAG_UPDATE, struct.pack("<IIBB2x", uid, uid, add, remove))
 
 
+def changes_of_one(rows):
+    """The flag Seen of the row in the middle is set and taken back by turns."""
+    uid = rows // 2 + 1
+    return [change(uid, SEEN, 0) if k % 2 == 0 else change(uid, 0, SEEN) for k in range(CHANGES)]
+
+
 def changes(rows, step):
     """The rows' flag Seen is set in turn, a step apart, and taken back in the next round, and so on."""
     records = []
@@ -44,9 +50,9 @@ def run(program, rows, text):
     return int(times.rsplit("others ", 1)[1].split()[0])
 
 
-def shortest_times(program, step):
+def shortest_times(program, changes_over):
     """The shortest time over each number of rows. The sizes take turns, so that other work meets all."""
-    texts = {rows: b"".join(appends(rows) + changes(rows, step)) for rows in SIZES}
+    texts = {rows: b"".join(appends(rows) + changes_over(rows)) for rows in SIZES}
     times = {rows: [] for rows in SIZES}
     for _ in range(RUNS):
         for rows in SIZES:
@@ -58,9 +64,13 @@ def main():
     if len(sys.argv) != 2:
         sys.exit(__doc__)
     # A step that shares no factor with the numbers of rows goes to each row once a round.
-    for title, step in (("row after row", 1), ("rows far apart", 40_503)):
+    for title, changes_over in (
+        ("of one row", changes_of_one),
+        ("row after row", lambda rows: changes(rows, 1)),
+        ("rows far apart", lambda rows: changes(rows, 40_503)),
+    ):
         print(f"{CHANGES} flag changes told to {SESSIONS} sessions, {title}")
-        times = shortest_times(sys.argv[1], step)
+        times = shortest_times(sys.argv[1], changes_over)
         for rows in SIZES:
             print(f"  over {rows:>7} rows  {times[rows] / 1000:>8.2f} ms, {times[rows] / CHANGES:.2f} us for one,"
                   f"  {times[rows] / times[SIZES[0]]:.2f} times the first", flush=True)
