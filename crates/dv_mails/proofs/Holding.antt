@@ -1,6 +1,6 @@
 -- A message file that was written is taken as its message.
-use Rattle.std.proofs.Common.{◌≡◌, ℕ, ◌++◌, List, [], Option, Some, None, Result, Ok, Err, OnOk, sym, ◌∙◌, ap}
-use Rattle.std.specs.Prelude.{unwrap_or}
+use Rattle.std.proofs.Common.{◌≡◌, ℕ, ◌<◌, ◌^◌, ◌++◌, List, [], length, Option, Some, None, Result, Ok, Err, IfOk, OnOk, sym, ◌∙◌, ap}
+use Rattle.std.specs.Prelude.{slice_index, unwrap_or}
 use Rattle.std.proofs.lemmas.List.{append-nil}
 use Rattle.dv_model.specs.Journals.{Damaged, Held}
 use Rattle.dv_shelf.specs.declared.shelf.Name.TheVariants as name
@@ -43,3 +43,14 @@ put_holds files may_leave old new uid message guid text bytes (Ok x) same is put
   crash = λ c left. has_mail uid message guid text c is (durable c left ∙ ap (λ (t : List ℕ). Some t) same);
 }
 put_holds files may_leave old new uid message guid text bytes (Err e) same is put durable = tt
+
+-- the text that is made of a message is its file
+pub text_is : {E : Type 0} (now : ℕ) (guid message : List ℕ) (result : Result (List ℕ) E) → length guid ≡ 16 → ((i : ℕ) → slice_index guid i < 256) → now < 2 ^ 32 → length message < 2 ^ 63
+    → IfOk result (λ text. text ≡ written now guid now message) → IfOk result (IsFileOf message guid)
+text_is now guid message (Ok text) sixteen bytes small short is = record {
+  stamp = now;
+  received = now;
+  writable = record { made = small; came = small; sixteen = sixteen; bytes = bytes; short = short };
+  is = is;
+}
+text_is now guid message (Err e) sixteen bytes small short is = tt

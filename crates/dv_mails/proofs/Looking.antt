@@ -1,5 +1,5 @@
 -- What is read of message files, one behind the other.
-use Rattle.std.proofs.Common.{◌≡◌, ℕ, suc, ◌+◌, ◌<◌, ◌≤◌, List, [], ◌∷◌, ◌++◌, length, map, take, get_or, Result, Ok, Err, refl, sym, ◌∙◌, ap, arith}
+use Rattle.std.proofs.Common.{◌≡◌, ℕ, suc, ◌+◌, ◌<◌, ◌≤◌, List, [], ◌∷◌, ◌++◌, length, take, get_or, Result, refl, sym, ◌∙◌, ap, arith}
 use Rattle.std.specs.Prelude.{IsErrOf}
 use Rattle.std.proofs.lemmas.List.{map-append, take_more}
 use Rattle.dv_model.specs.Counts.{Rose}

@@ -9,4 +9,4 @@ mod writing;
 
 pub use laws::{other_messages_stay, removals_are_single};
 pub use reading::{MailFile, guids_of, read_mail};
-pub use writing::{put, sweep};
+pub use writing::{mail_text, put, sweep};

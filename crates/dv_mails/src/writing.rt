@@ -1,8 +1,9 @@
 //! Message files that are written and removed.
 
-ghost use Rattle.std.specs.Prelude.{◌≡◌, List, ℕ, OnOk};
+ghost use Rattle.std.specs.Prelude.{◌≡◌, List, ℕ, IfOk, OnOk};
 ghost use Rattle.dv_shelf.specs.Causes.{HasCause};
 ghost use Rattle.dv_shelf.specs.declared.shelf.Name.TheVariants as name;
+ghost use Rattle.dv_dbox.specs.BoxTexts.{written};
 ghost use Rattle.dv_chain.specs.declared.chain.Chain.{Chain};
 ghost use Rattle.dv_chain.specs.Rest.{Owed, Rests};
 ghost use Rattle.dv_rotation.specs.Leavings.{IsPut, Leaves, Puts};
@@ -10,10 +11,26 @@ ghost use Rattle.dv_mails.specs.Quiet.{KeepsRest};
 ghost use Rattle.dv_mails.specs.Writing.{HoldsMail, IsFileOf, IsRemoved, IsSweeping};
 ghost use Rattle.dv_mails.specs.Writing.{Removes, Sweeps};
 
-use dv_model::Bytes;
+use dv_dbox::write;
+use dv_model::{Bytes, NoMemory};
 use dv_shelf::{Failed, Name, Shelf};
+use std::alloc::Global;
 
-/// Writes the message file of a UID by one replace: `text`, as `dv_dbox::write` gives it for a message.
+/// The text of a message's file, which is made and received now, in seconds since 1970. `NoMemory`
+/// is the only error.
+pub fn mail_text(
+    alloc: Global,
+    guid: &[u8; 16],
+    now: u32,
+    message: &[u8],
+) -> Result<Bytes, NoMemory>
+    ensures text { IfOk result (λ text. text ≡ written now guid.now now message.now) }
+    ensures is { IfOk result (IsFileOf message.now guid.now) }
+{
+    write(alloc, now, guid, now, message)
+}
+
+/// Writes the message file of a UID by one replace: the text that `mail_text` gives for a message.
 /// Takes no memory. After `Failed` the file is as before or has the text.
 pub fn put<S: Shelf>(shelf: &mut S, uid: u32, text: &Bytes) -> Result<(), Failed>
     // The files, and what a crash leaves of them, afterwards and at any moment.

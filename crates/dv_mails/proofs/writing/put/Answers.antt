@@ -1,4 +1,4 @@
-use Rattle.std.proofs.Common.{List, ℕ, subst, sym}
+use Rattle.std.proofs.Common.{List, ℕ, subst}
 use Rattle.dv_shelf.specs.declared.shelf.Name.TheVariants as name
 use Rattle.dv_rotation.specs.Leavings.{IsPut, Leaves, Puts}
 use Rattle.dv_rotation.proofs.Replacing.{puts_either, replaced}
