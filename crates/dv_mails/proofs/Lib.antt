@@ -1,0 +1,4 @@
+pub mod Holding
+pub mod Removing
+pub mod Beside
+pub mod Looking
