@@ -10,3 +10,6 @@ mod writing;
 pub use laws::{other_messages_stay, removals_are_single};
 pub use reading::{MailFile, guids_of, read_mail};
 pub use writing::{mail_text, put, sweep};
+
+#[cfg(test)]
+mod tests;
