@@ -1,6 +1,7 @@
 ghost use Rattle.std.specs.Prelude.{◌≡◌, IsOk};
 ghost use Rattle.dv_model.specs.declared.types.Mailbox.{Mailbox};
 ghost use Rattle.dv_shelf.specs.Causes.{HasCause};
+ghost use Rattle.dv_logfile.specs.Commits.{ShutsGate};
 ghost use Rattle.dv_logfile.specs.Gates.{HasDiskCause};
 ghost use Rattle.dv_chain.specs.Openings.{HasBounds};
 ghost use Rattle.dv_chain.specs.Rest.{IsPending, Nothing, Owed, Rests};
@@ -55,6 +56,9 @@ pub fn heal<S: Shelf>(chain: &mut Chain, shelf: &mut S) -> Result<(), Failed>
     // The debt, and what stays. Where nothing is owed nothing is done.
     ensures value { HealsChain chain.old chain.new result }
     ensures nothing { chain.old.log.debt ≡ Debt.None → IsOk result × (shelf.new ≡ shelf.old) }
+    // The files as reads give them.
+    ensures bytes { S.tells →
+        ShutsGate chain.old.log result (S.files shelf.old) (S.files shelf.new) }
     // What the folder opens to, at any moment and afterwards; from rest to rest.
     ensures opens { S.tells → (owed : Owed) → Rests S.may_leave owed chain.old shelf.old →
         HealsFolder S.files S.may_leave S.moment S.left_since

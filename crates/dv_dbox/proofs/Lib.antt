@@ -5,3 +5,4 @@ pub mod Wide
 pub mod Again
 pub mod Written
 pub mod Found
+pub mod Taken

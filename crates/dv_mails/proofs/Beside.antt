@@ -35,7 +35,7 @@ put_beside uid text old new put =
     ⊎_elim (λ same. record { index = ap (λ (f : Folder). f name.Index) same; log = ap (λ (f : Folder). f name.Log) same; log2 = ap (λ (f : Folder). f name.Log2) same })
     (λ there. file_beside old new uid (Some text) there) put
 
-none_named : (n : Name) → ((uid : ℕ) → name.Mail uid ≢ n) → (uids : List ℕ) → has_name (mail_names uids) n ≡ false
+pub none_named : (n : Name) → ((uid : ℕ) → name.Mail uid ≢ n) → (uids : List ℕ) → has_name (mail_names uids) n ≡ false
 none_named n other [] = refl
 none_named n other (uid ∷ uids) = ap (λ (b : Bool). b || has_name (mail_names uids) n) (by_name (same_name (name.Mail uid) n) refl) ∙ none_named n other uids
   where

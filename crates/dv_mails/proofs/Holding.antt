@@ -1,33 +1,21 @@
 -- A message file that was written is taken as its message.
-use Rattle.std.proofs.Common.{◌≡◌, ℕ, ◌<◌, ◌^◌, ◌++◌, List, [], length, Option, Some, None, Result, Ok, Err, IfOk, OnOk, sym, ◌∙◌, ap}
+use Rattle.std.proofs.Common.{◌≡◌, ℕ, ◌<◌, ◌^◌, List, length, Option, Some, None, Result, Ok, Err, IfOk, OnOk, ◌∙◌, ap}
 use Rattle.std.specs.Prelude.{slice_index, unwrap_or}
-use Rattle.std.proofs.lemmas.List.{append-nil}
 use Rattle.dv_model.specs.Journals.{Damaged, Held}
 use Rattle.dv_shelf.specs.declared.shelf.Name.TheVariants as name
 use Rattle.dv_shelf.specs.Folders.{Folder, with_file}
 use Rattle.dv_shelf.proofs.FolderLemmas.{with_here}
-use Rattle.dv_dbox.specs.BoxTexts.{BoxContent, BoxFault, box_content, written}
+use Rattle.dv_dbox.specs.BoxTexts.{BoxContent, written}
 use Rattle.dv_dbox.specs.Mails.{content_in, no_guid}
-use Rattle.dv_dbox.specs.Reading.{IsWritable, written_content}
-use Rattle.dv_dbox.proofs.Again.{read_again}
-use Rattle.dv_dbox.proofs.Written.{written_is_text}
+use Rattle.dv_dbox.specs.Reading.{written_content}
+use Rattle.dv_dbox.proofs.Taken.{written_is_taken}
 use Rattle.dv_mails.specs.Writing.{HasMail, HoldsMail, IsFileOf}
-
-content_is : (stamp received : ℕ) (guid message : List ℕ) → IsWritable stamp guid received message → content_in (Some (written stamp guid received message)) ≡ Some (written_content stamp guid received message)
-content_is stamp received guid message is =
-    let b = written stamp guid received message in
-    let m = written_content stamp guid received message in
-    let text = written_is_text stamp guid received message [] is.made is.came is.sixteen is.bytes is.short in
-    ap (λ t. content_in (Some t)) (sym (append-nil b)) ∙ found (box_content (b ++ [])) m (read_again m (b ++ []) text)
-  where
-    found : (read : Result BoxContent BoxFault) (m : BoxContent) → read ≡ Ok m → elim read [ Ok x ↦ Some x | Err fault ↦ None ] ≡ Some m
-    found read m e = ap (λ r. elim r [ Ok x ↦ Some x | Err fault ↦ None ]) e
 
 -- a folder with the file has the message
 has_mail : (uid : ℕ) (message guid text : List ℕ) (folder : Folder) → IsFileOf message guid text → folder (name.Mail uid) ≡ Some text → HasMail uid message guid folder
 has_mail uid message guid text folder is there =
     let content : content_in (folder (name.Mail uid)) ≡ Some (written_content is.stamp guid is.received message) =
-    ap content_in (there ∙ ap (λ (t : List ℕ). Some t) is.is) ∙ content_is is.stamp is.received guid message is.writable in
+    ap content_in (there ∙ ap (λ (t : List ℕ). Some t) is.is) ∙ written_is_taken is.stamp is.received guid message is.writable in
     record {
       held = ap (λ (o : Option BoxContent). elim o [ None ↦ Damaged | Some m ↦ Held m.bytes ]) content;
       named = ap (λ (o : Option BoxContent). elim o [ None ↦ no_guid | Some m ↦ unwrap_or m.guid no_guid ]) content;

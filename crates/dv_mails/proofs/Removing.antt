@@ -1,5 +1,5 @@
 -- What removals of message files leave, one behind the other.
-use Rattle.std.proofs.Common.{◌≡◌, ◌≢◌, inl, inr, ⊎_elim, ℕ, Contains, ◌+◌, ◌<◌, true, false, Bool, ◌||◌, cond, List, [], ◌∷◌, ◌++◌, length, take, drop, get_or, Option, Some, None, Result, Ok, Err, OnOk, OnErr, refl, sym, ◌∙◌, ap, arith}
+use Rattle.std.proofs.Common.{◌≡◌, inl, inr, ⊎_elim, ℕ, Contains, ◌+◌, ◌<◌, true, false, Bool, ◌||◌, cond, List, [], ◌∷◌, ◌++◌, length, take, drop, get_or, Option, Some, None, Result, Ok, Err, OnOk, OnErr, refl, sym, ◌∙◌, ap, arith}
 use Rattle.std.proofs.Math.Path.{fun_ext}
 use Rattle.std.proofs.lemmas.List.{map-append, take_more, take-append-drop}
 use Rattle.std.proofs.lemmas.List.Elements.{Contains-append_right}
@@ -8,7 +8,7 @@ use Rattle.dv_shelf.specs.declared.shelf.Name.{Name}
 use Rattle.dv_shelf.specs.declared.shelf.Name.TheVariants as name
 use Rattle.dv_shelf.specs.Crashes.{Elapses, Follows}
 use Rattle.dv_shelf.specs.Folders.{ChangesOnly, Folder, IsEither, has_name, name_number, same_name, with_file}
-use Rattle.dv_shelf.proofs.FolderLemmas.{is_same, same_is, with_else, with_same}
+use Rattle.dv_shelf.proofs.FolderLemmas.{same_is, with_else, with_file_is, with_same}
 use Rattle.dv_shelf.proofs.Moments.{goes_on, started}
 use Rattle.dv_rotation.specs.Leavings.{Leaves}
 use Rattle.dv_rotation.proofs.Replacing.{leaves_both}
@@ -16,20 +16,9 @@ use Rattle.dv_mails.specs.Writing.{IsRemoved, IsSweeping, IsSwept, Removes, Stay
 
 -- ---- one file
 
--- one file is another
-file_now : (old c : Folder) (n : Name) (file : Option (List ℕ)) → c n ≡ file → ((k : Name) → k ≢ n → c k ≡ old k) → c ≡ with_file old n file
-file_now old c n file here others = fun_ext (λ k. by_name k (same_name n k) refl)
-  where
-    by_name : (k : Name) (b : Bool) → same_name n k ≡ b → c k ≡ cond b file (old k)
-    by_name k true same = ap c (sym (same_is n k same)) ∙ here
-    by_name k false away =
-        others k (λ e.
-        let same = is_same n k (sym e) in
-        absurd cc)
-
 either_removed : (old c : Folder) (n : Name) → ChangesOnly n (IsEither None) old c → IsRemoved n old c
 either_removed old c n step =
-    ⊎_elim (λ same. inl (file_now old c n (old n) same step.others ∙ with_same old n)) (λ gone. inr (file_now old c n None gone step.others)) step.there
+    ⊎_elim (λ same. inl (with_file_is old c n (old n) same step.others ∙ with_same old n)) (λ gone. inr (with_file_is old c n None gone step.others)) step.there
 
 -- ---- one file more
 
@@ -129,7 +118,7 @@ module _ {S : Type 0} (files : S → Folder) (may_leave : S → Folder → Type 
       crash : (r : Result T E) → OnOk r ((c : Folder) → may_leave new c → c n ≡ None) → Follows (Removes n r) (may_leave old) (may_leave new)
       crash (Ok x) durable = λ c left.
           let from = follows c left in
-          (from.0, from.1, file_now from.0 c n None (durable c left) from.2.others)
+          (from.0, from.1, with_file_is from.0 c n None (durable c left) from.2.others)
       crash (Err e) durable = λ c left.
           let from = follows c left in
           (from.0, from.1, either_removed from.0 c n from.2)

@@ -1,30 +1,18 @@
 -- What one replace leaves, and several, one behind the other.
-use Rattle.std.proofs.Common.{◌≡◌, ◌≢◌, inl, inr, ⊎_elim, ℕ, true, false, Bool, cond, List, Option, Some, Result, Ok, Err, OnOk, OnErr, refl, sym, ◌∙◌, ap, subst}
-use Rattle.std.proofs.Math.Path.{fun_ext}
+use Rattle.std.proofs.Common.{◌≡◌, inl, inr, ⊎_elim, ℕ, List, Some, Result, Ok, Err, OnOk, OnErr, refl, ◌∙◌, ap, subst}
 use Rattle.dv_shelf.specs.declared.shelf.Name.{Name}
 use Rattle.dv_shelf.specs.declared.shelf.Name.TheVariants as name
 use Rattle.dv_shelf.specs.Crashes.{Elapses, Follows}
-use Rattle.dv_shelf.specs.Folders.{ChangesOnly, Folder, IsEither, same_name, with_file}
-use Rattle.dv_shelf.proofs.FolderLemmas.{is_same, same_is, with_same}
+use Rattle.dv_shelf.specs.Folders.{ChangesOnly, Folder, IsEither, with_file}
+use Rattle.dv_shelf.proofs.FolderLemmas.{with_file_is, with_same}
 use Rattle.dv_shelf.proofs.Moments.{goes_on, joined, started, weaker}
 use Rattle.dv_logfile.specs.Gates.{FromOneOf}
 use Rattle.dv_rotation.specs.declared.texts.Turn.{Turn}
 use Rattle.dv_rotation.specs.Leavings.{IsBeforeLast, IsPut, IsTurning, Leaves, Puts, with_new, with_old}
 
--- one file is another
-file_put : (old c : Folder) (n : Name) (file : Option (List ℕ)) → c n ≡ file → ((k : Name) → k ≢ n → c k ≡ old k) → c ≡ with_file old n file
-file_put old c n file here others = fun_ext (λ k. by_name k (same_name n k) refl)
-  where
-    by_name : (k : Name) (b : Bool) → same_name n k ≡ b → c k ≡ cond b file (old k)
-    by_name k true same = ap c (sym (same_is n k same)) ∙ here
-    by_name k false away =
-        others k (λ e.
-        let same = is_same n k (sym e) in
-        absurd cc)
-
 either_put : (old c : Folder) (n : Name) (text : List ℕ) → ChangesOnly n (IsEither (Some text)) old c → IsPut n text old c
 either_put old c n text step =
-    ⊎_elim (λ same. inl (file_put old c n (old n) same step.others ∙ with_same old n)) (λ put. inr (file_put old c n (Some text) put step.others)) step.there
+    ⊎_elim (λ same. inl (with_file_is old c n (old n) same step.others ∙ with_same old n)) (λ put. inr (with_file_is old c n (Some text) put step.others)) step.there
 
 pub puts_either : {T E : Type 0} (n : Name) (text : List ℕ) (result : Result T E) (old c : Folder) → Puts n text result old c → IsPut n text old c
 puts_either n text (Ok x) old c put = inr put
@@ -51,7 +39,7 @@ module _ {S : Type 0} (files : S → Folder) (may_leave : S → Folder → Type 
       crash : (r : Result T E) → OnOk r ((c : Folder) → may_leave new c → c n ≡ Some text) → Follows (Puts n text r) (may_leave old) (may_leave new)
       crash (Ok x) durable = λ c left.
           let from = follows c left in
-          (from.0, from.1, file_put from.0 c n (Some text) (durable c left) from.2.others)
+          (from.0, from.1, with_file_is from.0 c n (Some text) (durable c left) from.2.others)
       crash (Err e) durable = λ c left.
           let from = follows c left in
           (from.0, from.1, either_put from.0 c n text from.2)

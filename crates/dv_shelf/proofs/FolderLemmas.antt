@@ -1,5 +1,5 @@
 -- Names that are one, and folders in which one file changes.
-use Rattle.std.proofs.Common.{◌≡◌, ◌≢◌, ℕ, Bool, true, false, cond, List, Option, refl, sym, ap, arith}
+use Rattle.std.proofs.Common.{◌≡◌, ◌≢◌, ℕ, Bool, true, false, cond, List, Option, refl, sym, ◌∙◌, ap, arith}
 use Rattle.std.proofs.Math.Path.{fun_ext}
 use Rattle.std.proofs.lemmas.Bool.{eqb-true, eq-eqb}
 use Rattle.dv_shelf.specs.declared.shelf.Name.{Name}
@@ -40,6 +40,18 @@ with_same folder name = fun_ext (λ n. by_name n (same_name name n) refl)
         → cond b (folder name) (folder n) ≡ folder n
     by_name n true same = ap folder (same_is name n same)
     by_name n false other = refl
+
+-- a folder that differs from another at one name only, where it has that file
+pub with_file_is : (old folder : Folder) (n : Name) (file : Option (List ℕ)) → folder n ≡ file
+    → ((k : Name) → k ≢ n → folder k ≡ old k) → folder ≡ with_file old n file
+with_file_is old folder n file here others = fun_ext (λ k. by_name k (same_name n k) refl)
+  where
+    by_name : (k : Name) (b : Bool) → same_name n k ≡ b → folder k ≡ cond b file (old k)
+    by_name k true same = ap folder (sym (same_is n k same)) ∙ here
+    by_name k false away =
+        others k (λ e.
+        let same = is_same n k (sym e) in
+        absurd cc)
 
 -- how the file of a name may change
 abbrev pub Step : Type 1

@@ -1,5 +1,5 @@
 -- A record that grows keeps the calls that it had.
-use Rattle.std.proofs.Common.{◌||◌, suc, zero, ◌≡◌, ℕ, ◌+◌, ◌<◌, ◌≤◌, Bool, List, get_or, [], ◌∷◌, ◌++◌, length, take, drop, map, Contains, length-drop, true, false, if◌then◌else◌, refl, sym, ◌∙◌, ap, subst, arith, ⊎_elim}
+use Rattle.std.proofs.Common.{◌||◌, ◌≡◌, ℕ, ◌+◌, ◌<◌, ◌≤◌, Bool, List, get_or, [], ◌∷◌, ◌++◌, length, take, drop, map, Contains, length-drop, true, false, if◌then◌else◌, refl, sym, ◌∙◌, ap, subst, arith, ⊎_elim}
 use Rattle.std.proofs.lemmas.List.{take-append-le, take-append-drop, drop-append-le, drop-map, map-append, drop_at, take_all}
 use Rattle.std.proofs.lemmas.List.Elements.{Contains-append_right, Contains-append_left, Contains-push_cases, Contains-get_or}
 use Rattle.std.specs.List.{list_any}

@@ -78,7 +78,7 @@ same_torn at n (Some old) =
     record { before = refl; behind = refl; no_shorter = omega arith; no_longer = omega arith }
 
 -- fewer bytes were written
-torn_more : (at m n : ℕ) (old new : List ℕ) → m ≤ n → Torn at m old new → Torn at n old new
+pub torn_more : (at m n : ℕ) (old new : List ℕ) → m ≤ n → Torn at m old new → Torn at n old new
 torn_more at m n old new le torn = record {
   before = torn.before;
   behind = rw_behind;

@@ -1,4 +1,4 @@
-use Rattle.std.proofs.Common.{◌≡◌, ◌≤◌, take}
+use Rattle.std.proofs.Common.{◌≡◌, take}
 use Rattle.dv_chain.specs.Openings.{OnlyLooks}
 use Rattle.dv_mails.specs.Reading.{after_reads, guid_rows}
 use Rattle.dv_mails.proofs.reading.guids_of.Given as goal
@@ -8,5 +8,5 @@ invariant-loop-uid g l = record {
   rows : g.S.Shelf.tells → l.rows ≡ guid_rows (g.S.Shelf.files l.initial.shelf) (take l.uid-index l.uids);
   looks : g.S.Shelf.tells → OnlyLooks g.S.Shelf.files g.S.Shelf.may_leave g.S.Shelf.moment g.S.Shelf.left_since l.initial.shelf l.shelf;
   mail_reads : g.S.Shelf.mail_reads l.shelf ≡ after_reads (g.S.Shelf.mail_reads l.initial.shelf) l.uid-index;
-  later : g.S.Shelf.fault_count l.initial.shelf ≤ g.S.Shelf.fault_count l.shelf;
+  faults : g.S.Shelf.fault_count l.shelf ≡ g.S.Shelf.fault_count l.initial.shelf;
 }
