@@ -1,21 +1,22 @@
 #!/usr/bin/env bash
-# Refuses one allocation after another while a record of each kind is read, prepared and shown. In
-# each run the test of crates/dv_refusals is to pass: where memory is refused before a record is
-# ready, the mailbox is as before, and behind that nothing takes memory, so that the record is shown
-# whatever is refused. Each run is built anew.
-# Usage: bench/refused_records.sh [FIRST [LAST]]      from which refusal to which
+# Refuses each allocation in turn while records of each kind are read, prepared, shown and applied.
+# The program crates/dv_refusals makes as many allocations before its work as its input has bytes, so
+# that one and the same refusal meets another allocation in each run. Where memory is refused before
+# a record is ready, the mailbox is as before, and behind that nothing takes memory: each run is to
+# say that all records are shown and applied as they have to be.
 set -euo pipefail
-top=$(cd "$(dirname "$0")/.." && pwd)
-first=${1:-1}
-last=${2:-300}
+cd "$(dirname "$0")/../crates/dv_refusals"
+folder=$(mktemp -d)
+trap 'rm -rf "$folder"' EXIT
 
-cd "$top/crates/dv_refusals"
-for n in $(seq "$first" "$last"); do
-    status=0
-    rt try --test --fail-alloc "$n" > /dev/null 2>&1 || status=$?
-    if [ "$status" != 0 ]; then
-        echo "allocation $n refused: status $status"
-        exit 1
-    fi
-    echo "allocation $n refused: passed"
+: > "$folder/0"
+count=$(rt try --fail-alloc 1000000 --cases "$folder" 2>&1 | sed -n 's/^allocations: //p' | head -1)
+for n in $(seq 1 $((count - 1))); do
+    head -c "$n" /dev/zero > "$folder/$n"
 done
+rt try --fail-alloc "$count" --cases "$folder" > "$folder.out" 2>&1 || true
+passed=$(grep -c "^case=.* status=0 " "$folder.out" || true)
+refused=$(grep -c " 1 refused$" "$folder.out" || true)
+rm -f "$folder.out"
+echo "$count allocations, each refused in one run: $passed runs passed, $refused met it at a record"
+[ "$passed" = "$count" ]

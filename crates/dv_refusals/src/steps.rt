@@ -1,8 +1,9 @@
+//! Records of each kind, and what a mailbox is behind each.
+
 use dv_apply::Live;
 use dv_records::decode;
 use std::alloc::Global;
 use std::slice;
-use std::test::*;
 
 // The rows, the UIDNEXT, the highest modification sequence and the keyword names.
 type Counts = (u32, u32, u64, u32);
@@ -112,45 +113,61 @@ fn shown(live: &Live) -> (Counts, [(u32, u8, u64, usize, usize); 3]) {
     (counts(live), rows)
 }
 
-// Whether a record is made ready and shown as it has to be. Where memory is refused before it is
-// ready, the mailbox is as before, and a second try is made.
-fn shows(alloc: Global, live: &mut Live, step: Step) -> bool {
-    let (bytes, expected, uids) = step;
-    let before = shown(live);
-    for _ in 0..2 {
-        let Ok((record, _)) = decode(alloc, bytes, 0) else {
-            continue;
-        };
-        let Ok(prepared) = live.prepare(slice::from_ref(&record)) else {
-            if shown(live) != before {
-                return false;
-            }
-            continue;
-        };
-        let touched = live.complete(prepared);
-        return counts(live) == expected && touched.uids() == uids;
-    }
-    false
+/// Whether records of each kind are as they have to be: how many tries met a refusal.
+#[derive(Clone, Copy, PartialEq, Eq, Debug)]
+pub enum Outcome {
+    /// So many tries met one, and left the mailbox as it was.
+    Right(u32),
+    /// A mailbox isn't as it has to be.
+    Wrong,
 }
 
-// Whether a record is applied as it has to be. Where memory is refused, the mailbox is as before,
-// and a second try is made.
-fn applies(alloc: Global, live: &mut Live, step: Step) -> bool {
+// A record is made ready and shown.
+fn show(alloc: Global, live: &mut Live, step: Step) -> Option<bool> {
+    let (bytes, expected, uids) = step;
+    let Ok((record, _)) = decode(alloc, bytes, 0) else {
+        return None;
+    };
+    let Ok(prepared) = live.prepare(slice::from_ref(&record)) else {
+        return None;
+    };
+    let touched = live.complete(prepared);
+    Some(counts(live) == expected && touched.uids() == uids)
+}
+
+// A record is applied.
+fn apply(alloc: Global, live: &mut Live, step: Step) -> Option<bool> {
     let (bytes, expected, _) = step;
-    let before = shown(live);
-    for _ in 0..2 {
-        let Ok((record, _)) = decode(alloc, bytes, 0) else {
-            continue;
-        };
-        if live.apply(&record).is_err() {
-            if shown(live) != before {
-                return false;
-            }
-            continue;
-        }
-        return counts(live) == expected;
+    let Ok((record, _)) = decode(alloc, bytes, 0) else {
+        return None;
+    };
+    match live.apply(&record) {
+        Ok(()) => Some(counts(live) == expected),
+        Err(_) => None,
     }
-    false
+}
+
+// One record by a first try, and a second one where memory was refused, which is to leave the
+// mailbox as before.
+fn tried(alloc: Global, live: &mut Live, step: Step, shows: bool) -> Outcome {
+    for refused in 0..2 {
+        let before = shown(live);
+        let done = if shows {
+            show(alloc, live, step)
+        } else {
+            apply(alloc, live, step)
+        };
+        match done {
+            Some(true) => return Outcome::Right(refused),
+            Some(false) => return Outcome::Wrong,
+            None => {
+                if shown(live) != before {
+                    return Outcome::Wrong;
+                }
+            }
+        }
+    }
+    Outcome::Wrong
 }
 
 // The row that is left has Seen, the keyword k1 and the modification sequence of that record.
@@ -162,22 +179,19 @@ fn is_left(live: &Live) -> bool {
     row.keywords.as_slice() == [0].as_slice() && (row.uid, row.flags, row.modseq) == (1, 8, 5)
 }
 
-#[test]
-fn records_are_shown_whichever_allocation_is_refused(rt: HostRuntime) -> Result<(), Fail> {
-    let mut live = Live::empty(rt.alloc(), 1000);
+/// Records of each kind are shown, or else applied, one after another.
+pub fn try_records(alloc: Global, shows: bool) -> Outcome {
+    let mut live = Live::empty(alloc, 1000);
+    let mut refusals: u32 = 0;
     for step in STEPS {
-        assert!(rt; shows(rt.alloc(), &mut live, step));
+        match tried(alloc, &mut live, step, shows) {
+            Outcome::Right(refused) => refusals = refusals.saturating_add(refused),
+            Outcome::Wrong => return Outcome::Wrong,
+        }
     }
-    assert!(rt; is_left(&live));
-    Ok(())
-}
-
-#[test]
-fn records_are_applied_whichever_allocation_is_refused(rt: HostRuntime) -> Result<(), Fail> {
-    let mut live = Live::empty(rt.alloc(), 1000);
-    for step in STEPS {
-        assert!(rt; applies(rt.alloc(), &mut live, step));
+    if is_left(&live) {
+        Outcome::Right(refusals)
+    } else {
+        Outcome::Wrong
     }
-    assert!(rt; is_left(&live));
-    Ok(())
 }
