@@ -9,4 +9,4 @@ folder_path (c ∷ path) = (c ∷ path) ++ codes "/"
 
 -- the path of a real folder
 abbrev pub path_of : Folder → List ℕ
-path_of folder = string_bytes folder.disk.folder
+path_of folder = string_bytes folder.shelf.files.system.folder

@@ -1,54 +1,28 @@
-ghost use Rattle.std.specs.Prelude.{◌≡◌, ◌^◌, ◌-◌, None, IfOk};
-ghost use Rattle.dv_shelf.specs.Causes.{HasCause, HasCauseOf};
+ghost use Rattle.std.specs.Prelude.{◌≡◌, None, IfOk};
 ghost use Rattle.dv_folder.specs.Paths.{folder_path, path_of};
 
-use crate::disk::Disk;
+use crate::calls::Calls;
 use dv_model::{Bytes, List, NoMemory};
 use dv_shelf::{Failed, Name, Shelf, ShelfFault};
 use std::alloc::Global;
-use std::io::{self, ErrorKind};
 
 /// The files of a real folder. Each error of the system is counted.
 #[derive(Drop)]
 pub struct Folder {
-    disk: Disk,
-    faults: u64,
+    shelf: dv_disk::Folder<Calls>,
 }
 
 impl Folder {
-    /// The folder at a path, which is made by the first write where it is missing. This call
+    /// The folder at a path, which is made by the first change where it is missing. This call
     /// touches nothing of the disk.
     pub fn new(alloc: Global, rt: HostRuntime, path: &str) -> Result<Folder, NoMemory>
-        ensures faults { IfOk result (λ shelf. shelf.faults ≡ 0) }
+        ensures faults { IfOk result (λ shelf. shelf.shelf.faults ≡ 0) }
         ensures path { IfOk result (λ shelf. path_of shelf ≡ folder_path path.now) }
     {
-        let disk = Disk::new(alloc, rt, path)?;
-        Ok(Folder { disk, faults: 0 })
-    }
-
-    fn counted(&mut self, done: io::Result<()>) -> Result<(), Failed>
-        ensures { HasCause self.old.faults self.new.faults result }
-    {
-        match done {
-            Ok(()) => Ok(()),
-            Err(_) => {
-                self.faults = self.faults.saturating_add(1);
-                Err(Failed)
-            }
-        }
-    }
-
-    fn counted_read<T>(&mut self, done: io::Result<T>) -> Result<T, ShelfFault>
-        ensures { HasCauseOf ShelfFault.Failed self.old.faults self.new.faults result }
-    {
-        match done {
-            Ok(value) => Ok(value),
-            Err(e) if e.kind() == ErrorKind::OutOfMemory => Err(ShelfFault::NoMemory),
-            Err(_) => {
-                self.faults = self.faults.saturating_add(1);
-                Err(ShelfFault::Failed)
-            }
-        }
+        let calls = Calls::new(alloc, rt, path)?;
+        Ok(Folder {
+            shelf: dv_disk::Folder::new(alloc, calls),
+        })
     }
 }
 
@@ -63,43 +37,36 @@ impl Shelf for Folder {
 
     ghost left_since = { λ _ _ _. ⊥ };
 
-    ghost fault_count = { λ s. s.faults };
+    ghost fault_count = { λ s. s.shelf.faults };
 
-    // It stands at its end, since nothing is told of it.
-    ghost mail_reads = { λ _. 2 ^ 64 - 1 };
+    ghost mail_reads = { λ s. s.shelf.mail_reads };
 
     fn read(&mut self, alloc: Global, name: Name) -> Result<Option<Bytes>, ShelfFault> {
-        let done = self.disk.read(alloc, name);
-        self.counted_read(done)
+        self.shelf.read(alloc, name)
     }
 
     fn list(&mut self, alloc: Global) -> Result<List<Name>, ShelfFault> {
-        let done = self.disk.list(alloc);
-        self.counted_read(done)
+        self.shelf.list(alloc)
     }
 
     fn write_at(&mut self, name: Name, at: u32, bytes: &[u8]) -> Result<(), Failed> {
-        let done = self.disk.write_at(name, at, bytes);
-        self.counted(done)
+        self.shelf.write_at(name, at, bytes)
     }
 
     fn sync(&mut self, name: Name) -> Result<(), Failed> {
-        let done = self.disk.sync(name);
-        self.counted(done)
+        self.shelf.sync(name)
     }
 
     fn replace(&mut self, name: Name, bytes: &[u8]) -> Result<(), Failed> {
-        let done = self.disk.replace(name, bytes);
-        self.counted(done)
+        self.shelf.replace(name, bytes)
     }
 
     fn remove(&mut self, name: Name) -> Result<(), Failed> {
-        let done = self.disk.remove(name);
-        self.counted(done)
+        self.shelf.remove(name)
     }
 
     fn faults(&self) -> u64 {
-        self.faults
+        self.shelf.faults()
     }
 
     ghost counts_now = { λ _ _ _ _ never. never };

@@ -2,7 +2,7 @@
 //! proved: these calls are trusted to do what their names say.
 #![tactic(auto)]
 
-mod disk;
+mod calls;
 mod folder;
 mod names;
 mod streams;

@@ -1,4 +1,5 @@
 use dv_shelf::Clock;
+use dv_system::cut_seconds;
 use std::time::{SystemTime, UNIX_EPOCH};
 
 /// The system's clock, in seconds since 1970.
@@ -26,7 +27,7 @@ impl Clock for SystemClock {
             return 0;
         };
         match now.duration_since(UNIX_EPOCH) {
-            Ok(since) => u32::try_from(since.as_secs()).unwrap_or(u32::MAX),
+            Ok(since) => cut_seconds(since.as_secs()),
             Err(_) => 0,
         }
     }

@@ -35,10 +35,11 @@ fn files_of_a_real_folder(rt: HostRuntime) -> Result<(), Fail> {
     let mut shelf = Folder::new(alloc, rt, path.as_str())?;
     assert!(rt; shelf.list(alloc).ok().ok_or("list")?.is_empty());
     assert!(rt; shelf.read(alloc, Name::Log).ok().ok_or("read")?.is_none());
-    assert!(rt; shelf.sync(Name::Log).is_ok());
-    assert!(rt; shelf.remove(Name::Mail(7)).is_ok());
     assert!(rt; !fs::exists(&rt, path.as_str())?);
 
+    assert!(rt; shelf.sync(Name::Log).is_ok());
+    assert!(rt; shelf.remove(Name::Mail(7)).is_ok());
+    assert!(rt; fs::exists(&rt, path.as_str())?);
     assert!(rt; shelf.replace(Name::Log, b"log").is_ok());
     assert!(rt; shelf.write_at(Name::Log, 1, b"ive").is_ok());
     assert!(rt; shelf.write_at(Name::Mail(4_294_967_295), 2, b"x").is_ok());

@@ -1,0 +1,347 @@
+ghost use Rattle.std.specs.Prelude.{◌≡◌, ◌≢◌, List, ℕ, Option, Some, None, true, false, IfOk, MatchOption, OnOk, OnErr};
+ghost use Rattle.dv_shelf.specs.declared.shelf.Name.{Name};
+ghost use Rattle.dv_system.specs.declared.system.Entry.TheVariants as entry;
+ghost use Rattle.dv_disk.specs.declared.kept.KeptFile.{KeptFile};
+ghost use Rattle.dv_disk.specs.States.{Stands, AreSwept, IsTrusted, IsPlaceTrusted};
+
+use crate::kept::{KeptFile, close};
+use crate::names::names_of;
+use dv_model::{Bytes, List};
+use dv_shelf::{Failed, Name, ShelfFault};
+use dv_system::{Entry, System};
+use std::alloc::Global;
+
+/// The files of a folder, by calls of a system.
+#[derive(Drop)]
+pub(crate) struct Files<Y: System + Drop> {
+    pub(crate) system: Y,
+    alloc: Global,
+    /// The file that was written last.
+    kept: Option<KeptFile<Y::File>>,
+    /// The folder was made where it was missing, and is durable.
+    is_ready: bool,
+    /// No entry changed since a sync of the folder answered Ok.
+    is_swept: bool,
+    /// A sync of a file that was written, or of a folder, failed: no later one makes that good.
+    has_failed: bool,
+    ghost ready: { Stands is_ready Y.tells (Y.disk system) },
+    ghost swept: { AreSwept is_swept Y.tells (Y.disk system) },
+    ghost trusted: { IsTrusted has_failed Y.tells (Y.disk system) },
+    ghost place_trusted: { IsPlaceTrusted has_failed Y.tells (Y.disk system) },
+    ghost stands: { Y.tells → (k : KeptFile Y.File) → kept ≡ Some k →
+        Y.stands system k.file (entry.File k.name) ≡ true },
+}
+
+impl<Y: System + Drop> Files<Y> {
+    ghost use Rattle.dv_shelf.specs.Crashes.{Elapses};
+    ghost use Rattle.dv_shelf.specs.Folders.{Lists};
+    ghost use Rattle.dv_system.specs.Entries.{swept_at, unsure_at};
+    ghost use Rattle.dv_system.specs.Disks.{changed_names, files_of, is_missing, LeftBy};
+    ghost use Rattle.dv_disk.specs.Steps.{IsQuiet, IsDurable, IsWritten, LeavesNames, Puts, Syncs, Writes};
+
+    /// The files of a folder on which no sync failed.
+    pub(crate) fn new(alloc: Global, system: Y) -> Files<Y>
+        requires trusted { IsTrusted false Y.tells (Y.disk system) }
+        requires place_trusted { IsPlaceTrusted false Y.tells (Y.disk system) }
+        ensures { result.system ≡ system }
+    {
+        Files {
+            system,
+            alloc,
+            kept: None,
+            is_ready: false,
+            is_swept: false,
+            has_failed: false,
+        }
+    }
+
+    /// Makes the folder where it is missing, and makes it durable.
+    fn make_ready(&mut self) -> Result<(), Failed>
+        ensures quiet { Y.tells →
+            IsQuiet Y.disk Y.moment Y.left_since self.old.system self.new.system }
+        ensures ready { OnOk result (self.new.is_ready ≡ true) }
+    {
+        if self.is_ready {
+            return Ok(());
+        }
+        if self.has_failed {
+            return Err(Failed);
+        }
+        self.system.make_folder()?;
+        self.sync_parent()
+    }
+
+    /// Makes the folder durable, which is there.
+    fn sync_parent(&mut self) -> Result<(), Failed>
+        requires there { Y.tells → is_missing (Y.disk self.old.system).place ≡ false }
+        requires trusted { self.old.has_failed ≡ false }
+        ensures quiet { Y.tells →
+            IsQuiet Y.disk Y.moment Y.left_since self.old.system self.new.system }
+        ensures ready { OnOk result (self.new.is_ready ≡ true) }
+    {
+        match self.system.sync_parent() {
+            Ok(()) => {
+                self.is_ready = true;
+                Ok(())
+            }
+            Err(failed) => {
+                self.has_failed = true;
+                Err(failed)
+            }
+        }
+    }
+
+    /// Makes the entries durable.
+    fn sweep(&mut self) -> Result<(), Failed>
+        ensures ok { Y.tells → OnOk result
+            (Y.disk self.new.system ≡ changed_names swept_at (Y.disk self.old.system)) }
+        ensures err { Y.tells → OnErr result
+            (Y.disk self.new.system ≡ changed_names unsure_at (Y.disk self.old.system)) }
+        ensures time { Y.tells → Elapses (Y.moment self.old.system) (Y.moment self.new.system)
+            (Y.left_since self.old.system) (Y.left_since self.new.system)
+            (LeftBy (Y.disk self.new.system)) }
+        ensures ready { self.new.is_ready ≡ self.old.is_ready }
+        ensures swept { OnOk result (self.new.is_swept ≡ true) }
+    {
+        match self.system.sync_folder() {
+            Ok(()) => {
+                self.is_swept = true;
+                Ok(())
+            }
+            Err(failed) => {
+                self.has_failed = true;
+                Err(failed)
+            }
+        }
+    }
+
+    /// Makes the folder and its entries durable, as they are.
+    fn start(&mut self) -> Result<(), Failed>
+        ensures quiet { Y.tells →
+            IsQuiet Y.disk Y.moment Y.left_since self.old.system self.new.system }
+        ensures ready { OnOk result (self.new.is_ready ≡ true) }
+        ensures swept { OnOk result (self.new.is_swept ≡ true) }
+    {
+        self.make_ready()?;
+        if self.is_swept {
+            return Ok(());
+        }
+        self.sweep()
+    }
+
+    /// Writes the temporary file anew, and makes its bytes durable.
+    fn write_temporary(&mut self, bytes: &[u8]) -> Result<(), Failed>
+        ensures names { Y.tells → LeavesNames (Y.disk self.old.system) (Y.disk self.new.system) }
+        ensures bytes { Y.tells → OnOk result
+            (IsDurable (Y.disk self.new.system).temporary (Some bytes.now)) }
+        ensures quiet { Y.tells →
+            IsQuiet Y.disk Y.moment Y.left_since self.old.system self.new.system }
+        ensures ready { self.new.is_ready ≡ self.old.is_ready }
+        ensures swept { self.new.is_swept ≡ self.old.is_swept }
+    {
+        let file = self.system.create(Entry::Temporary)?;
+        self.system.write(&file, 0, bytes)?;
+        self.system.sync(&file)
+    }
+
+    /// Gives the temporary file, whose bytes are durable, a name.
+    fn put(&mut self, name: Name) -> Result<(), Failed>
+        requires ready { self.old.is_ready ≡ true }
+        requires swept { self.old.is_swept ≡ true }
+        requires sure { Y.tells → (Y.disk self.old.system).temporary.is_doubted ≡ false }
+        ensures puts { Y.tells → (that : Option (List ℕ)) →
+            IsDurable (Y.disk self.old.system).temporary that →
+            Puts Y.disk Y.moment Y.left_since name that result self.old.system self.new.system }
+    {
+        close(&mut self.kept, name);
+        self.is_swept = false;
+        self.system.rename(name)?;
+        self.sweep()
+    }
+
+    /// Replaces a file as a whole.
+    pub(crate) fn replace(&mut self, name: Name, bytes: &[u8]) -> Result<(), Failed>
+        ensures { Y.tells → Puts Y.disk Y.moment Y.left_since name (Some bytes.now) result
+            self.old.system self.new.system }
+    {
+        self.start()?;
+        self.write_temporary(bytes)?;
+        self.put(name)
+    }
+
+    /// Removes a file.
+    pub(crate) fn remove(&mut self, name: Name) -> Result<(), Failed>
+        ensures { Y.tells → Puts Y.disk Y.moment Y.left_since name None result
+            self.old.system self.new.system }
+    {
+        self.start()?;
+        close(&mut self.kept, name);
+        self.is_swept = false;
+        if self.system.unlink(name)? {
+            return self.sweep();
+        }
+        // It may come back that it was removed, where a sync failed then.
+        if self.has_failed {
+            return Err(Failed);
+        }
+        self.is_swept = true;
+        Ok(())
+    }
+
+    /// Writes bytes over a file from a place on; a file that is missing is made.
+    pub(crate) fn write_at(&mut self, name: Name, at: u32, bytes: &[u8]) -> Result<(), Failed>
+        ensures { Y.tells → Writes Y.disk Y.moment Y.left_since name at bytes.now result
+            self.old.system self.new.system }
+    {
+        self.make_ready()?;
+        match self.take_open(name)? {
+            Some(file) => self.write_kept(KeptFile { name, file }, at, bytes),
+            None => self.write_new(name, at, bytes),
+        }
+    }
+
+    /// The open file of a name, which is kept or opened now, or `None` where there is none.
+    fn take_open(&mut self, name: Name) -> Result<Option<Y::File>, Failed>
+        ensures found { Y.tells → IfOk result (λ file. MatchOption file
+            (files_of (Y.disk self.old.system) name ≡ None)
+            (λ f. Y.stands self.new.system f (entry.File name) ≡ true)) }
+        ensures same { Y.tells → Y.disk self.new.system ≡ Y.disk self.old.system }
+        ensures quiet { Y.tells →
+            IsQuiet Y.disk Y.moment Y.left_since self.old.system self.new.system }
+        ensures ready { self.new.is_ready ≡ self.old.is_ready }
+        ensures swept { self.new.is_swept ≡ self.old.is_swept }
+    {
+        if let Some(kept) = self.kept.take() {
+            if kept.name == name {
+                return Ok(Some(kept.file));
+            }
+        }
+        self.system.open(Entry::File(name))
+    }
+
+    /// Writes a file that isn't there.
+    fn write_new(&mut self, name: Name, at: u32, bytes: &[u8]) -> Result<(), Failed>
+        requires ready { self.old.is_ready ≡ true }
+        requires missing { Y.tells → files_of (Y.disk self.old.system) name ≡ None }
+        ensures { Y.tells → Writes Y.disk Y.moment Y.left_since name at bytes.now result
+            self.old.system self.new.system }
+    {
+        self.is_swept = false;
+        let file = self.system.create(Entry::File(name))?;
+        self.write_kept(KeptFile { name, file }, at, bytes)
+    }
+
+    /// Writes over an open file, and keeps it open.
+    fn write_kept(&mut self, kept: KeptFile<Y::File>, at: u32, bytes: &[u8]) -> Result<(), Failed>
+        requires stands { Y.tells →
+            Y.stands self.old.system kept.file (entry.File kept.name) ≡ true }
+        ensures written { Y.tells → IsWritten kept.name at bytes.now result
+            (Y.disk self.old.system) (Y.disk self.new.system) }
+        ensures time { Y.tells → Elapses (Y.moment self.old.system) (Y.moment self.new.system)
+            (Y.left_since self.old.system) (Y.left_since self.new.system)
+            (LeftBy (Y.disk self.new.system)) }
+    {
+        let done = self.system.write(&kept.file, at, bytes);
+        self.kept = Some(kept);
+        done
+    }
+
+    /// Makes a file durable.
+    pub(crate) fn sync(&mut self, name: Name) -> Result<(), Failed>
+        ensures { Y.tells → Syncs Y.disk Y.moment Y.left_since name result
+            self.old.system self.new.system }
+    {
+        self.start()?;
+        match self.take_open(name)? {
+            Some(file) => self.sync_open(KeptFile { name, file }),
+            None => self.sync_missing(name),
+        }
+    }
+
+    /// Makes an open file durable.
+    fn sync_open(&mut self, kept: KeptFile<Y::File>) -> Result<(), Failed>
+        requires ready { self.old.is_ready ≡ true }
+        requires swept { self.old.is_swept ≡ true }
+        requires stands { Y.tells →
+            Y.stands self.old.system kept.file (entry.File kept.name) ≡ true }
+        ensures { Y.tells → Syncs Y.disk Y.moment Y.left_since kept.name result
+            self.old.system self.new.system }
+    {
+        if self.has_failed {
+            self.write_again(kept)
+        } else {
+            self.sync_kept(kept)
+        }
+    }
+
+    /// A missing file is durable, unless a sync failed: then a crash may bring one back.
+    fn sync_missing(&mut self, name: Name) -> Result<(), Failed>
+        requires ready { self.old.is_ready ≡ true }
+        requires swept { self.old.is_swept ≡ true }
+        requires missing { Y.tells → files_of (Y.disk self.old.system) name ≡ None }
+        ensures { Y.tells → Syncs Y.disk Y.moment Y.left_since name result
+            self.old.system self.new.system }
+    {
+        if self.has_failed { Err(Failed) } else { Ok(()) }
+    }
+
+    /// Makes the bytes of an open file durable, and keeps it open.
+    fn sync_kept(&mut self, kept: KeptFile<Y::File>) -> Result<(), Failed>
+        requires ready { self.old.is_ready ≡ true }
+        requires swept { self.old.is_swept ≡ true }
+        requires trusted { self.old.has_failed ≡ false }
+        requires stands { Y.tells →
+            Y.stands self.old.system kept.file (entry.File kept.name) ≡ true }
+        ensures { Y.tells → Syncs Y.disk Y.moment Y.left_since kept.name result
+            self.old.system self.new.system }
+    {
+        let done = self.system.sync(&kept.file);
+        if done.is_err() {
+            self.has_failed = true;
+        }
+        self.kept = Some(kept);
+        done
+    }
+
+    /// Replaces an open file by its own bytes, since no sync makes good one that failed.
+    fn write_again(&mut self, kept: KeptFile<Y::File>) -> Result<(), Failed>
+        requires ready { self.old.is_ready ≡ true }
+        requires stands { Y.tells →
+            Y.stands self.old.system kept.file (entry.File kept.name) ≡ true }
+        ensures { Y.tells → Syncs Y.disk Y.moment Y.left_since kept.name result
+            self.old.system self.new.system }
+    {
+        let Ok(bytes) = self.system.read(self.alloc, kept.file) else {
+            return Err(Failed);
+        };
+        self.replace(kept.name, bytes.as_slice())
+    }
+
+    /// The bytes of a file, or `None` where there is none.
+    pub(crate) fn read(&mut self, alloc: Global, name: Name) -> Result<Option<Bytes>, ShelfFault>
+        ensures found { Y.tells →
+            IfOk result (λ bytes. bytes ≡ files_of (Y.disk self.old.system) name) }
+        ensures quiet { Y.tells →
+            IsQuiet Y.disk Y.moment Y.left_since self.old.system self.new.system }
+    {
+        match self.system.open(Entry::File(name)) {
+            Ok(Some(file)) => Ok(Some(self.system.read(alloc, file)?)),
+            Ok(None) => Ok(None),
+            Err(_) => Err(ShelfFault::Failed),
+        }
+    }
+
+    /// The names of the files that are there.
+    pub(crate) fn list(&mut self, alloc: Global) -> Result<List<Name>, ShelfFault>
+        ensures found { Y.tells →
+            IfOk result (λ names. Lists (files_of (Y.disk self.old.system)) names) }
+        ensures quiet { Y.tells →
+            IsQuiet Y.disk Y.moment Y.left_since self.old.system self.new.system }
+    {
+        let entries = self.system.list(alloc)?;
+        match names_of(alloc, entries.as_slice()) {
+            Ok(names) => Ok(names),
+            Err(_) => Err(ShelfFault::NoMemory),
+        }
+    }
+}

@@ -1,0 +1,3 @@
+pub mod Entries
+pub mod Disks
+pub mod Opens

@@ -1,0 +1,185 @@
+ghost use Rattle.std.specs.Prelude.{◌≡◌, ℕ, ◌+◌, ◌^◌, ◌<◌, ◌≤◌, length, take, Bool, true, false, Some, None, IsSome, IfOk, OnOk, OnErr, MatchOption};
+ghost use Rattle.dv_shelf.specs.declared.shelf.Name.{Name};
+ghost use Rattle.dv_shelf.specs.Folders.{Folder};
+ghost use Rattle.dv_shelf.specs.Crashes.{Elapses};
+ghost use Rattle.dv_shelf.specs.Disks.{Gone};
+ghost use Rattle.dv_system.specs.Entries.{empty_file, read_at, put_at, hidden_at, written_at, synced_at, doubted_at, swept_at, unsure_at};
+ghost use Rattle.dv_system.specs.Disks.{Disk, at_entry, changed, changed_names, renamed, with_place, made_place, firm_place, doubted_place, LeftBy, IsReadable, IsOneOf, ListsEntries, Unlinks};
+ghost use Rattle.dv_system.specs.Opens.{StandStill, OthersStand};
+
+use dv_model::{Bytes, List};
+use dv_shelf::{Failed, Name, ShelfFault};
+use std::alloc::Global;
+
+/// An entry of the folder.
+#[derive(Clone, Copy, PartialEq, Eq)]
+pub enum Entry {
+    /// A file of the mailbox.
+    File(Name),
+    /// The file that is written before it takes a name.
+    Temporary,
+}
+
+/// The system's calls on one folder and the files in it.
+///
+/// An entry that was made, renamed or unlinked is durable only behind a sync of the folder, and
+/// bytes only behind a sync of their file. What a sync that failed was to make durable may be lost,
+/// though a later sync answers Ok. The pages named are those of POSIX.1-2017 and of the Linux
+/// manual.
+pub trait System {
+    ghost use Rattle.dv_system.specs.declared.system.Entry.{Entry};
+    /// An open file, which closes when it is dropped.
+    type File: Drop;
+
+    /// A system of this type tells what it does. The members below speak of one that does.
+    ghost tells: { Type 0 };
+
+    /// The folder: what reads give, and what a crash may leave.
+    ghost disk: { Self → Disk };
+
+    /// The open file is the one that stands at this entry.
+    ghost stands: { Self → Self.File → Entry → Bool };
+
+    /// This moment: later ones aren't less.
+    ghost moment: { Self → ℕ };
+
+    /// What a crash at some moment since that one might have left.
+    ghost left_since: { Self → ℕ → Folder → Type 0 };
+
+    /// Opens a file for reading and writing; `None` where there is none (POSIX `open()`: `O_RDWR`,
+    /// and the error `ENOENT`).
+    fn open(&mut self, entry: Entry) -> Result<Option<Self::File>, Failed>
+        // The file that stands there, or none, and nothing changes.
+        ensures none { tells → IfOk result (λ file. MatchOption file
+            (read_at (at_entry (disk self.old) entry) ≡ None) (λ f. stands self.new f entry ≡ true)) }
+        ensures disk { tells → disk self.new ≡ disk self.old }
+        ensures open { tells → StandStill (stands self.old) (stands self.new) }
+        ensures time { tells → Elapses (moment self.old) (moment self.new)
+            (left_since self.old) (left_since self.new) (LeftBy (disk self.new)) };
+
+    /// Opens a new empty file, in place of one that is there (POSIX `open()`: `O_CREAT` and
+    /// `O_TRUNC`). Its entry is durable only behind a sync of the folder (Linux `fsync(2)`).
+    fn create(&mut self, entry: Entry) -> Result<Self::File, Failed>
+        // An empty file stands there. After a failure it may, or not.
+        ensures ok { tells →
+            OnOk result (disk self.new ≡ changed (put_at empty_file false) (disk self.old) entry) }
+        ensures err { tells → OnErr result (IsOneOf (disk self.old)
+            (changed (put_at empty_file false) (disk self.old) entry)
+            (changed (hidden_at empty_file) (disk self.old) entry) (disk self.new)) }
+        ensures stands { tells → IfOk result (λ f. stands self.new f entry ≡ true) }
+        ensures open { tells → StandStill (stands self.old) (stands self.new) }
+        ensures time { tells → Elapses (moment self.old) (moment self.new)
+            (left_since self.old) (left_since self.new) (LeftBy (disk self.new)) };
+
+    /// All bytes of a file, which is closed then (POSIX `read()`, again and again up to the end of
+    /// the file).
+    fn read(&mut self, alloc: Global, file: Self::File) -> Result<Bytes, ShelfFault>
+        ensures found { tells → (e : Entry) → stands self.old file e ≡ true →
+            IfOk result (λ bytes. read_at (at_entry (disk self.old) e) ≡ Some bytes) }
+        ensures disk { tells → disk self.new ≡ disk self.old }
+        ensures open { tells → StandStill (stands self.old) (stands self.new) }
+        ensures time { tells → Elapses (moment self.old) (moment self.new)
+            (left_since self.old) (left_since self.new) (LeftBy (disk self.new)) };
+
+    /// Writes all of the bytes over a file from a place on (POSIX `pwrite()`, again and again). A
+    /// gap is filled with zero bytes. After a failure reads see some of the bytes from the front
+    /// (POSIX `write()`: what was written before). A crash may leave any of the range and any bytes
+    /// there until a sync of the file.
+    fn write(&mut self, file: &Self::File, at: u32, bytes: &[u8]) -> Result<(), Failed>
+        ensures ok { tells → (e : Entry) → stands self.old file.now e ≡ true → OnOk result
+            (disk self.new
+            ≡ changed (written_at at (length bytes.now) bytes.now) (disk self.old) e) }
+        ensures err { tells → (e : Entry) → stands self.old file.now e ≡ true → OnErr result
+            ((k : ℕ) × (k ≤ length bytes.now) × (disk self.new
+            ≡ changed (written_at at (length bytes.now) (take k bytes.now)) (disk self.old) e)) }
+        ensures open { tells → StandStill (stands self.old) (stands self.new) }
+        ensures time { tells → Elapses (moment self.old) (moment self.new)
+            (left_since self.old) (left_since self.new) (LeftBy (disk self.new)) };
+
+    /// Makes the bytes of a file durable, and not its entry (POSIX `fsync()`, Linux `fsync(2)`).
+    /// After a failure nothing is guaranteed of what was written before, by later calls either.
+    fn sync(&mut self, file: &Self::File) -> Result<(), Failed>
+        ensures ok { tells → (e : Entry) → stands self.old file.now e ≡ true →
+            OnOk result (disk self.new ≡ changed synced_at (disk self.old) e) }
+        ensures err { tells → (e : Entry) → stands self.old file.now e ≡ true →
+            OnErr result (disk self.new ≡ changed doubted_at (disk self.old) e) }
+        ensures open { tells → StandStill (stands self.old) (stands self.new) }
+        ensures time { tells → Elapses (moment self.old) (moment self.new)
+            (left_since self.old) (left_since self.new) (LeftBy (disk self.new)) };
+
+    /// Gives the temporary file a name, in place of what stood there, at once (POSIX `rename()`).
+    /// It is durable only behind a sync of the folder.
+    fn rename(&mut self, name: Name) -> Result<(), Failed>
+        ensures ok { tells → OnOk result (disk self.new ≡ renamed (disk self.old) name) }
+        ensures err { tells → OnErr result (IsOneOf (disk self.old) (renamed (disk self.old) name)
+            (changed (hidden_at (at_entry (disk self.old) Entry.Temporary).first)
+            (disk self.old) (Entry.File name)) (disk self.new)) }
+        // A file that was open at the name stands nowhere any more.
+        ensures open { tells → OthersStand (Entry.File name) Entry.Temporary
+            (stands self.old) (stands self.new) }
+        ensures time { tells → Elapses (moment self.old) (moment self.new)
+            (left_since self.old) (left_since self.new) (LeftBy (disk self.new)) };
+
+    /// Removes a name, and says whether it was there (POSIX `unlink()`, and its error `ENOENT`).
+    /// It is durable only behind a sync of the folder.
+    fn unlink(&mut self, name: Name) -> Result<bool, Failed>
+        ensures ok { tells →
+            IfOk result (λ was. Unlinks was name (disk self.old) (disk self.new)) }
+        ensures err { tells → OnErr result (IsOneOf (disk self.old)
+            (changed (put_at Gone false) (disk self.old) (Entry.File name))
+            (changed (hidden_at Gone) (disk self.old) (Entry.File name)) (disk self.new)) }
+        // A file that was open at the name stands nowhere any more.
+        ensures open { tells → OthersStand (Entry.File name) Entry.Temporary
+            (stands self.old) (stands self.new) }
+        ensures time { tells → Elapses (moment self.old) (moment self.new)
+            (left_since self.old) (left_since self.new) (LeftBy (disk self.new)) };
+
+    /// The entries at which files stand, once each, in any order; of a missing folder none (POSIX
+    /// `readdir()`, and the error `ENOENT` of `opendir()`).
+    fn list(&mut self, alloc: Global) -> Result<List<Entry>, ShelfFault>
+        ensures found { tells → IfOk result (λ entries. ListsEntries (disk self.old) entries) }
+        ensures disk { tells → disk self.new ≡ disk self.old }
+        ensures open { tells → StandStill (stands self.old) (stands self.new) }
+        ensures time { tells → Elapses (moment self.old) (moment self.new)
+            (left_since self.old) (left_since self.new) (LeftBy (disk self.new)) };
+
+    /// Makes the folder, unless it is there (POSIX `mkdir()`, and its error `EEXIST`).
+    fn make_folder(&mut self) -> Result<(), Failed>
+        ensures ok { tells → OnOk result (disk self.new ≡ with_place made_place (disk self.old)) }
+        ensures err { tells → OnErr result (IsOneOf (disk self.old)
+            (with_place made_place (disk self.old)) (with_place made_place (disk self.old))
+            (disk self.new)) }
+        ensures open { tells → StandStill (stands self.old) (stands self.new) }
+        ensures time { tells → Elapses (moment self.old) (moment self.new)
+            (left_since self.old) (left_since self.new) (LeftBy (disk self.new)) };
+
+    /// Makes the folder itself durable, by a sync of its parent (Linux `fsync(2)`).
+    fn sync_parent(&mut self) -> Result<(), Failed>
+        ensures ok { tells → OnOk result (disk self.new ≡ with_place firm_place (disk self.old)) }
+        ensures err { tells →
+            OnErr result (disk self.new ≡ with_place doubted_place (disk self.old)) }
+        ensures open { tells → StandStill (stands self.old) (stands self.new) }
+        ensures time { tells → Elapses (moment self.old) (moment self.new)
+            (left_since self.old) (left_since self.new) (LeftBy (disk self.new)) };
+
+    /// Makes the entries of the folder durable (Linux `fsync(2)`: for them an `fsync()` of the
+    /// directory is needed).
+    fn sync_folder(&mut self) -> Result<(), Failed>
+        ensures ok { tells → OnOk result (disk self.new ≡ changed_names swept_at (disk self.old)) }
+        ensures err { tells →
+            OnErr result (disk self.new ≡ changed_names unsure_at (disk self.old)) }
+        ensures open { tells → StandStill (stands self.old) (stands self.new) }
+        ensures time { tells → Elapses (moment self.old) (moment self.new)
+            (left_since self.old) (left_since self.new) (LeftBy (disk self.new)) };
+
+    /// A crash may leave each file as reads give it.
+    ghost readable: { (s : Self) → tells → IsReadable (disk s) };
+
+    /// This moment is one of those since an earlier one.
+    ghost counts_now: { (s : Self) (t : ℕ) (c : Folder) →
+        t ≤ moment s → LeftBy (disk s) c → left_since s t c };
+
+    /// Since this moment there is no other.
+    ghost only_now: { (s : Self) (c : Folder) → tells →
+        left_since s (moment s) c → LeftBy (disk s) c };
+}
