@@ -1,0 +1,6 @@
+pub mod Looks
+pub mod Finds
+pub mod Kept
+pub mod Founds
+pub mod Memory
+pub mod Commands

@@ -1,0 +1,19 @@
+//! What is looked up of a mailbox's messages: facts, fields, sizes and bodies, each message file
+//! read once at most, and the cache file in its place where it has what is asked.
+#![tactic(auto)]
+
+mod cache_file;
+mod facts;
+mod found;
+mod known;
+mod looks;
+mod memory;
+mod singles;
+mod source;
+
+pub use cache_file::CacheFile;
+pub use found::{BodyFound, FactsFound, FieldFound, SizesFound};
+pub use singles::body;
+
+#[cfg(test)]
+mod tests;
