@@ -1,0 +1,4 @@
+pub mod Parts
+pub mod Looks
+pub mod Places
+pub mod Laws

@@ -1,0 +1,4 @@
+pub mod Kept
+pub mod Resting
+pub mod Repaired
+pub mod Turned

@@ -1,0 +1,96 @@
+-- A store at rest, put together from its chain's being so and from the files that stay.
+use Rattle.std.proofs.Common.{◌≡◌, inl, inr, ⊎_elim, ℕ, sym, ◌∙◌, subst}
+use Rattle.dv_model.specs.declared.types.Mailbox.{Mailbox}
+use Rattle.dv_model.specs.Journals.{Log}
+use Rattle.dv_shelf.specs.Crashes.{Follows, LeavesOnly}
+use Rattle.dv_shelf.specs.Folders.{Folder}
+use Rattle.dv_logfile.specs.Gates.{FromOneOf}
+use Rattle.dv_chain.specs.declared.chain.Chain.{Chain}
+use Rattle.dv_chain.specs.Rest.{Rests}
+use Rattle.dv_commits.specs.Opening.{MayOpen}
+use Rattle.dv_commits.proofs.Resting.{may_open}
+use Rattle.dv_keeping.specs.Debts.{Debt, KeepsOwed, Last, MayGive, Nothing, Pending, Stands, owed_of}
+use Rattle.dv_keeping.specs.Keeping.{Keeps}
+use Rattle.dv_keeping.specs.Laws.{RestGives, SameMessages}
+use Rattle.dv_keeping.proofs.Kept.{KeepsMessages, kept_same, same_messages}
+
+-- ---- what a folder gives
+
+-- it opens so, and keeps what is to be kept
+pub gives_so : (log : Log) (debt : Debt) (chain : Chain) (c : Folder) → MayOpen (owed_of chain.live.mailbox debt) chain c → Keeps log chain.live.mailbox c → KeepsOwed debt c → MayGive log debt chain c
+gives_so log Nothing chain c opens keeps owed = record { opens = opens; keeps = keeps }
+gives_so log (Pending text after written) chain c opens keeps owed =
+    ⊎_elim (λ found. inl (record { opens = found; keeps = keeps })) (λ found. inr (record { opens = found; keeps = owed })) opens
+gives_so log (Last new) chain c opens keeps owed =
+    ⊎_elim (λ found. inl (record { opens = found; keeps = keeps })) (λ found. inr (record { opens = found; keeps = keeps })) opens
+
+pub rests_give : {S : Type 0} (may_leave : S → Folder → Type 0) → RestGives may_leave
+rests_give may_leave log debt chain shelf c stands left =
+    let owed = owed_of chain.live.mailbox debt in
+    gives_so log debt chain c (may_open owed chain c stands.rests.owes (stands.rests.each c left)) (stands.keeps c left) (stands.owed c left)
+
+-- ---- steps that leave what is kept
+
+-- a step leaves the files by which a mailbox is kept, and that with what is owed
+pub record LeavesKept (m : Mailbox) (debt : Debt) (step : Folder → Folder → Type 0) : Type 0 where
+  pub same : (d c : Folder) → step d c → SameMessages m d c
+  pub owed : (d c : Folder) → step d c → KeepsOwed debt d → KeepsOwed debt c
+
+-- where nothing is owed
+pub leaves_rows : (m : Mailbox) (step : Folder → Folder → Type 0) → ((d c : Folder) → step d c → SameMessages m d c) → LeavesKept m Nothing step
+leaves_rows m step same = record { same = same; owed = λ d c is owed. tt }
+
+-- where no message file is another
+pub leaves_messages : (m : Mailbox) (debt : Debt) (step : Folder → Folder → Type 0) → ((d c : Folder) → step d c → KeepsMessages d c) → LeavesKept m debt step
+leaves_messages m debt step same = record { same = λ d c is. same_messages m d c (same d c is); owed = λ d c is. by_debt debt d c (same d c is) }
+  where
+    by_debt : (x : Debt) (d c : Folder) → KeepsMessages d c → KeepsOwed x d → KeepsOwed x c
+    by_debt Nothing d c is owed = tt
+    by_debt (Pending text after written) d c is owed = kept_same written after d c (same_messages after d c is) owed
+    by_debt (Last new) d c is owed = tt
+
+-- ---- what a crash leaves at any moment
+
+module _ {S : Type 0} (moment : S → ℕ) (left_since : S → ℕ → Folder → Type 0) where
+  -- two statements at once
+  pub both_only : (old new : S) (P Q R : Folder → Type 0) → LeavesOnly moment left_since old new P → LeavesOnly moment left_since old new Q → ((c : Folder) → P c → Q c → R c) → LeavesOnly moment left_since old new R
+  both_only old new P Q R one other both = record {
+    later = one.later;
+    each = λ c left. both c (one.each c left) (other.each c left);
+    before = λ t c le left. ⊎_elim inl (λ p. ⊎_elim inl (λ q. inr (both c p q)) (other.before t c le left)) (one.before t c le left);
+  }
+
+  -- what a crash may leave behind a call comes by the step by which it comes at any moment of it
+  pub follows_since : (may_leave : S → Folder → Type 0) (old new : S) (step : Folder → Folder → Type 0) → ((c : Folder) → may_leave new c → left_since new (moment old) c) → LeavesOnly moment left_since old new (FromOneOf (may_leave old) step)
+      → Follows step (may_leave old) (may_leave new)
+  follows_since may_leave old new step now since c left = since.each c (now c left)
+
+-- ---- a call
+
+module _ {S : Type 0} (may_leave : S → Folder → Type 0) (log : Log) (debt : Debt) (chain : Chain) (old : S) (stands : Stands may_leave log debt chain old) (step : Folder → Folder → Type 0) (kept : LeavesKept chain.live.mailbox debt step)
+    (given : Debt) (owes : (c : Folder) → KeepsOwed debt c → KeepsOwed given c) where
+  still_keeps : (d c : Folder) → may_leave old d → step d c → Keeps log chain.live.mailbox c
+  still_keeps d c left is = kept_same log chain.live.mailbox d c (kept.same d c is) (stands.keeps d left)
+
+  still_owed : (d c : Folder) → may_leave old d → step d c → KeepsOwed given c
+  still_owed d c left is = owes c (kept.owed d c is (stands.owed d left))
+
+  -- behind it the store is at rest, whose chain is so
+  pub stands_then : (next : Chain) (new : S) → next.live.mailbox ≡ chain.live.mailbox → next.indexid ≡ chain.indexid → Rests may_leave (owed_of next.live.mailbox given) next new → Follows step (may_leave old) (may_leave new) → Stands may_leave log given next new
+  stands_then next new mailbox indexid rests follows = record {
+    named = stands.named ∙ sym indexid;
+    rests = rests;
+    keeps = λ c left.
+        let from = follows c left in
+        subst (λ (m : Mailbox). Keeps log m c) (sym mailbox) (still_keeps from.0 c from.1 from.2);
+    owed = λ c left.
+        let from = follows c left in
+        still_owed from.0 c from.1 from.2;
+  }
+
+  -- at any moment of it a crash leaves a folder that gives what it opens to
+  pub gives_since : (moment : S → ℕ) (left_since : S → ℕ → Folder → Type 0) (new : S) → LeavesOnly moment left_since old new (FromOneOf (may_leave old) step) → LeavesOnly moment left_since old new (MayOpen (owed_of chain.live.mailbox given) chain)
+      → LeavesOnly moment left_since old new (MayGive log given chain)
+  gives_since moment left_since new since opens =
+      both_only moment left_since old new (FromOneOf (may_leave old) step) (MayOpen (owed_of chain.live.mailbox given) chain) (MayGive log given chain) since opens
+      (λ c from found. gives_so log given chain c found (still_keeps from.0 c from.1 from.2) (still_owed from.0 c from.1 from.2))
