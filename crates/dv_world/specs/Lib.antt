@@ -1,0 +1,7 @@
+pub mod Shapes
+pub mod Keeping
+pub mod Adding
+pub mod Writing
+pub mod Telling
+pub mod Promising
+pub mod Named
