@@ -4,4 +4,3 @@ pub mod Adding
 pub mod Writing
 pub mod Telling
 pub mod Promising
-pub mod Named

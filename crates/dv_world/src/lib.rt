@@ -22,6 +22,3 @@ mod writing;
 
 pub use event::Event;
 pub use world::{World, run_events};
-
-#[cfg(test)]
-mod tests;
