@@ -25,10 +25,10 @@ free_place m uid (Some at) found =
     let some = position-Some (λ (row : Row). nat_eq row.uid uid) m.rows at blank (sym found) in
     sym (ap not (list_any_at (λ row. nat_eq row.uid uid && true) m.rows at blank some.0 (ap (λ b. b && true) some.1)))
 
-none_in : {X : Type 0} (x : X) → Contains [] x → ⊥
+pub none_in : {X : Type 0} (x : X) → Contains [] x → ⊥
 none_in x (k, less, at) = omega (arith, less)
 
-one_in : {X : Type 0} (x y : X) → Contains (x ∷ []) y → x ≡ y
+pub one_in : {X : Type 0} (x y : X) → Contains (x ∷ []) y → x ≡ y
 one_in x y has = ⊎_elim (λ none. absurd (none_in y none)) (λ same. same) (Contains-push_cases [] x y has)
 
 gone_tells : (m : Mailbox) (uid : ℕ) → is_gone m uid ≡ true → (uid < m.next_uid) × (has_uid m uid ≡ false)

@@ -25,7 +25,7 @@ use Rattle.dv_phases.proofs.Quiet.{HasAll}
 use Rattle.dv_keeping.proofs.Kept.{kept_same}
 
 -- the other files are as before
-put_else : (n k : Name) (text : List ℕ) (d c : Folder) → k ≢ n → IsPut n text d c → c k ≡ d k
+pub put_else : (n k : Name) (text : List ℕ) (d c : Folder) → k ≢ n → IsPut n text d c → c k ≡ d k
 put_else n k text d c other put = ⊎_elim (λ same. ap (λ (f : Folder). f k) same) (λ there. ap (λ (f : Folder). f k) there ∙ with_else d n (Some text) k other) put
 
 -- a folder that has a mailbox's cache file keeps it

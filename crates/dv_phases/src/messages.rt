@@ -2,6 +2,7 @@
 
 ghost use Rattle.std.specs.Prelude.{◌≡◌, List, ℕ, OnOk};
 ghost use Rattle.dv_model.specs.Journals.{Log};
+ghost use Rattle.dv_model.specs.Mailboxes.{IsValid};
 ghost use Rattle.dv_shelf.specs.Causes.{HasCause};
 ghost use Rattle.dv_shelf.specs.declared.shelf.Name.TheVariants as name;
 ghost use Rattle.dv_rotation.specs.Leavings.{IsPut, Leaves, Puts};
@@ -26,6 +27,8 @@ pub fn put_message<S: Shelf>(chain: &Chain, shelf: &mut S, text: &Bytes) -> Resu
     ensures held { S.tells → (message guid : List ℕ) → IsFileOf message guid text.now →
         OnOk result (HoldsMail S.files S.may_leave chain.now.live.mailbox.next_uid
         message guid shelf.new) }
+    // No row has that UID.
+    ensures valid { IsValid chain.now.live.mailbox }
     // What the folder gives stays, at any moment.
     ensures quiet { S.tells → (log : Log) →
         Stands S.may_leave log Nothing chain.now shelf.old →

@@ -1,0 +1,237 @@
+-- A write as a whole: what comes before its files, these, and the group.
+use Rattle.std.proofs.Common.{◌≡◌, ◌≢◌, ◌↔◌, inl, inr, ⊎_elim, ℕ, List, Option, None, Result, Ok, Err, refl, sym, ◌∙◌, ap, subst}
+use Rattle.std.specs.Prelude.{Contains}
+use Rattle.dv_model.specs.declared.types.Mailbox.{Mailbox}
+use Rattle.dv_model.specs.Fresh.{IsTouched}
+use Rattle.dv_model.specs.Journals.{Log}
+use Rattle.dv_shelf.specs.declared.shelf.Name.{Name}
+use Rattle.dv_shelf.specs.declared.shelf.Name.TheVariants as name
+use Rattle.dv_shelf.specs.Crashes.{LeavesOnly}
+use Rattle.dv_shelf.specs.Folders.{Folder}
+use Rattle.dv_shelf.proofs.Moments.{joined, weaker}
+use Rattle.dv_logfile.specs.declared.commit.Debt.{Debt as LogDebt}
+use Rattle.dv_logfile.specs.declared.commit.Debt.TheVariants as log_debt
+use Rattle.dv_chain.specs.declared.chain.Chain.{Chain}
+use Rattle.dv_chain.specs.Rest.{IsPending}
+use Rattle.dv_commits.specs.declared.committing.Committed.{Committed}
+use Rattle.dv_commits.specs.Commits.{AdvancesChain, KeepsOthers}
+use Rattle.dv_commits.specs.Opening.{mark_behind}
+use Rattle.dv_rotation.specs.declared.texts.Turn.{Turn}
+use Rattle.dv_rotation.specs.Texts.{place_of}
+use Rattle.dv_keeping.specs.Debts.{Debt, Fits, MayGive, Nothing, Pending}
+use Rattle.dv_keeping.specs.Keeping.{Gives}
+use Rattle.dv_keeping.specs.Repairing.{IsOwing}
+use Rattle.dv_phases.specs.Groups.{KeepsNext, WritesGroup, debt_after}
+use Rattle.dv_phases.specs.Quiet.{IsQuiet}
+use Rattle.dv_writes.specs.declared.steps.Files.{Files}
+use Rattle.dv_writes.specs.declared.steps.Files.TheVariants as kind
+use Rattle.dv_writes.specs.declared.steps.Steps.{Steps}
+use Rattle.dv_writes.specs.Steps.{HasWritten, HoldsFiles, IsNamed, IsOfLog, KeepsUnnamed}
+use Rattle.dv_writes.specs.Ways.{IsDue, KeepsMails, MakesWay, MakesWayQuietly, MayGiveOn, ready}
+use Rattle.dv_writes.specs.Writes.{AreFilesOf, CarriesOut, IsAfter, IsLeftOwed, IsWriteOf, MayGiveWrite, Write, WritesStore, log_with}
+use Rattle.dv_writes.proofs.Ready.{gives_ready, repaired_indexid, repaired_live, repaired_place, same_indexid, same_live}
+
+-- ---- the chain
+
+module _ (owed : Option Turn) (text : List ℕ) (steps : Steps) (chain : Chain) where
+  abbrev on : Chain
+  on = ready owed steps.turn chain
+
+  pub carry_stopped : {T E F : Type 0} (left : Option Turn) (mid : Chain) (e : E) (f : F) → IsDue owed chain steps.turn → MakesWay owed left steps.turn chain mid {T = T} {E = E} (Err e) → CarriesOut owed left text steps chain mid {E = F} (Err f)
+  carry_stopped left mid e f due way = record {
+    mailbox = λ after pending. tt;
+    mark = tt;
+    touched = tt;
+    paid = tt;
+    failed = ⊎_elim (λ same. ap (λ (k : Chain). k.live) same.0) (λ paid. ap (λ (k : Chain). k.live) paid.0 ∙ repaired_live owed chain) way.failed;
+    place = ⊎_elim (λ same. inl (ap place_of same.0)) (λ paid. repaired_place owed steps.turn chain mid due paid.0) way.failed;
+    indexid = ⊎_elim (λ same. ap (λ (k : Chain). k.indexid) same.0) (λ paid. ap (λ (k : Chain). k.indexid) paid.0 ∙ repaired_indexid owed chain) way.failed;
+    owing = way.owing;
+  }
+
+  module _ (left : Option Turn) (mid : Chain) {T D : Type 0} (x : T) (way : MakesWay owed left steps.turn chain mid {T = T} {E = D} (Ok x)) where
+    live_then : mid.live ≡ chain.live
+    live_then = ap (λ (k : Chain). k.live) way.ok.0 ∙ same_live chain owed steps.turn
+
+    indexid_then : mid.indexid ≡ chain.indexid
+    indexid_then = ap (λ (k : Chain). k.indexid) way.ok.0 ∙ same_indexid chain owed steps.turn
+
+    owing_then : (next : Chain) → (IsOwing mid left → IsOwing next None) → IsOwing next left
+    owing_then next also = subst (IsOwing next) (sym way.ok.1) (also way.owing)
+
+    pub carry_halted : {F : Type 0} (f : F) → CarriesOut owed left text steps chain mid {E = F} (Err f)
+    carry_halted f = record {
+      mailbox = λ after pending. tt;
+      mark = tt;
+      touched = tt;
+      paid = tt;
+      failed = live_then;
+      place = inr (ap place_of way.ok.0);
+      indexid = indexid_then;
+      owing = way.owing;
+    }
+
+    module _ (next : Chain) where
+      pub carry_failed : {E F : Type 0} (e : E) (f : F) → AdvancesChain text mid next {E = E} (Err e) → CarriesOut owed left text steps chain next {E = F} (Err f)
+      carry_failed e f value = record {
+        mailbox = λ after pending. tt;
+        mark = tt;
+        touched = tt;
+        paid = tt;
+        failed = value.failed.0 ∙ live_then;
+        place = inr ((λ i. record { file_seq = value.file.0 i; offset = value.failed.1 i }) ∙ ap place_of way.ok.0);
+        indexid = value.file.1 ∙ indexid_then;
+        owing = owing_then next (λ owing. record { bounds = value.bounds owing.bounds; owed = tt });
+      }
+
+      pub carry_done : {E F : Type 0} (done : Committed) → AdvancesChain text mid next {E = E} (Ok done) → CarriesOut owed left text steps chain next {E = F} (Ok done)
+      carry_done done value = record {
+        mailbox = λ after pending. value.mailbox after (subst (IsPending text after) (sym way.ok.0) pending);
+        mark = (value.mark.0 ∙ ap (mark_behind text) way.ok.0, value.mark.1);
+        touched = λ uid. subst (λ (k : Mailbox). Contains done.touched uid ↔ IsTouched k next.live.mailbox uid) (λ i. (live_then i).mailbox) (value.touched uid);
+        paid = (value.debt, way.ok.1);
+        failed = tt;
+        place = tt;
+        indexid = value.file.1 ∙ indexid_then;
+        owing = owing_then next (λ owing. record { bounds = value.bounds owing.bounds; owed = tt });
+      }
+
+-- ---- the files
+
+mails_unnamed : (m : Mailbox) (steps : Files) (old new : Folder) → KeepsMails old new → (n : Name) → (IsNamed m steps n → ⊥) → (IsOfLog n → ⊥) → new n ≡ old n
+mails_unnamed m steps old new keeps name.Index unnamed other = absurd (other tt)
+mails_unnamed m steps old new keeps name.Log unnamed other = absurd (other tt)
+mails_unnamed m steps old new keeps name.Log2 unnamed other = absurd (other tt)
+mails_unnamed m steps old new keeps name.Cache unnamed other = keeps.cache
+mails_unnamed m steps old new keeps (name.Mail uid) unnamed other = keeps.mails uid
+
+of_log_not : (n : Name) → (IsOfLog n → ⊥) → n ≢ name.Log
+of_log_not name.Log other = λ e. other tt
+of_log_not n other = λ e. cc
+
+holds_beside : (m : Mailbox) (steps : Files) (old new : Folder) → KeepsOthers old new → HoldsFiles m steps old → HoldsFiles m steps new
+holds_beside m kind.Nothing old new others holds = tt
+holds_beside m (kind.Message text) old new others holds = others (name.Mail m.next_uid) (λ e. cc) ∙ holds
+holds_beside m (kind.Check renewal) old new others holds = (
+  λ uid has. others (name.Mail uid) (λ e. cc) ∙ holds.0 uid has,
+  others name.Index (λ e. cc) ∙ holds.1,
+  others name.Cache (λ e. cc) ∙ holds.2,
+)
+
+module _ (m : Mailbox) (steps : Files) (old way : Folder) (keeps : KeepsMails old way) where
+  pub written_stopped : {T F : Type 0} (f : F) → HasWritten m steps {T = T} {E = F} (Err f) old way
+  written_stopped f = record { ok = tt; others = mails_unnamed m steps old way keeps }
+
+  module _ (between : Folder) (unnamed : KeepsUnnamed m steps way between) where
+    pub written_halted : {T F : Type 0} (f : F) → HasWritten m steps {T = T} {E = F} (Err f) old between
+    written_halted f = record { ok = tt; others = λ n free other. unnamed n free ∙ mails_unnamed m steps old way keeps n free other }
+
+    module _ (new : Folder) (others : KeepsOthers between new) where
+      else_same : (n : Name) → (IsNamed m steps n → ⊥) → (IsOfLog n → ⊥) → new n ≡ old n
+      else_same n free other = others n (of_log_not n other) ∙ unnamed n free ∙ mails_unnamed m steps old way keeps n free other
+
+      pub written_failed : {T F : Type 0} (f : F) → HasWritten m steps {T = T} {E = F} (Err f) old new
+      written_failed f = record { ok = tt; others = else_same }
+
+      pub written_done : {T F : Type 0} (x : T) → HoldsFiles m steps between → HasWritten m steps {T = T} {E = F} (Ok x) old new
+      written_done x holds = record { ok = holds_beside m steps between new others holds; others = else_same }
+
+-- ---- what the folder gives
+
+module _ {S : Type 0} (files : S → Folder) (may_leave : S → Folder → Type 0) (moment : S → ℕ) (left_since : S → ℕ → Folder → Type 0)
+    (log : Log) (debt : Debt) (write : Write) (owed : Option Turn) (text : List ℕ) (steps : Steps) (chain : Chain) (old : S) (is_write : IsWriteOf log write owed chain (files old) text steps) where
+  abbrev m : Mailbox
+  m = chain.live.mailbox
+
+  abbrev Stores : {T E : Type 0} → Option Turn → Chain → Result T E → S → Type 0
+  Stores left next result new = WritesStore files may_leave moment left_since log debt write owed left text steps chain next result old new
+
+  abbrev May : Folder → Type 0
+  May = MayGiveWrite log debt write owed text steps chain
+
+  way_since : {T E : Type 0} (left : Option Turn) (mid : Chain) (way : S) (result : Result T E) → MakesWayQuietly may_leave moment left_since log debt left steps.turn chain mid result old way → LeavesOnly moment left_since old way May
+  way_since left mid way result quiet = weaker moment left_since old way (MayGiveOn log debt steps.turn chain) May quiet.since (λ c gives. inl gives)
+
+  pub stores_stopped : {T U E F : Type 0} (left : Option Turn) (mid : Chain) (way : S) (e : E) (f : F) → MakesWayQuietly may_leave moment left_since log debt left steps.turn chain mid {T = T} {E = E} (Err e) old way → KeepsMails (files old) (files way) → Stores {T = U} {E = F} left mid (Err f) way
+  stores_stopped left mid way e f quiet keeps = record {
+    ok = tt;
+    err =
+        let owes = quiet.err in
+        (owes.0, inl owes.1, owes.2, owes.3);
+    any_moment = way_since left mid way (Err e) quiet;
+    written = written_stopped m steps.files (files old) (files way) keeps f;
+  }
+
+  module _ (left : Option Turn) (mid : Chain) (way : S) {X D : Type 0} (x : X) (value : MakesWay owed left steps.turn chain mid {T = X} {E = D} (Ok x)) where
+    same_mailbox : mid.live.mailbox ≡ m
+    same_mailbox = λ i. (live_then owed text steps chain left mid x value i).mailbox
+
+    -- what is said of the old chain's mailbox is so of the ready one's
+    pub after_there : IsAfter log write mid.live.mailbox is_write.after
+    after_there = subst (λ (k : Mailbox). IsAfter log write k is_write.after) (sym same_mailbox) is_write.gives
+
+    pub files_there : AreFilesOf log write.received mid.live.mailbox write.command steps.files
+    files_there = subst (λ (k : Mailbox). AreFilesOf log write.received k write.command steps.files) (sym same_mailbox) is_write.files
+
+    pub pending_there : IsPending text is_write.after mid
+    pending_there = subst (IsPending text is_write.after) (sym value.ok.0) is_write.pending
+
+    pub next_here : (shelf : S) → KeepsNext may_leave log (log_with log write mid.live.mailbox) is_write.after shelf → KeepsNext may_leave log (log_with log write m) is_write.after shelf
+    next_here shelf next = subst (λ (k : Mailbox). KeepsNext may_leave log (log_with log write k) is_write.after shelf) same_mailbox next
+
+    module _ (due : IsDue owed chain steps.turn) (fits : Fits owed debt) (quiet : MakesWayQuietly may_leave moment left_since log debt left steps.turn chain mid {T = X} {E = D} (Ok x) old way) (keeps : KeepsMails (files old) (files way))
+        (between : S) (before : IsQuiet may_leave moment left_since log mid way between) (unnamed : KeepsUnnamed mid.live.mailbox steps.files (files way) (files between)) where
+      fits_none : Fits left Nothing
+      fits_none = subst (λ (o : Option Turn). Fits o Nothing) (sym value.ok.1) tt
+
+      unnamed_here : KeepsUnnamed m steps.files (files way) (files between)
+      unnamed_here = subst (λ (k : Mailbox). KeepsUnnamed k steps.files (files way) (files between)) same_mailbox unnamed
+
+      files_since : LeavesOnly moment left_since old between May
+      files_since =
+          joined moment left_since old way between May (way_since left mid way (Ok x) quiet)
+          (weaker moment left_since way between (MayGive log Nothing mid) May before.any_moment (λ c gives. inl (gives_ready log debt owed steps.turn chain mid c value.ok.0 due fits gives)))
+
+      pub stores_halted : {T F : Type 0} (f : F) → Stores {T = T} {E = F} left mid (Err f) between
+      stores_halted f = record {
+        ok = tt;
+        err = (Nothing, inl (inr (inl refl)), fits_none, before.stands);
+        any_moment = files_since;
+        written = written_halted m steps.files (files old) (files way) keeps (files between) unnamed_here f;
+      }
+
+      abbrev Groups : {E : Type 0} → Chain → Result Committed E → S → Type 0
+      Groups next result new = WritesGroup files may_leave moment left_since text is_write.after log (log_with log write m) mid next result between new
+
+      module _ (next : Chain) (new : S) where
+        group_since : {E : Type 0} (result : Result Committed E) → Groups next result new → LeavesOnly moment left_since old new May
+        group_since result group =
+            joined moment left_since old between new May files_since
+            (weaker moment left_since between new (MayGive log (Pending text is_write.after (log_with log write m)) mid) May group.any_moment
+            (λ c gives. ⊎_elim (λ here. inl (gives_ready log debt owed steps.turn chain mid c value.ok.0 due fits here))
+            (λ there. inr (is_write.after, is_write.gives, subst (λ (k : Chain). Gives (log_with log write m) is_write.after (mark_behind text k) c) value.ok.0 there)) gives))
+
+        owed_after : (gate : LogDebt) → Fits left (debt_after gate text is_write.after (log_with log write m))
+        owed_after log_debt.None = fits_none
+        owed_after log_debt.Gate = subst (λ (o : Option Turn). Fits o (Pending text is_write.after (log_with log write m))) (sym value.ok.1) tt
+
+        left_owed : (gate : LogDebt) → IsLeftOwed log debt write text m (debt_after gate text is_write.after (log_with log write m))
+        left_owed log_debt.None = inl (inr (inl refl))
+        left_owed log_debt.Gate = inr (is_write.after, is_write.gives, refl)
+
+        pub stores_failed : {E T F : Type 0} (e : E) (f : F) → Groups {E = E} next (Err e) new → Stores {T = T} {E = F} left next (Err f) new
+        stores_failed e f group = record {
+          ok = tt;
+          err = (debt_after next.log.debt text is_write.after (log_with log write m), left_owed next.log.debt, owed_after next.log.debt, group.err);
+          any_moment = group_since (Err e) group;
+          written = written_failed m steps.files (files old) (files way) keeps (files between) unnamed_here (files new) group.others f;
+        }
+
+        pub stores_done : {E F : Type 0} (done : Committed) → Groups {E = E} next (Ok done) new → HoldsFiles mid.live.mailbox steps.files (files between) → Stores {T = Committed} {E = F} left next (Ok done) new
+        stores_done done group holds = record {
+          ok = group.ok;
+          err = tt;
+          any_moment = group_since (Ok done) group;
+          written = written_done m steps.files (files old) (files way) keeps (files between) unnamed_here (files new) group.others done
+              (subst (λ (k : Mailbox). HoldsFiles k steps.files (files between)) same_mailbox holds);
+        }

@@ -1,0 +1,5 @@
+pub mod Ready
+pub mod Making
+pub mod Filing
+pub mod Next
+pub mod Carried

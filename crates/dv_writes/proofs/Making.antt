@@ -1,0 +1,133 @@
+-- What comes before a write's own files: a repair, and a rotation.
+use Rattle.std.proofs.Common.{◌≡◌, ◌⊎◌, inl, inr, ⊎_elim, ℕ, Option, Some, None, Result, Ok, Err, OnOk, OnErr, refl, sym, ◌∙◌, ap, subst}
+use Rattle.std.specs.Prelude.{IfSome}
+use Rattle.dv_model.specs.Journals.{Log}
+use Rattle.dv_shelf.specs.declared.shelf.Name.TheVariants as name
+use Rattle.dv_shelf.specs.Crashes.{LeavesOnly}
+use Rattle.dv_shelf.specs.Folders.{Folder}
+use Rattle.dv_shelf.proofs.Moments.{joined, weaker}
+use Rattle.dv_logfile.specs.declared.commit.LogFile.{LogFile}
+use Rattle.dv_chain.specs.declared.chain.Chain.{Chain}
+use Rattle.dv_rotation.specs.declared.texts.Turn.{Turn}
+use Rattle.dv_rotation.specs.Leavings.{with_old}
+use Rattle.dv_rotation.specs.Texts.{turned}
+use Rattle.dv_rotation.proofs.Replacing.{puts_either}
+use Rattle.dv_keeping.specs.Debts.{Debt, Fits, Last, MayGive, Nothing, Stands, debt_of}
+use Rattle.dv_keeping.specs.Repairing.{IsOwing, Repairs, RepairsFiles, RepairsQuietly}
+use Rattle.dv_keeping.specs.Turning.{TurnsFiles, TurnsOver, TurnsOverQuietly}
+use Rattle.dv_keeping.proofs.Kept.{KeepsMessages, beside_first, beside_log, beside_old, beside_put, beside_turn, messages_then, of_log}
+use Rattle.dv_writes.specs.Ways.{IsOwedBehind, KeepsMails, MakesWay, MakesWayQuietly, MayGiveOn, healed, repaired}
+use Rattle.dv_writes.proofs.Ready.{gives_now, repaired_is}
+
+-- ---- the chain
+
+kept_turn : (turn : Turn) (left : Option Turn) → IfSome left (λ t. t ≡ turn) → (left ≡ None) ⊎ (left ≡ Some turn)
+kept_turn turn None kept = inl refl
+kept_turn turn (Some t) kept = inr (ap (λ (k : Turn). Some k) kept)
+
+module _ (owed left : Option Turn) (chain mid : Chain) where
+  -- the repair failed
+  pub way_failed : {T U E F : Type 0} (e : E) (f : F) (turn : Option Turn) → Repairs owed left chain mid {T = T} {E = E} (Err e) → MakesWay owed left turn chain mid {T = U} {E = F} (Err f)
+  way_failed e f turn repairs = record {
+    ok = tt;
+    failed = inl repairs.failed;
+    owing = repairs.owing;
+  }
+
+  -- no turn was made
+  pub way_paid : {T U E F : Type 0} (x : T) (y : U) → IsOwing chain owed → Repairs owed left chain mid {T = T} {E = E} (Ok x) → MakesWay owed left None chain mid {T = U} {E = F} (Ok y)
+  way_paid x y owing repairs = record {
+    ok = (repaired_is x owed left chain mid owing repairs, repairs.paid.1);
+    failed = tt;
+    owing = repairs.owing;
+  }
+
+  -- the log was rotated, or that failed
+  pub way_turned : {T U E F : Type 0} (x : T) (turn : Turn) (behind : Option Turn) (next : Chain) (result : Result U F) → IsOwing chain owed → Repairs owed left chain mid {T = T} {E = E} (Ok x) → TurnsOver turn behind mid next result → MakesWay owed behind (Some turn) chain next result
+  way_turned {U = U} {F = F} x turn behind next result owing repairs turns = by_result result turns
+    where
+      is : mid ≡ repaired owed chain
+      is = repaired_is x owed left chain mid owing repairs
+
+      owes : IsOwing mid None
+      owes = subst (IsOwing mid) repairs.paid.1 repairs.owing
+
+      by_result : (r : Result U F) → TurnsOver turn behind mid next r → MakesWay owed behind (Some turn) chain next r
+      by_result (Ok y) over = record {
+        ok = (over.chain ∙ ap turned is, over.paid);
+        failed = tt;
+        owing = over.owing owes repairs.paid.0;
+      }
+      by_result (Err f) over = record {
+        ok = tt;
+        failed = inr (over.chain ∙ is, kept_turn turn behind over.kept);
+        owing = over.owing owes repairs.paid.0;
+      }
+
+-- ---- the files
+
+mails_of : (old new : Folder) → KeepsMessages old new → KeepsMails old new
+mails_of old new keeps = record { cache = keeps.cache; mails = keeps.mail }
+
+repair_messages : {T E : Type 0} (owed : Option Turn) (log : LogFile) (result : Result T E) (old new : Folder) → RepairsFiles owed log result old new → KeepsMessages old new
+repair_messages None log result old new heals = beside_log old new heals.others
+repair_messages (Some turn) log result old new puts = beside_put name.Log turn.new old new of_log (puts_either name.Log turn.new result old new puts)
+
+turn_messages : {T E : Type 0} (turn : Turn) (left : Option Turn) (result : Result T E) (old new : Folder) → TurnsFiles turn left result old new → KeepsMessages old new
+turn_messages turn None (Ok x) old new is = beside_turn turn old new (inr is)
+turn_messages turn (Some kept) (Ok x) old new is = beside_turn turn old new (inr is)
+turn_messages turn None (Err e) old new some = beside_first turn old new some
+turn_messages turn (Some kept) (Err e) old new put = messages_then old (with_old turn old) new (beside_old turn old) (beside_put name.Log turn.new (with_old turn old) new of_log put)
+
+pub repair_mails : {T E : Type 0} (owed : Option Turn) (log : LogFile) (result : Result T E) (old new : Folder) → RepairsFiles owed log result old new → KeepsMails old new
+repair_mails owed log result old new repairs = mails_of old new (repair_messages owed log result old new repairs)
+
+pub turn_mails : {T U E F : Type 0} (owed : Option Turn) (log : LogFile) (first : Result T E) (turn : Turn) (left : Option Turn) (result : Result U F) (old mid new : Folder)
+    → RepairsFiles owed log first old mid → TurnsFiles turn left result mid new → KeepsMails old new
+turn_mails owed log first turn left result old mid new repairs turns = mails_of old new (messages_then old mid new (repair_messages owed log first old mid repairs) (turn_messages turn left result mid new turns))
+
+-- ---- what a crash leaves
+
+owed_behind : (debt : Debt) (left : Option Turn) → IsOwedBehind debt (debt_of left)
+owed_behind debt None = inr (inl refl)
+owed_behind debt (Some turn) = inr (inr (turn.new, refl))
+
+fits_behind : (left : Option Turn) → Fits left (debt_of left)
+fits_behind None = tt
+fits_behind (Some turn) = refl
+
+module _ {S : Type 0} (may_leave : S → Folder → Type 0) (moment : S → ℕ) (left_since : S → ℕ → Folder → Type 0) (log : Log) (debt : Debt) (chain mid : Chain) (old between : S) where
+  since_repair : {T E : Type 0} (turn : Option Turn) (result : Result T E) → RepairsQuietly may_leave moment left_since log debt chain mid result old between → LeavesOnly moment left_since old between (MayGiveOn log debt turn chain)
+  since_repair turn result quiet = weaker moment left_since old between (MayGive log debt chain) (MayGiveOn log debt turn chain) quiet.since (λ c gives. inl gives)
+
+  pub quiet_failed : {T U E F : Type 0} (e : E) (f : F) (owed left turn : Option Turn) → left ≡ owed → Fits owed debt → RepairsQuietly may_leave moment left_since log debt chain mid {T = T} {E = E} (Err e) old between
+      → MakesWayQuietly may_leave moment left_since log debt left turn chain mid {T = U} {E = F} (Err f) old between
+  quiet_failed e f owed left turn same fits quiet = record {
+    since = since_repair turn (Err e) quiet;
+    ok = tt;
+    err = (debt, inl refl, subst (λ (o : Option Turn). Fits o debt) (sym same) fits, quiet.err);
+  }
+
+  pub quiet_paid : {T U E F : Type 0} (x : T) (y : U) (left : Option Turn) → RepairsQuietly may_leave moment left_since log debt chain mid {T = T} {E = E} (Ok x) old between → MakesWayQuietly may_leave moment left_since log debt left None chain mid {T = U} {E = F} (Ok y) old between
+  quiet_paid x y left quiet = record { since = since_repair None (Ok x) quiet; ok = quiet.ok; err = tt }
+
+  pub quiet_turned : {T U E F : Type 0} (x : T) (turn : Turn) (left : Option Turn) (next : Chain) (new : S) (result : Result U F) → mid ≡ healed chain → TurnsOver turn left mid next result
+      → RepairsQuietly may_leave moment left_since log debt chain mid {T = T} {E = E} (Ok x) old between → TurnsOverQuietly may_leave moment left_since log turn left mid next between new
+      → MakesWayQuietly may_leave moment left_since log debt left (Some turn) chain next result old new
+  quiet_turned {U = U} {F = F} x turn left next new result is over quiet turns = record {
+    since = joined moment left_since old between new (MayGiveOn log debt (Some turn) chain) (since_repair (Some turn) (Ok x) quiet)
+        (weaker moment left_since between new (MayGive log (Last turn.new) mid) (MayGiveOn log debt (Some turn) chain) turns.since gives);
+    ok = ok_by result over.paid;
+    err = err_by result;
+  }
+    where
+      gives : (c : Folder) → MayGive log (Last turn.new) mid c → MayGiveOn log debt (Some turn) chain c
+      gives c found = ⊎_elim (λ here. inl (gives_now log debt chain c here)) (λ there. inr (refl, there)) (subst (λ (k : Chain). MayGive log (Last turn.new) k c) is found)
+
+      ok_by : (r : Result U F) → OnOk r (left ≡ None) → OnOk r (Stands may_leave log Nothing next new)
+      ok_by (Ok y) none = subst (λ (o : Option Turn). Stands may_leave log (debt_of o) next new) none turns.stands
+      ok_by (Err f) none = tt
+
+      err_by : (r : Result U F) → OnErr r ((now : Debt) × IsOwedBehind debt now × Fits left now × Stands may_leave log now next new)
+      err_by (Ok y) = tt
+      err_by (Err f) = (debt_of left, owed_behind debt left, fits_behind left, turns.stands)

@@ -1,0 +1,73 @@
+-- What comes before a write's own files: what is owed is paid, and a long log rotated. The records
+-- take the members of a shelf's type.
+use Rattle.std.specs.Prelude.{◌≡◌, ◌⊎◌, ℕ, ◌<◌, List, Option, Some, None, IfSome, IsSome, Result, OnOk, OnErr}
+use Rattle.dv_model.specs.Journals.{Log}
+use Rattle.dv_shelf.specs.declared.shelf.Name.TheVariants as name
+use Rattle.dv_shelf.specs.Crashes.{LeavesOnly}
+use Rattle.dv_shelf.specs.Folders.{Folder}
+use Rattle.dv_logfile.specs.declared.commit.Debt.TheVariants as log_debt
+use Rattle.dv_chain.specs.declared.chain.Chain.{Chain}
+use Rattle.dv_chain.specs.Rest.{next_mark}
+use Rattle.dv_rotation.specs.declared.texts.Turn.{Turn}
+use Rattle.dv_rotation.specs.Texts.{IsTurnOf, turned}
+use Rattle.dv_keeping.specs.Debts.{Debt, Fits, Last, MayGive, Nothing, Stands}
+use Rattle.dv_keeping.specs.Keeping.{Gives}
+use Rattle.dv_keeping.specs.Repairing.{IsOwing}
+
+-- ---- the chain
+
+-- with the debt of its log paid
+abbrev pub healed : Chain → Chain
+healed chain = record chain { log = record chain.log { debt = log_debt.None } }
+
+-- behind what was owed
+abbrev pub repaired : Option Turn → Chain → Chain
+repaired None chain = healed chain
+repaired (Some turn) chain = turned (healed chain)
+
+-- and behind the rotation that was due
+abbrev pub ready : Option Turn → Option Turn → Chain → Chain
+ready owed None chain = repaired owed chain
+ready owed (Some turn) chain = turned (repaired owed chain)
+
+-- a turn is of the chain, where a file may follow; none is made where one is owed
+abbrev pub IsDue : Option Turn → Chain → Option Turn → Type 0
+IsDue owed chain turn =
+    IfSome turn (λ t. IsTurnOf chain t × (chain.log.file_seq < 4294967295) × (owed ≡ None))
+
+-- Behind Ok nothing is owed, and the chain is ready. An error leaves all as it was; or what was
+-- owed is paid, and the rotation wasn't made, or its last replace is owed.
+pub record MakesWay (owed left turn : Option Turn) (old new : Chain) {T E : Type 0}
+    (result : Result T E) : Type 0 where
+  pub ok : OnOk result ((new ≡ ready owed turn old) × (left ≡ None))
+  pub failed : OnErr result (((new ≡ old) × (left ≡ owed))
+      ⊎ ((new ≡ repaired owed old) × ((left ≡ None) ⊎ (left ≡ turn))))
+  pub owing : IsOwing new left
+
+-- ---- the folder
+
+-- the mailbox at its place, or with what was owed; or, where the log is rotated, at the first place
+-- of the new file
+abbrev pub MayGiveOn : Log → Debt → Option Turn → Chain → Folder → Type 0
+MayGiveOn log debt turn chain c =
+    MayGive log debt chain c
+    ⊎ (IsSome turn × Gives log chain.live.mailbox (next_mark chain) c)
+
+-- what is owed then: the same, nothing, or the last replace of a rotation
+abbrev pub IsOwedBehind : Debt → Debt → Type 0
+IsOwedBehind before now = (now ≡ before) ⊎ (now ≡ Nothing) ⊎ ((new : List ℕ) × (now ≡ Last new))
+
+-- From rest to rest: behind Ok nothing is owed. A crash at any moment leaves a folder that gives
+-- the mailbox, or that with what was owed.
+pub record MakesWayQuietly {S : Type 0} (may_leave : S → Folder → Type 0) (moment : S → ℕ)
+    (left_since : S → ℕ → Folder → Type 0) (log : Log) (debt : Debt) (left turn : Option Turn)
+    (chain new_chain : Chain) {T E : Type 0} (result : Result T E) (old new : S) : Type 0 where
+  pub since : LeavesOnly moment left_since old new (MayGiveOn log debt turn chain)
+  pub ok : OnOk result (Stands may_leave log Nothing new_chain new)
+  pub err : OnErr result ((now : Debt) × IsOwedBehind debt now × Fits left now
+      × Stands may_leave log now new_chain new)
+
+-- the cache file and the message files are as before
+pub record KeepsMails (old new : Folder) : Type 0 where
+  pub cache : new name.Cache ≡ old name.Cache
+  pub mails : (uid : ℕ) → new (name.Mail uid) ≡ old (name.Mail uid)

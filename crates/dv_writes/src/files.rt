@@ -1,0 +1,71 @@
+//! The files before a group.
+
+ghost use Rattle.std.specs.Prelude.{◌≡◌, OnOk};
+ghost use Rattle.dv_model.specs.declared.types.Mailbox.{Mailbox};
+ghost use Rattle.dv_model.specs.Journals.{Log};
+ghost use Rattle.dv_shelf.specs.Causes.{HasCause};
+ghost use Rattle.dv_keeping.specs.Debts.{Nothing, Stands};
+ghost use Rattle.dv_phases.specs.Groups.{KeepsNext};
+ghost use Rattle.dv_phases.specs.Quiet.{IsQuiet};
+ghost use Rattle.dv_writes.specs.declared.steps.Files.TheVariants as kind;
+ghost use Rattle.dv_writes.specs.Steps.{AreFilesFor, HasFiles, KeepsUnnamed, MayRenew};
+ghost use Rattle.dv_writes.specs.Writes.{AreFilesOf, IsAfter, Write, log_with};
+
+use crate::{Files, Renewal};
+use dv_chain::Chain;
+use dv_phases::{clear, put_message, renew};
+use dv_shelf::{Failed, Shelf};
+
+/// Removes the message files that no row has, and replaces index and cache file.
+fn check_files<S: Shelf>(chain: &Chain, shelf: &mut S, renewal: &Renewal) -> Result<(), Failed>
+    requires { AreFilesFor chain.now (kind.Check renewal.now) }
+    // Behind Ok they are written, in the files and whatever a crash leaves; the other files stay.
+    ensures written { S.tells → OnOk result (HasFiles S.files S.may_leave
+        chain.now.live.mailbox (kind.Check renewal.now) shelf.new) }
+    ensures others { S.tells → KeepsUnnamed chain.now.live.mailbox (kind.Check renewal.now)
+        (S.files shelf.old) (S.files shelf.new) }
+    // What the folder gives stays, at any moment.
+    ensures quiet { S.tells → (log : Log) →
+        Stands S.may_leave log Nothing chain.now shelf.old →
+        MayRenew log chain.now.live.mailbox (kind.Check renewal.now) →
+        IsQuiet S.may_leave S.moment S.left_since log chain.now shelf.old shelf.new }
+    // No message file is read; an error has its cause.
+    ensures mail_reads { S.mail_reads shelf.new ≡ S.mail_reads shelf.old }
+    ensures cause { HasCause (S.fault_count shelf.old) (S.fault_count shelf.new) result }
+{
+    clear(chain, shelf, renewal.gone.as_slice())?;
+    renew(chain, shelf, &renewal.index, &renewal.cache)
+}
+
+/// Writes or removes the files that come before a group. Takes no memory. After `Failed` some of
+/// these files are as before, the others as behind. A crash at any moment leaves a folder that
+/// gives the same mailbox.
+pub fn write_files<S: Shelf>(chain: &Chain, shelf: &mut S, files: &Files) -> Result<(), Failed>
+    requires { AreFilesFor chain.now files.now }
+    // Behind Ok they are written, in the files and whatever a crash leaves; the other files stay.
+    ensures written { S.tells → OnOk result
+        (HasFiles S.files S.may_leave chain.now.live.mailbox files.now shelf.new) }
+    ensures others { S.tells → KeepsUnnamed chain.now.live.mailbox files.now
+        (S.files shelf.old) (S.files shelf.new) }
+    // What the folder gives stays, at any moment.
+    ensures quiet { S.tells → (log : Log) →
+        Stands S.may_leave log Nothing chain.now shelf.old →
+        MayRenew log chain.now.live.mailbox files.now →
+        IsQuiet S.may_leave S.moment S.left_since log chain.now shelf.old shelf.new }
+    // Behind Ok whatever a crash leaves keeps the mailbox with the group of a write, too.
+    ensures next { S.tells → (log : Log) (write : Write) (after : Mailbox) →
+        Stands S.may_leave log Nothing chain.now shelf.old →
+        IsAfter log write chain.now.live.mailbox after →
+        AreFilesOf log write.received chain.now.live.mailbox write.command files.now →
+        OnOk result (KeepsNext S.may_leave log
+        (log_with log write chain.now.live.mailbox) after shelf.new) }
+    // No message file is read; an error has its cause.
+    ensures mail_reads { S.mail_reads shelf.new ≡ S.mail_reads shelf.old }
+    ensures cause { HasCause (S.fault_count shelf.old) (S.fault_count shelf.new) result }
+{
+    match files {
+        Files::Nothing => Ok(()),
+        Files::Message(text) => put_message(chain, shelf, text),
+        Files::Check(renewal) => check_files(chain, shelf, renewal),
+    }
+}

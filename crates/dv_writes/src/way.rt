@@ -1,0 +1,46 @@
+//! What comes before a write's own files.
+
+ghost use Rattle.std.specs.Prelude.{◌≡◌, IfSome};
+ghost use Rattle.dv_model.specs.Journals.{Log};
+ghost use Rattle.dv_shelf.specs.Causes.{HasCause};
+ghost use Rattle.dv_rotation.specs.Texts.{ClosesLog};
+ghost use Rattle.dv_keeping.specs.Debts.{Debt, Fits, Stands};
+ghost use Rattle.dv_keeping.specs.Repairing.{IsOwing};
+ghost use Rattle.dv_writes.specs.Ways.{IsDue, KeepsMails, MakesWay, MakesWayQuietly};
+
+use dv_chain::Chain;
+use dv_keeping::{repair, turn_over};
+use dv_rotation::Turn;
+use dv_shelf::{Failed, Shelf};
+
+/// Pays what is owed, and then rotates the log by a turn that was made for it, where there is one.
+/// Takes no memory. After `Failed` the mailbox is as before, and what is owed is kept. A crash at
+/// any moment leaves a folder that gives the same mailbox, or that with what was owed.
+pub fn make_way<S: Shelf>(
+    chain: &mut Chain,
+    shelf: &mut S,
+    owed: &mut Option<Turn>,
+    turn: Option<Turn>,
+) -> Result<(), Failed>
+    requires owing { IsOwing chain.old owed.old }
+    requires due { IsDue owed.old chain.old turn }
+    // The chain and the turn that is owed, also behind an error.
+    ensures value { MakesWay owed.old owed.new turn chain.old chain.new result }
+    // What is left gives the same mailbox; from rest to rest.
+    ensures quiet { S.tells → (log : Log) (debt : Debt) → Fits owed.old debt →
+        Stands S.may_leave log debt chain.old shelf.old →
+        IfSome turn (λ t. ClosesLog chain.old t (S.files shelf.old)) →
+        MakesWayQuietly S.may_leave S.moment S.left_since log debt owed.new turn
+        chain.old chain.new result shelf.old shelf.new }
+    // The cache file and the message files stay.
+    ensures files { S.tells → KeepsMails (S.files shelf.old) (S.files shelf.new) }
+    // No message file is read; an error has its cause.
+    ensures mail_reads { S.mail_reads shelf.new ≡ S.mail_reads shelf.old }
+    ensures cause { HasCause (S.fault_count shelf.old) (S.fault_count shelf.new) result }
+{
+    repair(chain, shelf, owed)?;
+    match turn {
+        Some(made) => turn_over(chain, shelf, made, owed),
+        None => Ok(()),
+    }
+}
