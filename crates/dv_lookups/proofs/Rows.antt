@@ -1,23 +1,26 @@
 -- The row of a UID, and what the cache file tells of its message.
 use Rattle.std.proofs.Common.{◌≡◌, ℕ, Bool, true, false, ◌&&◌, ◌||◌, cond, List, [], ◌∷◌, length, Contains, Option, Some, None, Result, Ok, Err, ltb, refl, sym, ◌∙◌, ap, subst, arith}
-use Rattle.std.specs.Prelude.{find, nat_eq, position, slice_get, IfOk}
+use Rattle.std.specs.Prelude.{Any, find, nat_eq, position, slice_get, IfOk}
 use Rattle.std.specs.List.{list_any, position_or_len}
-use Rattle.std.proofs.lemmas.List.Folds.{find_at}
+use Rattle.std.proofs.lemmas.List.Folds.{Any-from_list_any, find_at}
 use Rattle.std.proofs.lemmas.Bool.{eqb-true}
 use Rattle.std.proofs.lemmas.List.Elements.{Contains-append_right}
 use Rattle.std.proofs.lemmas.Option.{same_Some}
 use Rattle.dv_model.specs.declared.types.Mailbox.{Mailbox}
 use Rattle.dv_model.specs.declared.types.Row.{Row}
 use Rattle.dv_model.specs.Journals.{Mail, Held, Damaged}
-use Rattle.dv_model.specs.Sessions.{has_uid}
+use Rattle.dv_model.specs.Sessions.{has_uid, message_in}
+use Rattle.dv_model.specs.declared.memory.NoMemory.{NoMemory}
+use Rattle.dv_shelf.specs.declared.shelf.ShelfFault.{ShelfFault}
 use Rattle.dv_shelf.specs.Folders.{Folder}
 use Rattle.dv_cache.specs.declared.row.Known.{Known}
 use Rattle.dv_mails.specs.Reading.{mail_at}
 use Rattle.dv_openings.specs.TrueCaches.{HasTrueCache, known_in, known_of}
 use Rattle.dv_lookups.specs.declared.source.Source.{Source}
 use Rattle.dv_lookups.specs.declared.source.Source.TheVariants as source
+use Rattle.dv_lookups.specs.Memory.{in_memory}
 use Rattle.dv_lookups.specs.Kept.{IsLacking, IsLookedUp, IsSpared, row_of}
-use Rattle.dv_lookups.specs.Founds.{IsSourceOf, mail_of}
+use Rattle.dv_lookups.specs.Founds.{AreMessages, IsSourceOf, mail_of}
 
 -- ---- the row
 
@@ -100,7 +103,42 @@ pub if_ok : {T E : Type 0} (P Q : T → Type 0) (r : Result T E) → ((x : T) �
 if_ok P Q (Ok x) step p = step x p
 if_ok P Q (Err e) step p = tt
 
+-- an answer behind a want of memory that isn't one
+pub ok_gives : {T : Type 0} (P : T → Type 0) (r : Result T NoMemory) (x : T) → in_memory r ≡ Ok x → IfOk r P → P x
+ok_gives P (Ok y) x is p =
+    let same : y ≡ x = cc in
+    subst P same p
+ok_gives P (Err e) x is p = absurd (cc)
+
+pub if_in_memory : {T : Type 0} (P : T → Type 0) (r : Result T NoMemory) (s : Result T ShelfFault) → s ≡ in_memory r → IfOk r P → IfOk s P
+if_in_memory P (Ok x) s is p = subst (λ (r : Result _ ShelfFault). IfOk r P) (sym is) p
+if_in_memory P (Err e) s is p = subst (λ (r : Result _ ShelfFault). IfOk r P) (sym is) tt
+
 -- something is known only where it may be looked for
 pub must_look : (b : Bool) (o : Option Known) (known : Known) → (b ≡ false → o ≡ None) → o ≡ Some known → b ≡ true
 must_look true o known none is = refl
 must_look false o known none is = let no = none refl in absurd cc
+
+-- ---- its message
+
+-- a row of the UID is there
+row_has : (m : Mailbox) (uid : ℕ) → has_uid m uid ≡ true → (row : Row) × Contains m.rows row × (row.uid ≡ uid)
+row_has m uid has = of_row (Any-from_list_any (λ row. nat_eq row.uid uid && true) m.rows has)
+  where
+    by_test : (b : Bool) → (b && true) ≡ true → b ≡ true
+    by_test true e = refl
+    by_test false e = e
+
+    of_row : Any (λ row. (nat_eq row.uid uid && true) ≡ true) m.rows → (row : Row) × Contains m.rows row × (row.uid ≡ uid)
+    of_row (k, row, less, at, same) = (row, (k, less, at), eqb-true row.uid uid (by_test (nat_eq row.uid uid) same))
+
+-- the messages of the mailbox's rows are what a command reads
+pub message_same : (folder : Folder) (m : Mailbox) (mail : ℕ → Mail) → AreMessages folder m mail → (uid : ℕ) → message_in (mail_at folder) m uid ≡ message_in mail m uid
+message_same folder m mail same uid = by_test (has_uid m uid) refl
+  where
+    by_test : (b : Bool) → has_uid m uid ≡ b → message_in (mail_at folder) m uid ≡ message_in mail m uid
+    by_test true has =
+        let row = row_has m uid has in
+        let e : mail_at folder uid ≡ mail uid = subst (λ (u : ℕ). mail_at folder u ≡ mail u) row.2 (same row.0 row.1) in
+        rw (has, e) refl
+    by_test false lacks = rw (lacks) refl

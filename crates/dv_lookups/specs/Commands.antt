@@ -1,9 +1,56 @@
 -- What a command asks of many messages.
-use Rattle.std.specs.Prelude.{◌≡◌, ℕ, ⊤}
+use Rattle.std.specs.Prelude.{◌≡◌, ℕ, ◌&&◌, Bool, true, false, not, List, [], ◌∷◌, flat_map, count_by, if◌then◌else◌, ⊤}
+use Rattle.dv_model.specs.declared.types.Command.{Command}
+use Rattle.dv_model.specs.declared.types.Mailbox.{Mailbox}
+use Rattle.dv_model.specs.Sessions.{has_uid, reads_mail, uids_looked_at}
+use Rattle.dv_model.specs.Views.{View}
+use Rattle.dv_shelf.specs.Folders.{Folder}
+use Rattle.dv_search.specs.declared.facts.MailFacts.{MailFacts}
+use Rattle.dv_responses.specs.Asked.{Asks}
+use Rattle.dv_responses.specs.declared.asking.Asked.{Asked}
 use Rattle.dv_lookups.specs.declared.found.FactsFound.{FactsFound}
 use Rattle.dv_lookups.specs.declared.found.FactsFound.TheVariants as facts
+use Rattle.dv_lookups.specs.Founds.{facts_found, mail_of}
+use Rattle.dv_lookups.specs.Kept.{CountsUpTo, IsSpared, can_stand}
+
+-- ---- facts
 
 -- facts are of this UID
 abbrev pub IsNamed : ℕ → FactsFound → Type 0
 IsNamed uid (facts.Known known) = known.uid ≡ uid
 IsNamed uid other = ⊤
+
+-- the facts that are known
+abbrev pub known_facts : FactsFound → List MailFacts
+known_facts (facts.Known known) = known ∷ []
+known_facts other = []
+
+-- those of each message that is there
+abbrev pub facts_of_all : Folder → Mailbox → Asked → List ℕ → List MailFacts
+facts_of_all folder m asked uids =
+    flat_map (λ uid. known_facts (facts_found asked uid (mail_of folder m uid))) uids
+
+-- ---- reads
+
+-- the UIDs of the rows whose messages a command reads
+abbrev pub uids_read : Command → View → List ℕ
+uids_read c view = if reads_mail c then uids_looked_at c view else []
+
+-- all that it asks of a message can stand in the cache file
+abbrev pub CanStand : Command → Type 0
+CanStand c = (asked : Asked) → Asks c asked → can_stand asked ≡ true
+
+-- not all of it can
+abbrev pub CannotStand : Command → Type 0
+CannotStand c = (asked : Asked) → Asks c asked → can_stand asked ≡ false
+
+-- for each UID that the mailbox has one message file at most is read, but for these
+abbrev pub ReadsBut : (ℕ → Bool) → Mailbox → List ℕ → ℕ → ℕ → Type 0
+ReadsBut spared m uids before now =
+    CountsUpTo (count_by (λ uid. not (spared uid) && has_uid m uid) uids) before now
+
+-- and none of a row that is found in the cache file
+abbrev pub SparesEach : Folder → ℕ → Mailbox → List ℕ → ℕ → ℕ → Type 0
+SparesEach folder indexid m uids before now =
+    (spared : ℕ → Bool) → ((uid : ℕ) → spared uid ≡ true → IsSpared folder indexid m uid)
+    → ReadsBut spared m uids before now

@@ -1,6 +1,7 @@
 -- What is found of a UID: nothing, damage, or what is asked of its message.
-use Rattle.std.specs.Prelude.{◌≡◌, ℕ, Bool, true, false, List, Option, Some, None, if◌then◌else◌, ⊤}
+use Rattle.std.specs.Prelude.{◌≡◌, ℕ, Bool, true, false, List, Contains, Option, Some, None, if◌then◌else◌, ⊤}
 use Rattle.dv_model.specs.declared.types.Mailbox.{Mailbox}
+use Rattle.dv_model.specs.declared.types.Row.{Row}
 use Rattle.dv_model.specs.Fields.{field_of, physical_size, virtual_size}
 use Rattle.dv_model.specs.Journals.{Mail, Held, Damaged}
 use Rattle.dv_model.specs.Sessions.{has_uid}
@@ -21,6 +22,11 @@ use Rattle.dv_lookups.specs.declared.found.SizesFound.{SizesFound}
 use Rattle.dv_lookups.specs.declared.found.SizesFound.TheVariants as sizes
 use Rattle.dv_lookups.specs.declared.source.Source.{Source}
 use Rattle.dv_lookups.specs.declared.source.Source.TheVariants as source
+
+-- these are the messages of the mailbox's rows, by their files in the folder
+abbrev pub AreMessages : Folder → Mailbox → (ℕ → Mail) → Type 0
+AreMessages folder m mail =
+    (row : Row) → Contains m.rows row → mail_at folder row.uid ≡ mail row.uid
 
 -- the message of a UID that the mailbox has, by its file in the folder
 abbrev pub mail_of : Folder → Mailbox → ℕ → Option Mail

@@ -4,3 +4,4 @@ pub mod Kept
 pub mod Founds
 pub mod Memory
 pub mod Commands
+pub mod Checks

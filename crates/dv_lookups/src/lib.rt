@@ -3,6 +3,8 @@
 #![tactic(auto)]
 
 mod cache_file;
+mod checking;
+mod commands;
 mod facts;
 mod found;
 mod known;
@@ -12,6 +14,7 @@ mod singles;
 mod source;
 
 pub use cache_file::CacheFile;
+pub use checking::cache_of_messages;
 pub use found::{BodyFound, FactsFound, FieldFound, SizesFound};
 pub use singles::body;
 

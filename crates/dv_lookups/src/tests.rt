@@ -1,8 +1,10 @@
-use crate::{BodyFound, CacheFile, FactsFound, FieldFound, SizesFound, body};
+use crate::{BodyFound, CacheFile, FactsFound, FieldFound, SizesFound, body, cache_of_messages};
 use dv_chain::{Chain, open};
-use dv_model::{Bytes, List};
+use dv_model::{Bytes, Command, End, Item, List, Span};
 use dv_responses::Asked;
+use dv_search::{Mail, MailFacts};
 use dv_shelf::{MemShelf, Name, ShelfFault};
+use dv_view::View;
 use std::alloc::Global;
 use std::test::*;
 
@@ -168,5 +170,76 @@ fn failed_read_is_told(rt: HostRuntime) -> Result<(), Fail> {
     let first = cache.field(alloc, &mut shelf, &chain, 1, b"Subject");
     assert!(rt; first.err() == Some(ShelfFault::Failed));
     assert!(rt; is_value(cache.field(alloc, &mut shelf, &chain, 1, b"Subject"), b"Hi"));
+    Ok(())
+}
+
+// A FETCH of sizes and subjects.
+fn items(alloc: Global) -> Result<List<Item>, Fail> {
+    let mut items = List::new(alloc);
+    items.push(Item::Size)?;
+    items.push(Item::Field(Bytes::from_slice(alloc, b"Subject")?))?;
+    Ok(items)
+}
+
+fn has_subject(facts: &MailFacts, value: &[u8]) -> bool {
+    match facts.fields.as_slice() {
+        [field] => match &field.1 {
+            Some(found) => found.as_slice() == value,
+            None => false,
+        },
+        _ => false,
+    }
+}
+
+// Whether the message of UID 1 has these facts, and that of UID 2 none.
+fn are_facts(found: &Mail, size: u64, subject: &[u8]) -> bool {
+    match (found.of(1), found.of(2)) {
+        (Some(facts), None) => facts.size == size && has_subject(facts, subject),
+        _ => false,
+    }
+}
+
+#[test]
+fn only_rows_that_are_not_in_the_cache_file_are_read(rt: HostRuntime) -> Result<(), Fail> {
+    let alloc = rt.alloc();
+    let mut shelf = folder(alloc, CACHE, &[])?;
+    let chain = opened(alloc, &mut shelf)?;
+    let view = View::of(alloc, &chain.live)?;
+    let mut cache = CacheFile::Unread;
+    let calls = shelf.call_count();
+    let span = Span {
+        from: End::Number(1),
+        to: End::Star,
+    };
+    let fetch = Command::Fetch {
+        by_uid: false,
+        set: List::from_slice(alloc, &[span])?,
+        items: items(alloc)?,
+    };
+    let found = cache
+        .facts_for(alloc, &mut shelf, &chain, &fetch, &view)
+        .ok()
+        .ok_or("a fault")?;
+    assert!(rt; are_facts(&found, 20, b"Hi"));
+    assert_eq!(rt; shelf.call_count(), calls.saturating_add(2));
+    Ok(())
+}
+
+fn checked(alloc: Global, shelf: &mut MemShelf, chain: &Chain, seq: u32) -> Option<Bytes> {
+    if chain.live.count() > 8_388_608 {
+        return None;
+    }
+    cache_of_messages(alloc, shelf, chain, seq).ok()
+}
+
+#[test]
+fn cache_file_is_made_of_the_messages(rt: HostRuntime) -> Result<(), Fail> {
+    let alloc = rt.alloc();
+    let mut shelf = folder(alloc, FOREIGN, &[])?;
+    let chain = opened(alloc, &mut shelf)?;
+    let calls = shelf.call_count();
+    let made = checked(alloc, &mut shelf, &chain, 1).ok_or("a fault")?;
+    assert!(rt; made.as_slice() == CACHE);
+    assert_eq!(rt; shelf.call_count(), calls.saturating_add(2));
     Ok(())
 }

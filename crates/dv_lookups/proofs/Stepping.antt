@@ -1,0 +1,142 @@
+-- One UID more of those that a command looks at.
+use Rattle.std.proofs.Common.{◌≡◌, ℕ, ◌+◌, ◌<◌, ◌≤◌, Bool, true, false, ◌&&◌, cond, List, [], ◌∷◌, ◌++◌, length, get_or, take, All, refl, sym, ◌∙◌, ap, subst, arith}
+use Rattle.std.specs.Prelude.{count_by, flat_map, not}
+use Rattle.std.specs.List.Sorted.{IsStrictlyIncreasing}
+use Rattle.std.proofs.lemmas.Bool.{false≢true}
+use Rattle.std.proofs.lemmas.Grind.{flat_map-append}
+use Rattle.std.proofs.lemmas.List.{append-nil, take_more}
+use Rattle.std.proofs.lemmas.List.Elements.{All-append, All-cons, All-nil, All-weaker}
+use Rattle.std.proofs.lemmas.List.Kept.{AllPairs-from_increasing}
+use Rattle.std.proofs.lemmas.List.Sums.{count_by_more_no, count_by_more_yes, sum_by-take-le}
+use Rattle.dv_model.specs.declared.types.Mailbox.{Mailbox}
+use Rattle.dv_model.specs.Sessions.{has_uid}
+use Rattle.dv_shelf.specs.Folders.{Folder}
+use Rattle.dv_search.specs.declared.facts.MailFacts.{MailFacts}
+use Rattle.dv_responses.specs.declared.asking.Asked.{Asked}
+use Rattle.dv_lookups.specs.declared.found.FactsFound.{FactsFound}
+use Rattle.dv_lookups.specs.declared.found.FactsFound.TheVariants as facts
+use Rattle.dv_lookups.specs.Commands.{IsNamed, ReadsBut, SparesEach, facts_of_all, known_facts}
+use Rattle.dv_lookups.specs.Founds.{facts_found, mail_of}
+use Rattle.dv_lookups.specs.declared.cache_file.CacheFile.{CacheFile}
+use Rattle.dv_lookups.specs.Kept.{CountsReads, CountsUpTo, Economy, IsFileOf, IsSpared, Spares, can_stand}
+use Rattle.dv_lookups.proofs.Economies.{same_read}
+
+-- ---- facts
+
+-- the facts are of UIDs below this one
+abbrev pub AreBelow : ℕ → List MailFacts → Type 0
+AreBelow bound mail = All (λ f. f.uid < bound) mail
+
+-- those so far are of UIDs below the next
+abbrev pub AreBehind : List ℕ → ℕ → List MailFacts → Type 0
+AreBehind uids i mail = i < length uids → AreBelow (get_or uids i 0) mail
+
+known_below : (uid bound : ℕ) (found : FactsFound) → IsNamed uid found → uid < bound → AreBelow bound (known_facts found)
+known_below uid bound (facts.Known f) named less = All-cons (λ (x : MailFacts). x.uid < bound) f [] (omega (arith, named, less)) (All-nil (λ (x : MailFacts). x.uid < bound))
+known_below uid bound facts.Gone named less = All-nil (λ (x : MailFacts). x.uid < bound)
+known_below uid bound facts.Damaged named less = All-nil (λ (x : MailFacts). x.uid < bound)
+
+pub below_with : (uid bound : ℕ) (mail : List MailFacts) (found : FactsFound) → AreBelow uid mail → IsNamed uid found → uid < bound → AreBelow bound (mail ++ known_facts found)
+below_with uid bound mail found below named less =
+    All-append (λ (f : MailFacts). f.uid < bound) mail (known_facts found)
+    (All-weaker (λ (f : MailFacts). f.uid < uid) (λ f. f.uid < bound) (λ f lower. omega (arith, lower, less)) mail below)
+    (known_below uid bound found named less)
+
+-- UIDs that rise stand below the next
+pub next_above : (uids : List ℕ) (i : ℕ) → IsStrictlyIncreasing uids → i + 1 < length uids → get_or uids i 0 < get_or uids (i + 1) 0
+next_above uids i rising next = AllPairs-from_increasing uids rising i (i + 1) 0 (omega arith) next
+
+-- the facts of one message more
+pub facts_more : (folder other : Folder) (m : Mailbox) (asked : Asked) (uids : List ℕ) (i : ℕ) (old new : List MailFacts) → i < length uids → other ≡ folder
+    → old ≡ facts_of_all folder m asked (take i uids)
+    → new ≡ old ++ known_facts (facts_found asked (get_or uids i 0) (mail_of other m (get_or uids i 0)))
+    → new ≡ facts_of_all folder m asked (take (i + 1) uids)
+facts_more folder other m asked uids i old new less same before is =
+    let each : Folder → ℕ → List MailFacts = λ f u. known_facts (facts_found asked u (mail_of f m u)) in
+    let uid = get_or uids i 0 in
+    let so_far = take i uids in
+    let here : new ≡ flat_map (each folder) so_far ++ each folder uid =
+    is ∙ ap (λ (f : Folder). old ++ each f uid) same ∙ ap (λ (xs : List MailFacts). xs ++ each folder uid) before in
+    let all : flat_map (each folder) (take (i + 1) uids) ≡ flat_map (each folder) so_far ++ each folder uid =
+    ap (flat_map (each folder)) (take_more uids i 0 less) ∙ flat_map-append (each folder) so_far (uid ∷ []) ∙ ap (λ (xs : List MailFacts). flat_map (each folder) so_far ++ xs) (append-nil (each folder uid)) in
+    here ∙ sym all
+
+-- ---- reads
+
+reads_both : (a b before mid now : ℕ) → CountsReads a before mid → CountsReads b mid now → CountsReads (a + b) before now
+reads_both a b before mid now one two = omega (arith, one, two)
+
+upto_more : (n before mid now : ℕ) → CountsUpTo n before mid → CountsUpTo 1 mid now → CountsUpTo (n + 1) before now
+upto_more n before mid now one two = (one.0 + two.0, omega (arith, one.1, two.1), reads_both one.0 two.0 before mid now one.2 two.2)
+
+upto_same : (n before mid now : ℕ) → CountsUpTo n before mid → CountsReads 0 mid now → CountsUpTo n before now
+upto_same n before mid now one two =
+    let none : one.0 + 0 ≡ one.0 = omega arith in
+    (one.0, one.1, subst (λ (k : ℕ). CountsReads k before now) none (reads_both one.0 0 before mid now one.2 two))
+
+-- a wider bound
+upto_wider : (n k before now : ℕ) → n ≤ k → CountsUpTo n before now → CountsUpTo k before now
+upto_wider n k before now le one = (one.0, omega (arith, one.1, le), one.2)
+
+-- message files are read of rows that the mailbox has, and that aren't spared for this reason
+abbrev pub SparesBy : (ℕ → Type 0) → Mailbox → List ℕ → ℕ → ℕ → Type 0
+SparesBy Spared m uids before now = (spared : ℕ → Bool) → ((uid : ℕ) → spared uid ≡ true → Spared uid) → ReadsBut spared m uids before now
+
+module _ (Spared : ℕ → Type 0) (m : Mailbox) (uids : List ℕ) (i before : ℕ) where
+  pub spares_more : (mid now : ℕ) → i < length uids → SparesBy Spared m (take i uids) before mid → CountsUpTo 1 mid now
+      → (has_uid m (get_or uids i 0) ≡ false → CountsReads 0 mid now) → (Spared (get_or uids i 0) → CountsReads 0 mid now)
+      → SparesBy Spared m (take (i + 1) uids) before now
+  spares_more mid now less so_far one gone none spared are = by_test (spared uid) (has_uid m uid) refl refl
+    where
+      uid : ℕ
+      uid = get_or uids i 0
+
+      test : ℕ → Bool
+      test u = not (spared u) && has_uid m u
+
+      stays : test uid ≡ false → CountsReads 0 mid now → ReadsBut spared m (take (i + 1) uids) before now
+      stays fails still =
+          let same : count_by test (take (i + 1) uids) ≡ count_by test (take i uids) = count_by_more_no test uids i 0 less fails in
+          subst (λ (n : ℕ). CountsUpTo n before now) (sym same) (upto_same (count_by test (take i uids)) before mid now (so_far spared are) still)
+
+      by_test : (s h : Bool) → spared uid ≡ s → has_uid m uid ≡ h → ReadsBut spared m (take (i + 1) uids) before now
+      by_test true h is has = stays (ap (λ (b : Bool). not b && has_uid m uid) is) (none (are uid is))
+      by_test false false is has = stays (ap (λ (b : Bool). not b && has_uid m uid) is ∙ has) (gone has)
+      by_test false true is has =
+          let more : count_by test (take (i + 1) uids) ≡ count_by test (take i uids) + 1 = count_by_more_yes test uids i 0 less (ap (λ (b : Bool). not b && has_uid m uid) is ∙ has) in
+          subst (λ (n : ℕ). CountsUpTo n before now) (sym more) (upto_more (count_by test (take i uids)) before mid now (so_far spared are) one)
+
+  -- those of the first are no more than all
+  spares_wider : (now : ℕ) → SparesBy Spared m (take i uids) before now → SparesBy Spared m uids before now
+  spares_wider now so_far spared are =
+      let test : ℕ → Bool = λ u. not (spared u) && has_uid m u in
+      upto_wider (count_by test (take i uids)) (count_by test uids) before now (sum_by-take-le (λ u. cond (test u) 1 0) uids i) (so_far spared are)
+
+  -- each row that the mailbox has is read once at most
+  pub most_of : (now : ℕ) → SparesBy Spared m (take i uids) before now → CountsUpTo (count_by (has_uid m) uids) before now
+  most_of now so_far = spares_wider now so_far (λ uid. false) (λ uid no. absurd (false≢true no))
+
+module _ {S : Type 0} (tells : Type 0) (files : S → Folder) (indexid : ℕ) (m : Mailbox) (asked : Asked) where
+  -- a row is found in the cache file, where all that is asked can stand there
+  abbrev pub IsNear : S → CacheFile → ℕ → Type 0
+  IsNear shelf file uid = tells × IsFileOf (files shelf) file × (can_stand asked ≡ true) × IsSpared (files shelf) indexid m uid
+
+  pub spares_of : (uids : List ℕ) (i : ℕ) (start : S) (file : CacheFile) (before now : ℕ) → SparesBy (IsNear start file) m (take i uids) before now
+      → tells → IsFileOf (files start) file → can_stand asked ≡ true → SparesEach (files start) indexid m uids before now
+  spares_of uids i start file before now so_far told same stand spared are =
+      spares_wider (IsNear start file) m uids i before now so_far spared (λ uid is. (told, same, stand, are uid is))
+
+  -- message files that are read behind one look more
+  pub reads_more : (mail_reads : S → ℕ) (uids : List ℕ) (i : ℕ) (start mid now : S) (file between after : CacheFile) → i < length uids
+      → (tells → files mid ≡ files start)
+      → (tells → IsFileOf (files start) file → IsFileOf (files start) between)
+      → SparesBy (IsNear start file) m (take i uids) (mail_reads start) (mail_reads mid)
+      → Economy mail_reads m (get_or uids i 0) (can_stand asked) between after mid now
+      → (tells → IsFileOf (files mid) between → can_stand asked ≡ true → IsSpared (files mid) indexid m (get_or uids i 0) → Spares mail_reads between mid now)
+      → SparesBy (IsNear start file) m (take (i + 1) uids) (mail_reads start) (mail_reads now)
+  reads_more mail_reads uids i start mid now file between after less still kept so_far did spares =
+      spares_more (IsNear start file) m uids i (mail_reads start) (mail_reads mid) (mail_reads now) less so_far did.most
+      (λ lacks. same_read (mail_reads mid) (mail_reads now) (ap mail_reads (did.gone lacks)))
+      (λ near.
+      let same = sym (still near.0) in
+      (spares near.0 (subst (λ (f : Folder). IsFileOf f between) same (kept near.0 near.1)) near.2 (subst (λ (f : Folder). IsSpared f indexid m (get_or uids i 0)) same near.3)).none)

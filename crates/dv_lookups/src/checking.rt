@@ -1,0 +1,144 @@
+//! The cache file that a CHECK writes.
+
+ghost use Rattle.std.specs.Prelude.{◌≡◌, ◌^◌, ◌<◌, ◌≤◌, ℕ, All, IfOk, length, map};
+ghost use Rattle.dv_model.specs.Fields.{field_of};
+ghost use Rattle.dv_model.specs.Journals.{Held, Mail};
+ghost use Rattle.dv_cache.specs.declared.row.CacheRow.{CacheRow};
+ghost use Rattle.dv_cache.specs.Caches.{HasFive, cache_text};
+ghost use Rattle.dv_shelf.specs.Causes.{HasCauseOf};
+ghost use Rattle.dv_shelf.specs.Folders.{counted};
+ghost use Rattle.dv_chain.specs.Openings.{OnlyLooks};
+ghost use Rattle.dv_mails.specs.Reading.{ReadsMails, mail_at};
+ghost use Rattle.dv_openings.specs.TrueCaches.{kept_names};
+ghost use Rattle.dv_lookups.specs.Checks.{IsCacheText, held_of, held_row, held_rows};
+ghost use Rattle.dv_lookups.specs.Founds.{AreMessages};
+
+use crate::memory::in_memory;
+use dv_apply::Live;
+use dv_cache::{CacheRow, Known, write};
+use dv_chain::Chain;
+use dv_fields::{field_of, physical, virtual_size};
+use dv_mails::{MailFile, read_mail};
+use dv_model::{Bytes, List, NoMemory};
+use dv_shelf::{Shelf, ShelfFault};
+use std::alloc::Global;
+
+// The largest size of a message that is kept.
+const LARGEST_SIZE: u64 = 1 << 31;
+
+// The values of the five fields that are kept.
+fn kept_fields(alloc: Global, message: &[u8]) -> Result<List<Option<Bytes>>, NoMemory>
+    ensures { IfOk result (λ fields. fields ≡ map (field_of message.now) kept_names) }
+{
+    let mut fields = List::new(alloc);
+    fields.push(field_of(alloc, message, b"date")?)?;
+    fields.push(field_of(alloc, message, b"from")?)?;
+    fields.push(field_of(alloc, message, b"to")?)?;
+    fields.push(field_of(alloc, message, b"subject")?)?;
+    fields.push(field_of(alloc, message, b"message-id")?)?;
+    Ok(fields)
+}
+
+// What is held of a message until it is written.
+fn held(alloc: Global, message: &[u8]) -> Result<Option<Known>, NoMemory>
+    ensures { IfOk result (λ known. known ≡ held_of (Held message.now)) }
+{
+    let physical = physical(message);
+    let virtual_size = virtual_size(message);
+    if physical > LARGEST_SIZE || virtual_size > LARGEST_SIZE {
+        return Ok(None);
+    }
+    let fields = kept_fields(alloc, message)?;
+    Ok(Some(Known {
+        physical: physical as u32,
+        virtual_size: virtual_size as u32,
+        fields,
+    }))
+}
+
+// The row of a message, by its file.
+fn cache_row<S: Shelf>(alloc: Global, shelf: &mut S, uid: u32) -> Result<CacheRow, ShelfFault>
+    ensures row { S.tells → IfOk result (λ row. row ≡ held_row (mail_at (S.files shelf.old)) uid) }
+    ensures five { IfOk result (λ row. HasFive row.known) }
+    // Nothing is changed; one message file is read; a fault of the disk has its cause.
+    ensures looks { S.tells →
+        OnlyLooks S.files S.may_leave S.moment S.left_since shelf.old shelf.new }
+    ensures mail_reads { S.mail_reads shelf.new ≡ counted (S.mail_reads shelf.old) 1 }
+    ensures cause { HasCauseOf ShelfFault.Failed
+        (S.fault_count shelf.old) (S.fault_count shelf.new) result }
+{
+    let known = match read_mail(alloc, shelf, uid)? {
+        MailFile::Held(message) => in_memory(held(alloc, message.bytes.as_slice()))?,
+        MailFile::Damaged => None,
+    };
+    Ok(CacheRow { uid, known })
+}
+
+// The rows of a cache file of the mailbox.
+fn cache_rows<S: Shelf>(
+    alloc: Global,
+    shelf: &mut S,
+    live: &Live,
+) -> Result<List<CacheRow>, ShelfFault>
+    ensures rows { S.tells → IfOk result (λ rows.
+        rows ≡ held_rows (mail_at (S.files shelf.old)) live.now.mailbox.rows) }
+    ensures five { IfOk result (All (λ (row : CacheRow). HasFive row.known)) }
+    ensures count { IfOk result (λ rows. length rows ≡ length live.now.mailbox.rows) }
+    // Nothing is changed.
+    ensures looks { S.tells →
+        OnlyLooks S.files S.may_leave S.moment S.left_since shelf.old shelf.new }
+    // Each message file is read once; a fault of the disk has its cause.
+    ensures mail_reads { ReadsMails (length live.now.mailbox.rows)
+        (S.mail_reads shelf.old) (S.mail_reads shelf.new) result }
+    ensures cause { HasCauseOf ShelfFault.Failed
+        (S.fault_count shelf.old) (S.fault_count shelf.new) result }
+{
+    let mut rows = List::new(alloc);
+    for k in 0..live.count() {
+        let row = cache_row(alloc, shelf, live.row(k).uid)?;
+        match rows.push(row) {
+            Ok(()) => (),
+            Err(_) => return Err(ShelfFault::NoMemory),
+        }
+    }
+    Ok(rows)
+}
+
+// The text of these rows.
+fn text_of(alloc: Global, indexid: u32, seq: u32, rows: &List<CacheRow>) -> Result<Bytes, NoMemory>
+    requires five { All (λ (row : CacheRow). HasFive row.known) rows.now }
+    requires few { length rows.now ≤ 8388608 }
+    ensures text { IfOk result (λ text. text ≡ cache_text indexid seq rows.now) }
+    ensures wide { (indexid < 2 ^ 32) × (seq < 2 ^ 32) }
+{
+    write(alloc, indexid, seq, rows)
+}
+
+/// The cache file of the mailbox under a sequence: the sizes and five fields of each row's message,
+/// by its file, as far as the format keeps them. Each message file is read once, by rising UIDs,
+/// and one message is held at a time.
+pub fn cache_of_messages<S: Shelf>(
+    alloc: Global,
+    shelf: &mut S,
+    chain: &Chain,
+    seq: u32,
+) -> Result<Bytes, ShelfFault>
+    requires few { length chain.now.live.mailbox.rows ≤ 8388608 }
+    // The text is that of the messages in their files.
+    ensures text { S.tells → (mail : ℕ → Mail) →
+        AreMessages (S.files shelf.old) chain.now.live.mailbox mail →
+        IfOk result (IsCacheText chain.now.indexid seq mail chain.now.live.mailbox) }
+    // Nothing is changed.
+    ensures looks { S.tells →
+        OnlyLooks S.files S.may_leave S.moment S.left_since shelf.old shelf.new }
+    // Each message file is read once; a fault of the disk has its cause.
+    ensures mail_reads { ReadsMails (length chain.now.live.mailbox.rows)
+        (S.mail_reads shelf.old) (S.mail_reads shelf.new) result }
+    ensures cause { HasCauseOf ShelfFault.Failed
+        (S.fault_count shelf.old) (S.fault_count shelf.new) result }
+{
+    // The mailbox is valid.
+    let _next_uid = chain.live.next_uid();
+    let rows = cache_rows(alloc, shelf, &chain.live)?;
+    in_memory(text_of(alloc, chain.indexid, seq, &rows))
+}
