@@ -8,12 +8,13 @@ use Rattle.dv_shelf.specs.Crashes.{FollowsNone, Elapses}
 use Rattle.dv_shelf.specs.Disks.{Version, Gone, settled_version}
 use Rattle.dv_system.specs.declared.system.Entry.TheVariants as entry
 use Rattle.dv_system.specs.Entries.{At, put_at, hidden_at, swept_at, unsure_at, synced_at, doubted_at, read_at, IsEntryImage}
-use Rattle.dv_system.specs.Disks.{Disk, changed, changed_names, renamed, with_place, made_place, with_named, may_vanish, IsOneOf, LeftBy, Unlinks}
+use Rattle.dv_system.specs.Disks.{Disk, changed, changed_names, renamed, with_place, made_place, doubted_place, with_named, may_vanish, IsOneOf, IsUnchangedOr, LeftBy, Unlinks}
+use Rattle.dv_system.proofs.Named.{named_here, named_else}
 use Rattle.dv_disk.specs.States.{sweeps}
 use Rattle.dv_disk.specs.Steps.{IsDurable, IsQuiet, LeavesNames, OnlyAt}
 use Rattle.dv_disk.proofs.Runs.{quiet, quiet_same}
-use Rattle.dv_disk.proofs.Places.{alike, alike_on, is_alike, swept_alike, named_here, named_else}
-use Rattle.dv_disk.proofs.Readying.{place_quiet, names_quiet, made_vanishes, swept_narrows, unsure_narrows}
+use Rattle.dv_disk.proofs.Places.{alike, alike_on, is_alike, swept_alike}
+use Rattle.dv_disk.proofs.Readying.{place_quiet, names_quiet, made_vanishes, doubted_vanishes, swept_narrows, unsure_narrows}
 
 -- a call whose error is passed on
 pub passed : {T E : Type 0} (r : Result T E) (Q : E → Type 0) → IsErrAnd r Q → IsErr r
@@ -90,6 +91,13 @@ module _ (named : Name → At) (name : Name) (at : At) (old : Disk) (is : old.na
         alike_on _ (swept_at (old.named n)) _ (is_alike _ _ (ap swept_at same)) (swept_alike (old.named n) (all n));
   }
 
+  mid_all : (mid : Disk) → mid.place ≡ old.place → mid.named ≡ with_named named name at → OnlyAt name at old mid
+  mid_all mid place changed = record {
+    place = place;
+    here = is_alike _ _ (ap (λ (m : Name → At). m name) changed ∙ named_here named name at);
+    others = λ n other. is_alike _ _ (ap (λ (m : Name → At). m n) changed ∙ named_else named name at n other ∙ sym (ap (λ (m : Name → At). m n) is));
+  }
+
   unsure_all : (mid : Disk) → mid.place ≡ old.place → mid.named ≡ with_named named name at → OnlyAt name at old (changed_names unsure_at mid)
   unsure_all mid place changed = record {
     place = place;
@@ -105,9 +113,10 @@ module _ (old mid new : Disk) (name : Name) (at : At) (place : mid.place ≡ old
   swept_there (Ok x) is = only_is name _ old new _ is (swept_all old.named name at old refl mid place named all)
   swept_there (Err e) is = tt
 
-  pub unsure_there : {T E : Type 0} (r : Result T E) → OnErr r (new ≡ changed_names unsure_at mid) → OnErr r (OnlyAt name at old new)
+  pub unsure_there : {T E : Type 0} (r : Result T E) → OnErr r (IsUnchangedOr mid (changed_names unsure_at mid) new) → OnErr r (OnlyAt name at old new)
   unsure_there (Ok x) is = tt
-  unsure_there (Err e) is = only_is name _ old new _ is (unsure_all old.named name at old refl mid place named)
+  unsure_there (Err e) (inl is) = only_is name _ old new _ is (mid_all old.named name at old refl mid place named)
+  unsure_there (Err e) (inr is) = only_is name _ old new _ is (unsure_all old.named name at old refl mid place named)
 
 -- the entries behind each
 pub renamed_names : (old new : Disk) (name : Name) (that : Option (List ℕ)) → IsDurable old.temporary that → new ≡ renamed old name
@@ -135,13 +144,17 @@ not_there false name old new e is = is
 pub temporary_changed : (f : At → At) (old new : Disk) → new ≡ changed f old entry.Temporary → LeavesNames old new
 temporary_changed f old new is = record { place = ap (λ (d : Disk). d.place) is; named = ap (λ (d : Disk). d.named) is }
 
-pub temporary_synced : {T E : Type 0} (r : Result T E) (old new : Disk) → OnOk r (new ≡ changed synced_at old entry.Temporary) → OnErr r (new ≡ changed doubted_at old entry.Temporary)
+pub temporary_same : (old new : Disk) → new ≡ old → LeavesNames old new
+temporary_same old new is = record { place = ap (λ (d : Disk). d.place) is; named = ap (λ (d : Disk). d.named) is }
+
+pub temporary_synced : {T E : Type 0} (r : Result T E) (old new : Disk) → OnOk r (new ≡ changed synced_at old entry.Temporary) → OnErr r (IsUnchangedOr old (changed doubted_at old entry.Temporary) new)
     → LeavesNames old new
 temporary_synced (Ok x) old new ok err = temporary_changed synced_at old new ok
-temporary_synced (Err e) old new ok err = temporary_changed doubted_at old new err
+temporary_synced (Err e) old new ok (inl is) = temporary_same old new is
+temporary_synced (Err e) old new ok (inr is) = temporary_changed doubted_at old new is
 
 pub temporary_failed : (f h : At → At) (old new : Disk) → IsOneOf old (changed f old entry.Temporary) (changed h old entry.Temporary) new → LeavesNames old new
-temporary_failed f h old new (inl is) = record { place = ap (λ (d : Disk). d.place) is; named = ap (λ (d : Disk). d.named) is }
+temporary_failed f h old new (inl is) = temporary_same old new is
 temporary_failed f h old new (inr (inl is)) = temporary_changed f old new is
 temporary_failed f h old new (inr (inr is)) = temporary_changed h old new is
 
@@ -164,7 +177,13 @@ module _ {S : Type 0} (disk : S → Disk) (moment : S → ℕ) (left_since : S �
   folder_failed (inr (inr is)) = place_quiet disk moment left_since now old new made_place made_vanishes is time
 
   -- a sync of the folder
-  pub sweep_quiet : {T E : Type 0} (r : Result T E) → OnOk r (disk new ≡ changed_names swept_at (disk old)) → OnErr r (disk new ≡ changed_names unsure_at (disk old))
+  pub sweep_quiet : {T E : Type 0} (r : Result T E) → OnOk r (disk new ≡ changed_names swept_at (disk old)) → OnErr r (IsUnchangedOr (disk old) (changed_names unsure_at (disk old)) (disk new))
       → IsQuiet disk moment left_since old new
   sweep_quiet (Ok x) ok err = names_quiet disk moment left_since now old new swept_at (λ at. refl) swept_narrows ok time
-  sweep_quiet (Err e) ok err = names_quiet disk moment left_since now old new unsure_at (λ at. refl) unsure_narrows err time
+  sweep_quiet (Err e) ok (inl is) = quiet_same moment left_since disk now old new is time
+  sweep_quiet (Err e) ok (inr is) = names_quiet disk moment left_since now old new unsure_at (λ at. refl) unsure_narrows is time
+
+  -- a sync of the parent that failed
+  pub parent_failed : IsUnchangedOr (disk old) (with_place doubted_place (disk old)) (disk new) → IsQuiet disk moment left_since old new
+  parent_failed (inl is) = quiet_same moment left_since disk now old new is time
+  parent_failed (inr is) = place_quiet disk moment left_since now old new doubted_place doubted_vanishes is time

@@ -2,13 +2,14 @@
 use Rattle.std.proofs.Common.{◌≡◌, ◌≢◌, ◌⊎◌, inl, inr, ⊎_elim, ℕ, Bool, true, false, ◌||◌, cond, List, [], ◌∷◌, Option, refl, sym, ◌∙◌, ap, subst}
 use Rattle.std.proofs.Math.Path.{fun_ext}
 use Rattle.dv_shelf.specs.declared.shelf.Name.{Name}
-use Rattle.dv_shelf.specs.Folders.{Folder, same_name, with_file, ChangesOnly}
+use Rattle.dv_shelf.specs.Folders.{Folder, with_file, ChangesOnly}
 use Rattle.dv_shelf.specs.Crashes.{Follows, FollowsNone}
 use Rattle.dv_shelf.specs.Disks.{Version, version_bytes}
 use Rattle.dv_shelf.specs.Images.{IsFileImage, IsImageOfOne}
-use Rattle.dv_shelf.proofs.FolderLemmas.{Step, same_is, is_same, with_here, with_else, with_changes}
+use Rattle.dv_shelf.proofs.FolderLemmas.{Step, with_here, with_else, with_changes}
 use Rattle.dv_system.specs.Entries.{At, read_at, IsEntryImage, swept_at}
-use Rattle.dv_system.specs.Disks.{Disk, Place, Missing, Loose, Doubted, Firm, may_vanish, with_named, files_of, LeftBy}
+use Rattle.dv_system.specs.Disks.{Disk, Place, Missing, Loose, Doubted, Firm, may_vanish, files_of, LeftBy}
+use Rattle.dv_system.proofs.Named.{by_names}
 use Rattle.dv_disk.specs.States.{is_firm, is_none, sweeps}
 use Rattle.dv_disk.specs.Steps.{IsAlike, OnlyAt}
 
@@ -61,26 +62,8 @@ swept_alike at is = record { first = refl; others = kept at.is_unsure at.others 
 
 -- ---- one entry changes
 
-pub named_here : (named : Name → At) (name : Name) (at : At) → with_named named name at name ≡ at
-named_here named name at = ap (λ (b : Bool). cond b at (named name)) (is_same name name refl)
-
-pub named_else : (named : Name → At) (name : Name) (at : At) (n : Name) → n ≢ name → with_named named name at n ≡ named n
-named_else named name at n other = by_name (same_name name n) refl
-  where
-    by_name : (b : Bool) → same_name name n ≡ b → cond b at (named n) ≡ named n
-    by_name true same = absurd (other (sym (same_is name n same)))
-    by_name false away = refl
-
 pub is_alike : (a b : At) → a ≡ b → IsAlike a b
 is_alike a b same = record { first = ap (λ (x : At). x.first) same; others = ap (λ (x : At). x.others) same }
-
--- names that are one, or not
-pub by_names : (a b : Name) → (a ≡ b) ⊎ (a ≢ b)
-by_names a b = by_same (same_name a b) refl
-  where
-    by_same : (t : Bool) → same_name a b ≡ t → (a ≡ b) ⊎ (a ≢ b)
-    by_same true same = inl (same_is a b same)
-    by_same false other = inr (λ e. let yes : same_name a b ≡ true = is_same a b e in cc)
 
 -- an image at one name, and at the others
 pub at_each : (disk : Disk) (name : Name) (c : Folder) → ((n : Name) → n ≢ name → IsEntryImage (disk.named n) (c n)) → IsEntryImage (disk.named name) (c name) → IsImageAt disk c

@@ -10,11 +10,12 @@ use Rattle.dv_shelf.proofs.DiskLemmas.{settled_reads}
 use Rattle.dv_shelf.proofs.FolderLemmas.{with_same}
 use Rattle.dv_system.specs.declared.system.Entry.TheVariants as entry
 use Rattle.dv_system.specs.Entries.{At, read_at, synced_at, doubted_at, IsEntryImage}
-use Rattle.dv_system.specs.Disks.{Disk, LeftBy, IsReadable, changed, files_of}
+use Rattle.dv_system.specs.Disks.{Disk, LeftBy, IsReadable, IsUnchangedOr, changed, files_of}
+use Rattle.dv_system.proofs.Named.{by_names}
 use Rattle.dv_disk.specs.States.{is_firm, sweeps, trusts}
 use Rattle.dv_disk.specs.Steps.{IsQuiet, OnlyAt, Puts, Syncs}
 use Rattle.dv_disk.proofs.Runs.{no_call, puts_behind, quiet, quiet_on, quiet_same}
-use Rattle.dv_disk.proofs.Places.{at_each, by_names, firm_left, image_here, images_left, only_none, only_reads}
+use Rattle.dv_disk.proofs.Places.{at_each, firm_left, image_here, images_left, only_none, only_reads}
 use Rattle.dv_disk.proofs.Putting.{gone_only, none_back, settled_image}
 use Rattle.dv_disk.proofs.Calls.{changed_at, only_is}
 
@@ -59,7 +60,7 @@ module _ {S : Type 0} (disk : S → Disk) (moment : S → ℕ) (left_since : S �
 
   -- a sync of the file
   pub synced : {T E : Type 0} (r : Result T E) (new : S) → sweeps at_old ≡ true → trusts at_old ≡ true
-      → OnOk r (disk new ≡ changed synced_at (disk old) (entry.File name)) → OnErr r (disk new ≡ changed doubted_at (disk old) (entry.File name))
+      → OnOk r (disk new ≡ changed synced_at (disk old) (entry.File name)) → OnErr r (IsUnchangedOr (disk old) (changed doubted_at (disk old) (entry.File name)) (disk new))
       → Time new → Syncs disk moment left_since name r old new
   synced (Ok x) new swept sure ok err time =
       let only = only_is name _ _ _ _ ok (changed_at synced_at (disk old) name) in
@@ -70,8 +71,10 @@ module _ {S : Type 0} (disk : S → Disk) (moment : S → ℕ) (left_since : S �
             ∙ sym (ap (λ (f : Folder). f name) (same_files new _ only reads));
         quiet = one_quiet new _ only reads (λ file is. synced_narrows at_old file (readable name) is) time;
       }
-  synced (Err e) new swept sure ok err time =
-      let only = only_is name _ _ _ _ err (changed_at doubted_at (disk old) name) in
+  synced (Err e) new swept sure ok (inl is) time =
+      record { durable = tt; quiet = quiet_same moment left_since disk now old new is time }
+  synced (Err e) new swept sure ok (inr is) time =
+      let only = only_is name _ _ _ _ is (changed_at doubted_at (disk old) name) in
       record { durable = tt; quiet = one_quiet new _ only refl (λ file is. is) time }
 
   -- a missing file

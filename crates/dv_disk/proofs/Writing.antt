@@ -12,10 +12,11 @@ use Rattle.dv_shelf.proofs.ShelfLemmas.{same_torn, torn_more}
 use Rattle.dv_system.specs.declared.system.Entry.TheVariants as entry
 use Rattle.dv_system.specs.Entries.{At, empty_file, read_at, put_at, hidden_at, written_at, IsEntryImage}
 use Rattle.dv_system.specs.Disks.{Disk, LeftBy, IsReadable, IsOneOf, changed}
+use Rattle.dv_system.proofs.Named.{named_here, named_else}
 use Rattle.dv_disk.specs.States.{is_firm}
-use Rattle.dv_disk.specs.Steps.{IsWritten, OnlyAt, Writes}
-use Rattle.dv_disk.proofs.Runs.{elapses_in, elapses_on}
-use Rattle.dv_disk.proofs.Places.{firm_left, images_left, images_on, image_here, others_before, at_each, is_alike, named_here, named_else, only_changes, only_follows, only_reads}
+use Rattle.dv_disk.specs.Steps.{IsWritten, OnlyAt, Writes, Wrote}
+use Rattle.dv_disk.proofs.Runs.{elapses_in, elapses_on, quiet_same, writes_nothing}
+use Rattle.dv_disk.proofs.Places.{firm_left, images_left, images_on, image_here, others_before, at_each, is_alike, only_changes, only_follows, only_reads}
 use Rattle.dv_disk.proofs.Putting.{settled_image, one_more}
 use Rattle.dv_disk.proofs.Calls.{changed_at, only_is, same_at}
 
@@ -117,6 +118,12 @@ module _ {S : Type 0} (disk : S → Disk) (moment : S → ℕ) (left_since : S �
       (λ file image. written_image place n is.stuck at_old file is.short image) (ok_reads r at_old is.stuck is.all)
       (subst (Step (read_at at_old)) (sym (written_reads place n is.stuck at_old.first)) (reads_torn place n is.stuck (read_at at_old) is.short)) time
 
+  -- the same, or nothing was
+  pub wrote : {T E : Type 0} (r : Result T E) (new : S) → Wrote name place bytes r (disk old) (disk new)
+      → Elapses (moment old) (moment new) (left_since old) (left_since new) (LeftBy (disk new)) → Writes disk moment left_since name place bytes r old new
+  wrote r new (inl is) time = written r new is time
+  wrote r new (inr (failed, is)) time = writes_nothing moment left_since disk now old new name place bytes r failed (quiet_same moment left_since disk now old new is time)
+
   -- one that could not be made
   pub make_failed : {T E : Type 0} (r : Result T E) (new : S) → IsErr r → read_at at_old ≡ None
       → IsOneOf (disk old) (changed (put_at empty_file false) (disk old) (entry.File name)) (changed (hidden_at empty_file) (disk old) (entry.File name)) (disk new)
@@ -174,3 +181,12 @@ module _ {S : Type 0} (disk : S → Disk) (moment : S → ℕ) (left_since : S �
         (empty_torn place n (version_bytes (version_written place n is.stuck empty_file)) (subst (Step (Some [])) (sym (written_reads place n is.stuck empty_file)) (reads_torn place n is.stuck (Some []) is.short))))
         (elapses_in moment left_since old new (λ c. LeftBy (disk old) c ⊎ LeftBy (disk new) c) (LeftBy (disk old)) (LeftBy (disk new)) (now old)
         (elapses_on moment left_since old mid new (LeftBy (disk mid)) (LeftBy (disk new)) (λ c. LeftBy (disk old) c ⊎ LeftBy (disk new) c) first second (between is.stuck only) (λ c left. inr left)) (λ c left. left))
+
+    -- the same, or nothing was written
+    pub made_wrote : {T E : Type 0} (r : Result T E) → Wrote name place bytes r (disk mid) (disk new)
+        → Elapses (moment old) (moment mid) (left_since old) (left_since mid) (LeftBy (disk mid))
+        → Elapses (moment mid) (moment new) (left_since mid) (left_since new) (LeftBy (disk new)) → Writes disk moment left_since name place bytes r old new
+    made_wrote r (inl is) first second = made_written r is first second
+    made_wrote r (inr (failed, is)) first second =
+        make_failed r new failed none (inr (inl (is ∙ made)))
+        (elapses_on moment left_since old mid new (LeftBy (disk mid)) (LeftBy (disk new)) (LeftBy (disk new)) first second (λ c left. subst (λ (d : Disk). LeftBy d c) (sym is) left) (λ c left. left))

@@ -1,5 +1,5 @@
 -- What some of a system's calls do to a folder.
-use Rattle.std.specs.Prelude.{◌≡◌, ◌≢◌, ℕ, ◌≤◌, false, List, length, Option, Some, Result, OnOk, OnErr}
+use Rattle.std.specs.Prelude.{◌≡◌, ◌≢◌, ◌⊎◌, ℕ, ◌≤◌, false, List, length, Option, Some, Result, IsErr, OnOk, OnErr}
 use Rattle.dv_shelf.specs.declared.shelf.Name.{Name}
 use Rattle.dv_shelf.specs.Folders.{Folder, with_file, contents, patched, ChangesOnly, TornFile, IsEither}
 use Rattle.dv_shelf.specs.Crashes.{Follows, FollowsNone, Elapses}
@@ -67,6 +67,11 @@ pub record IsWritten {T E : Type 0} (name : Name) (at : ℕ) (bytes : List ℕ) 
   pub short : length stuck ≤ length bytes
   pub all : OnOk result (stuck ≡ bytes)
   pub is : new ≡ changed (written_at at (length bytes) stuck) old (entry.File name)
+
+-- so they were, or the call failed and nothing changed
+abbrev pub Wrote : {T E : Type 0} → Name → ℕ → List ℕ → Result T E → Disk → Disk → Type 0
+Wrote name at bytes result old new =
+    IsWritten name at bytes result old new ⊎ (IsErr result × (new ≡ old))
 
 -- Calls that make a file durable as reads give it, and change no file.
 pub record Syncs {S T E : Type 0} (disk : S → Disk) (moment : S → ℕ)

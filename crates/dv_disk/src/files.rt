@@ -36,8 +36,8 @@ impl<Y: System + Drop> Files<Y> {
     ghost use Rattle.dv_shelf.specs.Crashes.{Elapses};
     ghost use Rattle.dv_shelf.specs.Folders.{Lists};
     ghost use Rattle.dv_system.specs.Entries.{swept_at, unsure_at};
-    ghost use Rattle.dv_system.specs.Disks.{changed_names, files_of, is_missing, LeftBy};
-    ghost use Rattle.dv_disk.specs.Steps.{IsQuiet, IsDurable, IsWritten, LeavesNames, Puts, Syncs, Writes};
+    ghost use Rattle.dv_system.specs.Disks.{changed_names, files_of, is_missing, IsUnchangedOr, LeftBy};
+    ghost use Rattle.dv_disk.specs.Steps.{IsQuiet, IsDurable, LeavesNames, Puts, Syncs, Writes, Wrote};
 
     /// The files of a folder on which no sync failed.
     pub(crate) fn new(alloc: Global, system: Y) -> Files<Y>
@@ -95,8 +95,8 @@ impl<Y: System + Drop> Files<Y> {
     fn sweep(&mut self) -> Result<(), Failed>
         ensures ok { Y.tells → OnOk result
             (Y.disk self.new.system ≡ changed_names swept_at (Y.disk self.old.system)) }
-        ensures err { Y.tells → OnErr result
-            (Y.disk self.new.system ≡ changed_names unsure_at (Y.disk self.old.system)) }
+        ensures err { Y.tells → OnErr result (IsUnchangedOr (Y.disk self.old.system)
+            (changed_names unsure_at (Y.disk self.old.system)) (Y.disk self.new.system)) }
         ensures time { Y.tells → Elapses (Y.moment self.old.system) (Y.moment self.new.system)
             (Y.left_since self.old.system) (Y.left_since self.new.system)
             (LeftBy (Y.disk self.new.system)) }
@@ -235,7 +235,7 @@ impl<Y: System + Drop> Files<Y> {
     fn write_kept(&mut self, kept: KeptFile<Y::File>, at: u32, bytes: &[u8]) -> Result<(), Failed>
         requires stands { Y.tells →
             Y.stands self.old.system kept.file (entry.File kept.name) ≡ true }
-        ensures written { Y.tells → IsWritten kept.name at bytes.now result
+        ensures written { Y.tells → Wrote kept.name at bytes.now result
             (Y.disk self.old.system) (Y.disk self.new.system) }
         ensures time { Y.tells → Elapses (Y.moment self.old.system) (Y.moment self.new.system)
             (Y.left_since self.old.system) (Y.left_since self.new.system)

@@ -37,6 +37,13 @@ impl<Y: System + Drop> Folder<Y> {
         }
     }
 
+    /// The system whose calls it makes.
+    pub fn system(&self) -> &Y
+        ensures { result.now ≡ self.now.files.system }
+    {
+        &self.files.system
+    }
+
     fn counted(&mut self, done: Result<(), Failed>) -> Result<(), Failed>
         ensures answer { result ≡ done }
         ensures cause { HasCause self.old.faults self.new.faults result }

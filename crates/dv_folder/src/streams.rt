@@ -1,21 +1,71 @@
 ghost use Rattle.std.specs.Prelude.{◌≡◌, []};
 
 use dv_shelf::{Failed, Sink, Source};
-use std::io::{self, ErrorKind, Read};
+use dv_streams::{CallFault, ReadCalls, ReadStream, WriteCalls, WriteStream};
+use std::io::{self, ErrorKind, Read, Write};
+
+/// The system's call that reads standard input. Nothing is told of what it does.
+#[derive(Drop)]
+pub(crate) struct InputCalls {
+    rt: HostRuntime,
+}
+
+impl ReadCalls for InputCalls {
+    ghost tells = { ⊥ };
+
+    ghost left = { λ _. [] };
+
+    ghost failures = { λ _. 0 };
+
+    ghost interruptions = { λ _. 0 };
+
+    fn read(&mut self, buf: &mut [u8]) -> Result<usize, CallFault> {
+        answer(self.rt.stdin().read(buf))
+    }
+}
+
+/// The system's call that writes standard output. Nothing is told of what it does.
+#[derive(Drop)]
+pub(crate) struct OutputCalls {
+    rt: HostRuntime,
+}
+
+impl WriteCalls for OutputCalls {
+    ghost tells = { ⊥ };
+
+    ghost taken = { λ _. [] };
+
+    ghost failures = { λ _. 0 };
+
+    ghost interruptions = { λ _. 0 };
+
+    fn write(&mut self, bytes: &[u8]) -> Result<usize, CallFault> {
+        answer(self.rt.stdout().write(bytes))
+    }
+}
+
+fn answer(done: io::Result<usize>) -> Result<usize, CallFault> {
+    match done {
+        Ok(count) => Ok(count),
+        Err(e) if e.kind() == ErrorKind::Interrupted => Err(CallFault::Interrupted),
+        Err(_) => Err(CallFault::Failed),
+    }
+}
 
 /// Standard input. Each error of the system is counted.
 #[derive(Drop)]
 pub struct Input {
-    rt: HostRuntime,
-    faults: u64,
+    stream: ReadStream<InputCalls>,
 }
 
 impl Input {
     /// Standard input, of which nothing is read yet.
     pub fn new(rt: HostRuntime) -> Input
-        ensures { result.faults ≡ 0 }
+        ensures { result.stream.faults ≡ 0 }
     {
-        Input { rt, faults: 0 }
+        Input {
+            stream: ReadStream::new(InputCalls { rt }),
+        }
     }
 }
 
@@ -24,38 +74,31 @@ impl Source for Input {
 
     ghost left = { λ _. [] };
 
-    ghost fault_count = { λ s. s.faults };
+    ghost fault_count = { λ s. s.stream.faults };
 
     fn read(&mut self, buf: &mut [u8]) -> Result<usize, Failed> {
-        for _ in 0..u64::MAX {
-            match self.rt.stdin().read(buf) {
-                Ok(count) => return Ok(count),
-                Err(e) if e.kind() == ErrorKind::Interrupted => {}
-                Err(_) => break,
-            }
-        }
-        self.faults = self.faults.saturating_add(1);
-        Err(Failed)
+        self.stream.read(buf)
     }
 
     fn faults(&self) -> u64 {
-        self.faults
+        self.stream.faults()
     }
 }
 
 /// Standard output. Each error of the system is counted.
 #[derive(Drop)]
 pub struct Output {
-    rt: HostRuntime,
-    faults: u64,
+    stream: WriteStream<OutputCalls>,
 }
 
 impl Output {
     /// Standard output, to which nothing is written yet.
     pub fn new(rt: HostRuntime) -> Output
-        ensures { result.faults ≡ 0 }
+        ensures { result.stream.faults ≡ 0 }
     {
-        Output { rt, faults: 0 }
+        Output {
+            stream: WriteStream::new(OutputCalls { rt }),
+        }
     }
 }
 
@@ -64,20 +107,14 @@ impl Sink for Output {
 
     ghost taken = { λ _. [] };
 
-    ghost fault_count = { λ s. s.faults };
+    ghost fault_count = { λ s. s.stream.faults };
 
     fn write_all(&mut self, bytes: &[u8]) -> Result<(), Failed> {
-        match self.rt.stdout().write_all(bytes) {
-            Ok(()) => Ok(()),
-            Err(_) => {
-                self.faults = self.faults.saturating_add(1);
-                Err(Failed)
-            }
-        }
+        self.stream.write_all(bytes)
     }
 
     fn faults(&self) -> u64 {
-        self.faults
+        self.stream.faults()
     }
 }
 

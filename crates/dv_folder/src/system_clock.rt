@@ -1,16 +1,40 @@
 use dv_shelf::Clock;
-use dv_system::cut_seconds;
+use dv_streams::{CutClock, TimeCalls};
 use std::time::{SystemTime, UNIX_EPOCH};
+
+/// The system's call that reads the time. Nothing is told of what it does.
+#[derive(Drop)]
+pub(crate) struct ClockCalls {
+    rt: HostRuntime,
+}
+
+impl TimeCalls for ClockCalls {
+    ghost use Rattle.std.specs.Prelude.{None};
+
+    ghost tells = { ⊥ };
+
+    ghost upcoming = { λ _ _. None };
+
+    fn seconds(&mut self) -> Option<u64> {
+        let now = SystemTime::now(&self.rt).ok()?;
+        match now.duration_since(UNIX_EPOCH) {
+            Ok(since) => Some(since.as_secs()),
+            Err(_) => None,
+        }
+    }
+}
 
 /// The system's clock, in seconds since 1970.
 #[derive(Drop)]
 pub struct SystemClock {
-    rt: HostRuntime,
+    clock: CutClock<ClockCalls>,
 }
 
 impl SystemClock {
     pub fn new(rt: HostRuntime) -> SystemClock {
-        SystemClock { rt }
+        SystemClock {
+            clock: CutClock::new(ClockCalls { rt }),
+        }
     }
 }
 
@@ -23,12 +47,6 @@ impl Clock for SystemClock {
 
     /// 0 where the system can't say, and 4294967295 from the year 2106 on.
     fn now(&mut self) -> u32 {
-        let Ok(now) = SystemTime::now(&self.rt) else {
-            return 0;
-        };
-        match now.duration_since(UNIX_EPOCH) {
-            Ok(since) => cut_seconds(since.as_secs()),
-            Err(_) => 0,
-        }
+        self.clock.now()
     }
 }

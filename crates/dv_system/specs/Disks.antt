@@ -124,6 +124,10 @@ IsReadable disk = (n : Name) → IsFileImage (disk.named n).first (read_at (disk
 abbrev pub IsOneOf : Disk → Disk → Disk → Disk → Type 0
 IsOneOf old shown hidden new = (new ≡ old) ⊎ ((new ≡ shown) ⊎ (new ≡ hidden))
 
+-- the same of a call of which reads see nothing
+abbrev pub IsUnchangedOr : Disk → Disk → Disk → Type 0
+IsUnchangedOr old changed new = (new ≡ old) ⊎ (new ≡ changed)
+
 -- the entries at which files stand, once each
 pub record ListsEntries (disk : Disk) (entries : List Entry) : Type 0 where
   pub each : (e : Entry) → IsSome (read_at (at_entry disk e)) ↔ Contains entries e

@@ -1,10 +1,10 @@
-ghost use Rattle.std.specs.Prelude.{◌≡◌, ℕ, ◌+◌, ◌^◌, ◌<◌, ◌≤◌, length, take, Bool, true, false, Some, None, IsSome, IfOk, OnOk, OnErr, MatchOption};
+ghost use Rattle.std.specs.Prelude.{◌≡◌, ◌⊎◌, ℕ, ◌+◌, ◌^◌, ◌<◌, ◌≤◌, length, take, Bool, true, false, Some, None, IsSome, IfOk, OnOk, OnErr, MatchOption};
 ghost use Rattle.dv_shelf.specs.declared.shelf.Name.{Name};
 ghost use Rattle.dv_shelf.specs.Folders.{Folder};
 ghost use Rattle.dv_shelf.specs.Crashes.{Elapses};
 ghost use Rattle.dv_shelf.specs.Disks.{Gone};
 ghost use Rattle.dv_system.specs.Entries.{empty_file, read_at, put_at, hidden_at, written_at, synced_at, doubted_at, swept_at, unsure_at};
-ghost use Rattle.dv_system.specs.Disks.{Disk, at_entry, changed, changed_names, renamed, with_place, made_place, firm_place, doubted_place, LeftBy, IsReadable, IsOneOf, ListsEntries, Unlinks};
+ghost use Rattle.dv_system.specs.Disks.{Disk, at_entry, changed, changed_names, renamed, with_place, made_place, firm_place, doubted_place, LeftBy, IsReadable, IsOneOf, IsUnchangedOr, ListsEntries, Unlinks};
 ghost use Rattle.dv_system.specs.Opens.{StandStill, OthersStand};
 
 use dv_model::{Bytes, List};
@@ -83,15 +83,15 @@ pub trait System {
 
     /// Writes all of the bytes over a file from a place on (POSIX `pwrite()`, again and again). A
     /// gap is filled with zero bytes. After a failure reads see some of the bytes from the front
-    /// (POSIX `write()`: what was written before). A crash may leave any of the range and any bytes
-    /// there until a sync of the file.
+    /// (POSIX `write()`: what was written before), or nothing changed. A crash may leave any of
+    /// the range and any bytes there until a sync of the file.
     fn write(&mut self, file: &Self::File, at: u32, bytes: &[u8]) -> Result<(), Failed>
         ensures ok { tells → (e : Entry) → stands self.old file.now e ≡ true → OnOk result
             (disk self.new
             ≡ changed (written_at at (length bytes.now) bytes.now) (disk self.old) e) }
         ensures err { tells → (e : Entry) → stands self.old file.now e ≡ true → OnErr result
-            ((k : ℕ) × (k ≤ length bytes.now) × (disk self.new
-            ≡ changed (written_at at (length bytes.now) (take k bytes.now)) (disk self.old) e)) }
+            ((disk self.new ≡ disk self.old) ⊎ ((k : ℕ) × (k ≤ length bytes.now) × (disk self.new
+            ≡ changed (written_at at (length bytes.now) (take k bytes.now)) (disk self.old) e))) }
         ensures open { tells → StandStill (stands self.old) (stands self.new) }
         ensures time { tells → Elapses (moment self.old) (moment self.new)
             (left_since self.old) (left_since self.new) (LeftBy (disk self.new)) };
@@ -102,7 +102,8 @@ pub trait System {
         ensures ok { tells → (e : Entry) → stands self.old file.now e ≡ true →
             OnOk result (disk self.new ≡ changed synced_at (disk self.old) e) }
         ensures err { tells → (e : Entry) → stands self.old file.now e ≡ true →
-            OnErr result (disk self.new ≡ changed doubted_at (disk self.old) e) }
+            OnErr result (IsUnchangedOr (disk self.old) (changed doubted_at (disk self.old) e)
+            (disk self.new)) }
         ensures open { tells → StandStill (stands self.old) (stands self.new) }
         ensures time { tells → Elapses (moment self.old) (moment self.new)
             (left_since self.old) (left_since self.new) (LeftBy (disk self.new)) };
@@ -156,8 +157,8 @@ pub trait System {
     /// Makes the folder itself durable, by a sync of its parent (Linux `fsync(2)`).
     fn sync_parent(&mut self) -> Result<(), Failed>
         ensures ok { tells → OnOk result (disk self.new ≡ with_place firm_place (disk self.old)) }
-        ensures err { tells →
-            OnErr result (disk self.new ≡ with_place doubted_place (disk self.old)) }
+        ensures err { tells → OnErr result (IsUnchangedOr (disk self.old)
+            (with_place doubted_place (disk self.old)) (disk self.new)) }
         ensures open { tells → StandStill (stands self.old) (stands self.new) }
         ensures time { tells → Elapses (moment self.old) (moment self.new)
             (left_since self.old) (left_since self.new) (LeftBy (disk self.new)) };
@@ -166,8 +167,8 @@ pub trait System {
     /// directory is needed).
     fn sync_folder(&mut self) -> Result<(), Failed>
         ensures ok { tells → OnOk result (disk self.new ≡ changed_names swept_at (disk self.old)) }
-        ensures err { tells →
-            OnErr result (disk self.new ≡ changed_names unsure_at (disk self.old)) }
+        ensures err { tells → OnErr result (IsUnchangedOr (disk self.old)
+            (changed_names unsure_at (disk self.old)) (disk self.new)) }
         ensures open { tells → StandStill (stands self.old) (stands self.new) }
         ensures time { tells → Elapses (moment self.old) (moment self.new)
             (left_since self.old) (left_since self.new) (LeftBy (disk self.new)) };

@@ -1,7 +1,7 @@
 use Rattle.std.proofs.Common.{◌∙◌}
 use Rattle.dv_disk.proofs.Runs.{quiet_on, writes_behind, writes_nothing}
 use Rattle.dv_disk.proofs.Calls.{passed}
-use Rattle.dv_disk.proofs.Writing.{written}
+use Rattle.dv_disk.proofs.Writing.{wrote}
 use Rattle.dv_disk.proofs.files.Files.write_at.Goals as goal
 
 pub returns-in_err-make_ready : goal.returns-in_err-make_ready
@@ -26,7 +26,7 @@ returns-in-Some g c = λ tells.
     let mid = c.take_open.new.self.system in
     writes_behind Y.moment Y.left_since Y.disk now c.args.self.now.system mid c.write_kept.new.self.system c.args.name c.args.at c.args.bytes.now c.write_kept.result
     (quiet_on Y.moment Y.left_since Y.disk now _ _ _ (c.make_ready.ensures.quiet tells) (c.take_open.ensures.quiet tells))
-    (written Y.disk Y.moment Y.left_since now c.args.name c.args.at c.args.bytes.now mid (c.take_open.new.self.ready (c.take_open.ensures.ready ∙ c.in_ok-make_ready.ensures.ready) tells) (g.met.Y.System.readable mid tells)
+    (wrote Y.disk Y.moment Y.left_since now c.args.name c.args.at c.args.bytes.now mid (c.take_open.new.self.ready (c.take_open.ensures.ready ∙ c.in_ok-make_ready.ensures.ready) tells) (g.met.Y.System.readable mid tells)
     c.write_kept.result c.write_kept.new.self.system (c.write_kept.ensures.written tells) (c.write_kept.ensures.time tells))
 
 pub returns-in-None : goal.returns-in-None

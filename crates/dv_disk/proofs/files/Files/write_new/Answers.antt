@@ -1,5 +1,5 @@
 use Rattle.dv_disk.proofs.Calls.{passed}
-use Rattle.dv_disk.proofs.Writing.{make_failed, made_written}
+use Rattle.dv_disk.proofs.Writing.{make_failed, made_wrote}
 use Rattle.dv_disk.proofs.files.Files.write_new.Goals as goal
 
 pub returns-in_err-file : goal.returns-in_err-file
@@ -13,5 +13,5 @@ pub returns : goal.returns
 returns g c = λ tells.
     let Y = g.Y.System in
     let files = c.args.self.now in
-    made_written Y.disk Y.moment Y.left_since g.met.Y.System.counts_now c.args.name c.args.at c.args.bytes.now files.system (files.ready c.requires.ready tells) (g.met.Y.System.readable files.system tells)
+    made_wrote Y.disk Y.moment Y.left_since g.met.Y.System.counts_now c.args.name c.args.at c.args.bytes.now files.system (files.ready c.requires.ready tells) (g.met.Y.System.readable files.system tells)
     c.create.new.self c.write_kept.new.self.system (c.requires.missing tells) (c.in_ok-file.ensures.ok tells) c.write_kept.result (c.write_kept.ensures.written tells) (c.create.ensures.time tells) (c.write_kept.ensures.time tells)

@@ -1,0 +1,9 @@
+pub mod Torn
+pub mod Shown
+pub mod Moments
+pub mod Standing
+pub mod Entries
+pub mod Writing
+pub mod Removing
+pub mod Naming
+pub mod Starting

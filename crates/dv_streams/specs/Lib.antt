@@ -1,0 +1,4 @@
+pub mod Calls
+pub mod Times
+pub mod Channels
+pub mod Inputs
