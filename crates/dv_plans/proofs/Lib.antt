@@ -1,0 +1,11 @@
+pub mod Counts
+pub mod Causes
+pub mod Looks
+pub mod Decided
+pub mod Applied
+pub mod Rising
+pub mod Naming
+pub mod Passed
+pub mod Readied
+pub mod Planned
+pub mod Made

@@ -1,0 +1,32 @@
+use Rattle.std.proofs.Common.{ℕ, List, Option, Ok, subst}
+use Rattle.std.proofs.lemmas.Result.{err_from_is_err_and}
+use Rattle.dv_plans.specs.declared.plan.Plan.{Plan}
+use Rattle.dv_plans.specs.Limits.{Decides}
+use Rattle.dv_plans.specs.Overs.{group_over, limit_over}
+use Rattle.dv_plans.proofs.Decided.{passed_decided}
+use Rattle.dv_plans.proofs.making.make_ready.Goals as goal
+
+pub returns-in_err-found-clause-decides : goal.returns-in_err-found-clause-decides
+returns-in_err-found-clause-decides g c = λ guid sizes.
+    let p = err_from_is_err_and c.from_residual.result c.from_residual.ensures.1 in
+    let met = limit_over c.args.c.now c.args.view.now c.args.chain.now guid in
+    let group = group_over c.args.c.now c.args.view.now c.args.chain.now guid in
+    rw (p.1, p.2) (passed_decided (List ℕ) Plan met group c.in_err-found.field-0.0 (c.in_err-found.ensures.decides guid sizes))
+
+pub returns-in-None-clause-decides : goal.returns-in-None-clause-decides
+returns-in-None-clause-decides g c = λ guid sizes.
+    let met = limit_over c.args.c.now c.args.view.now c.args.chain.now guid in
+    let group = group_over c.args.c.now c.args.view.now c.args.chain.now guid in
+    subst (λ (o : Option (List ℕ)). Decides {A = List ℕ} met group (Ok o)) c.in-None.is (c.in_ok-found.ensures.decides guid sizes)
+
+pub make_plan-requires-clause-written : goal.make_plan-requires-clause-written
+make_plan-requires-clause-written g c = λ guid sizes.
+    let met = limit_over c.args.c.now c.args.view.now c.args.chain.now guid in
+    let group = group_over c.args.c.now c.args.view.now c.args.chain.now guid in
+    subst (λ (o : Option (List ℕ)). Decides {A = List ℕ} met group (Ok o)) c.in-Some.is (c.in_ok-found.ensures.decides guid sizes)
+
+pub returns-in-Ok-clause-decides : goal.returns-in-Ok-clause-decides
+returns-in-Ok-clause-decides g c = λ guid sizes.
+    let met = limit_over c.args.c.now c.args.view.now c.args.chain.now guid in
+    let group = group_over c.args.c.now c.args.view.now c.args.chain.now guid in
+    subst (λ (o : Option (List ℕ)). Decides {A = List ℕ} met group (Ok o)) c.in-Some.is (c.in_ok-found.ensures.decides guid sizes)

@@ -1,0 +1,65 @@
+use Rattle.std.proofs.Common.{ℕ, Bool, List, refl, sym, ◌∙◌, ap, subst}
+use Rattle.dv_model.specs.declared.types.GuidRow.{GuidRow}
+use Rattle.dv_model.specs.Sessions.{group_of}
+use Rattle.dv_dbox.specs.Mails.{no_guid}
+use Rattle.dv_rotation.specs.Texts.{place_of}
+use Rattle.dv_plans.specs.Begins.{received_at, turns}
+use Rattle.dv_plans.specs.Groups.{AreFound}
+use Rattle.dv_plans.proofs.Made.{files_at, plan_made, plans_each, read_at}
+use Rattle.dv_plans.proofs.Passed.{few_rows, passes}
+use Rattle.dv_plans.proofs.Planned.{all_found}
+use Rattle.dv_plans.proofs.plan.make_plan.Goals as goal
+
+pub read_before-requires-clause-few : goal.read_before-requires-clause-few
+read_before-requires-clause-few g c =
+    let command = c.args.c.now in
+    let view = c.args.view.now in
+    let chain = c.args.chain.now in
+    let zero : ℕ → List ℕ = λ uid. no_guid in
+    few_rows command view chain.live.mailbox (place_of chain) zero (passes command chain.live.mailbox (place_of chain) (group_of command view chain.live.mailbox zero) (c.requires.written zero (λ uid. refl)).0)
+
+pub read_before-requires-clause-turn : goal.read_before-requires-clause-turn
+read_before-requires-clause-turn g c = c.read_times-times.ensures.turn ∙ c.is_turn_due.ensures
+
+pub write_group-requires : goal.write_group-requires
+write_group-requires g c =
+    let chain = c.args.chain.now in
+    let rows = c.in_ok-before.before.guids in
+    subst (λ (r : List GuidRow). AreFound c.args.c.now chain.live.mailbox c.args.uids.now r) (sym c.as_slice.ensures)
+    (all_found c.args.c.now c.args.view.now chain c.args.uids.now rows c.requires.command c.have_bounds.ensures.ordered c.have_bounds.ensures.valid c.have_bounds.ensures.resets c.requires.found c.requires.written c.in_ok-before.ensures.is.guids)
+
+pub returns-clause-steps : goal.returns-clause-steps
+returns-clause-steps g c =
+    plan_made c.args.c.now c.args.view.now c.args.chain.now c.args.uids.now c.args.owed.now c.read_times-times.result c.in_ok-before.before c.requires.command c.have_bounds.ensures.ordered c.have_bounds.ensures.valid c.have_bounds.ensures.resets
+    c.requires.found c.requires.written (c.read_times-times.ensures.turn ∙ c.is_turn_due.ensures) c.in_ok-before.ensures.is c.write_group.new.live c.write_group.ensures.mailbox c.in_ok-written.written c.in_ok-written.ensures.ready
+    (λ view guid changed removed. c.in_ok-written.ensures.group view guid changed (c.as_slice.ensures ∙ removed))
+
+pub returns-clause-write : goal.returns-clause-write
+returns-clause-write g c = λ tells reads.
+    let S = g.S.Shelf in
+    let command = c.args.c.now in
+    let chain = c.args.chain.now in
+    let owed = c.args.owed.now in
+    let times = c.read_times-times.result in
+    let before = c.in_ok-before.before in
+    let old = c.args.shelf.now in
+    let upcoming : ℕ → ℕ = g.C.Clock.upcoming c.args.clock.now in
+    plans_each command c.args.view.now chain c.args.uids.now owed times before c.requires.command c.have_bounds.ensures.ordered c.have_bounds.ensures.valid c.have_bounds.ensures.resets
+    c.requires.found c.requires.written (c.read_times-times.ensures.turn ∙ c.is_turn_due.ensures) c.in_ok-before.ensures.is c.write_group.new.live c.write_group.ensures.mailbox c.in_ok-written.written c.in_ok-written.ensures.ready
+    (λ view guid changed removed. c.in_ok-written.ensures.group view guid changed (c.as_slice.ensures ∙ removed))
+    (S.files old) (S.files c.read_before.new.shelf) (received_at (turns owed chain) upcoming)
+    (read_at command c.args.uids.now chain times.received (received_at (turns owed chain) upcoming) (S.files old) before
+    (λ append. c.read_times-times.ensures.received reads (c.is_append.ensures ∙ append) ∙ ap (λ (b : Bool). received_at b upcoming) c.is_turn_due.ensures) (c.in_ok-before.ensures.read tells))
+    (c.in_ok-before.ensures.looks tells).same
+
+pub returns-clause-files : goal.returns-clause-files
+returns-clause-files g c = λ tells reads.
+    let S = g.S.Shelf in
+    let command = c.args.c.now in
+    let chain = c.args.chain.now in
+    let owed = c.args.owed.now in
+    let times = c.read_times-times.result in
+    let before = c.in_ok-before.before in
+    let upcoming : ℕ → ℕ = g.C.Clock.upcoming c.args.clock.now in
+    files_at command chain times.received (received_at (turns owed chain) upcoming) (S.files c.args.shelf.now) before.files
+    (λ append. c.read_times-times.ensures.received reads (c.is_append.ensures ∙ append) ∙ ap (λ (b : Bool). received_at b upcoming) c.is_turn_due.ensures) (c.in_ok-before.ensures.read tells).files

@@ -1,0 +1,10 @@
+pub mod Faults
+pub mod Limits
+pub mod Overs
+pub mod Begins
+pub mod Counts
+pub mod Guids
+pub mod Groups
+pub mod Files
+pub mod Befores
+pub mod Plans

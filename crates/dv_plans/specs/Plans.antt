@@ -1,0 +1,49 @@
+-- The plan of a command's write.
+use Rattle.std.specs.Prelude.{◌≡◌, ℕ, List, ◌++◌, length, Option, Some, Result, Ok, ⊤}
+use Rattle.dv_model.specs.declared.types.Command.{Command}
+use Rattle.dv_model.specs.Journals.{IsGuid, Log}
+use Rattle.dv_model.specs.Spelling.{group_text}
+use Rattle.dv_model.specs.Views.{View}
+use Rattle.dv_shelf.specs.Folders.{Folder}
+use Rattle.dv_logfile.specs.Layout.{closing}
+use Rattle.dv_chain.specs.declared.chain.Chain.{Chain}
+use Rattle.dv_groups.specs.Groups.{HasSizes}
+use Rattle.dv_keeping.specs.Keeping.{Keeps}
+use Rattle.dv_rotation.specs.declared.texts.Turn.{Turn}
+use Rattle.dv_writes.specs.Steps.{AreSteps}
+use Rattle.dv_writes.specs.Writes.{IsWriteOf, Write, group_by}
+use Rattle.dv_plans.specs.declared.fault.StoreFault.{StoreFault}
+use Rattle.dv_plans.specs.declared.plan.Plan.{Plan}
+use Rattle.dv_plans.specs.Overs.{group_over}
+
+-- The plan has the command's group over the chain's mailbox, with some GUIDs, its written text,
+-- which is as long whatever they are, and steps that are ready for the chain.
+pub record IsPlanOf (c : Command) (view : View) (owed : Option Turn) (chain : Chain) (plan : Plan)
+    : Type 0 where
+  pub guid : ℕ → List ℕ
+  pub guids : (uid : ℕ) → IsGuid (guid uid)
+  pub group : plan.group ≡ group_over c view chain guid
+  pub text : plan.text ≡ group_text plan.group ++ closing
+  pub size : (other : ℕ → List ℕ) → HasSizes other
+      → length (group_text plan.group) ≡ length (group_text (group_over c view chain other))
+  pub steps : AreSteps owed chain plan.text plan.steps
+
+-- it is the plan of a write over a log, with the log's GUIDs
+pub record PlansWrite (log : Log) (write : Write) (owed : Option Turn) (chain : Chain)
+    (folder : Folder) (plan : Plan) : Type 0 where
+  pub group : plan.group ≡ group_by log write chain.live.mailbox
+  pub is : IsWriteOf log write owed chain folder plan.text plan.steps
+
+-- so it is for each log of the chain's index whose messages the folder has, and any author
+abbrev pub PlansEach : Command → View → Option Turn → ℕ → Chain → Folder → Plan → Type 0
+PlansEach c view owed received chain folder plan = (log : Log) (author : ℕ)
+    → log.indexid ≡ chain.indexid
+    → Keeps log chain.live.mailbox folder
+    → PlansWrite log
+    (record { author = author; command = c; view = view; received = received })
+    owed chain folder plan
+
+-- what is made ready
+abbrev pub OnPlan : {A : Type 0} → Result (Option A) StoreFault → (A → Type 0) → Type 0
+OnPlan (Ok (Some plan)) P = P plan
+OnPlan r P = ⊤

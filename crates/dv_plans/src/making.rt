@@ -1,0 +1,86 @@
+//! What a command writes is made ready over a store's chain.
+
+ghost use Rattle.std.specs.Prelude.{◌≡◌};
+ghost use Rattle.dv_model.specs.Sessions.{IsCommand};
+ghost use Rattle.dv_chain.specs.Openings.{OnlyLooks};
+ghost use Rattle.dv_commits.specs.Opening.{AreEqual};
+ghost use Rattle.dv_groups.specs.Changes.{changed_uids};
+ghost use Rattle.dv_groups.specs.Groups.{HasFewKeywords};
+ghost use Rattle.dv_keeping.specs.Repairing.{IsOwing};
+ghost use Rattle.dv_plans.specs.Befores.{reads_of};
+ghost use Rattle.dv_plans.specs.Begins.{TakesReadings, readings_of, received_at, turns};
+ghost use Rattle.dv_plans.specs.Counts.{CountsPlanned};
+ghost use Rattle.dv_plans.specs.Faults.{HasStoreCause};
+ghost use Rattle.dv_plans.specs.Files.{AreFilesMade};
+ghost use Rattle.dv_plans.specs.Limits.{WhereDecided};
+ghost use Rattle.dv_plans.specs.Overs.{DecidesOver};
+ghost use Rattle.dv_plans.specs.Plans.{IsPlanOf, OnPlan, PlansEach};
+
+use crate::StoreFault;
+use crate::changes::find_changes;
+use crate::fault::chain_fault;
+use crate::plan::{Plan, make_plan};
+use dv_chain::Chain;
+use dv_model::Command;
+use dv_rotation::Turn;
+use dv_shelf::{Clock, Shelf};
+use dv_view::View;
+use std::alloc::Global;
+
+/// The plan of what a command writes over a chain that owes at most this turn, from the view of its
+/// session; `None` where the command's group has no record. `UidsUsedUp` and `TooLong` come exactly
+/// where the command meets that limit first (RFC 5530, LIMIT), `Disk` only where a read or the
+/// listing failed. The clock is read once where the log is rotated, and then once for the message
+/// of an APPEND. Message files are read by rising UID: of messages that are removed, for their
+/// GUIDs, and of all rows for a CHECK; then the log, where it is rotated; then a CHECK lists the
+/// folder. All memory that the write needs is taken here, and nothing is written.
+pub fn make_ready<S: Shelf, C: Clock>(
+    alloc: Global,
+    c: &Command,
+    view: &View,
+    chain: &mut Chain,
+    owed: &Option<Turn>,
+    shelf: &mut S,
+    clock: &mut C,
+) -> Result<Option<Plan>, StoreFault>
+    requires command { IsCommand c.now }
+    requires few { HasFewKeywords c.now }
+    requires owing { IsOwing chain.old owed.now }
+    // The chain stays, but for spare rows.
+    ensures chain { AreEqual chain.new chain.old }
+    // The limit that is met, and whether there is a group; where a limit is met or there is none,
+    // neither shelf nor clock is called.
+    ensures decides { DecidesOver c.now view.now chain.old result }
+    ensures untouched { WhereDecided result
+        ((shelf.new ≡ shelf.old) × (clock.new ≡ clock.old)) }
+    // The group, its text and the steps, over any shelf; what they are by the folder and the time.
+    ensures steps { OnPlan result (IsPlanOf c.now view.now owed.now chain.new) }
+    ensures write { S.tells → C.tells → OnPlan result
+        (PlansEach c.now view.now owed.now
+        (received_at (turns owed.now chain.old) (C.upcoming clock.old))
+        chain.new (S.files shelf.new)) }
+    ensures files { S.tells → C.tells → OnPlan result (λ plan. AreFilesMade chain.old
+        (received_at (turns owed.now chain.old) (C.upcoming clock.old))
+        (S.files shelf.old) c.now plan.steps.files) }
+    // Nothing is changed.
+    ensures looks { S.tells →
+        OnlyLooks S.files S.may_leave S.moment S.left_since shelf.old shelf.new }
+    // The readings of the clock; each of these message files is read once; a fault has its cause.
+    ensures clock { C.tells → TakesReadings (readings_of c.now owed.now chain.old)
+        (C.upcoming clock.old) (C.upcoming clock.new) result }
+    ensures mail_reads { CountsPlanned
+        (reads_of c.now chain.old.live.mailbox
+        (changed_uids c.now view.now chain.old.live.mailbox))
+        (S.mail_reads shelf.old) (S.mail_reads shelf.new) result }
+    ensures cause { HasStoreCause (S.fault_count shelf.old) (S.fault_count shelf.new) result }
+{
+    let found = find_changes(alloc, c, view, chain)?;
+    let uids = match found {
+        Some(uids) => uids,
+        None => return Ok(None),
+    };
+    match make_plan(alloc, c, view, uids.as_slice(), chain, owed, shelf, clock) {
+        Ok(plan) => Ok(Some(plan)),
+        Err(fault) => Err(chain_fault(fault)),
+    }
+}

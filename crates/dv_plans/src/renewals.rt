@@ -1,0 +1,130 @@
+//! What a CHECK removes and replaces.
+
+ghost use Rattle.std.specs.Prelude.{◌≡◌, ◌≤◌, All, IfOk, List as Listed, bytes_eq, codes, find, is_some, length, ℕ};
+ghost use Rattle.std.specs.Option.{option_copied};
+ghost use Rattle.dv_model.specs.Sessions.{cache_number, next_number};
+ghost use Rattle.dv_chain.specs.Openings.{OnlyLooks};
+ghost use Rattle.dv_keeping.specs.Repairing.{IsOwing};
+ghost use Rattle.dv_phases.specs.Removals.{IsFree};
+ghost use Rattle.dv_rotation.specs.Leavings.{HasFaultCause};
+ghost use Rattle.dv_plans.specs.Befores.{IsBefore, IsRead};
+ghost use Rattle.dv_plans.specs.Begins.{turns};
+ghost use Rattle.dv_plans.specs.Counts.{CountsMails, CountsReads};
+ghost use Rattle.dv_plans.specs.Files.{AreGone, IsNextCache};
+
+use crate::before::Before;
+use crate::fault::told;
+use crate::places::beginning;
+use crate::snapshots::snapshot_at;
+use crate::times::Times;
+use crate::turns::turn_at;
+use dv_apply::Live;
+use dv_chain::Chain;
+use dv_lookups::cache_of_messages;
+use dv_model::{Bytes, Command, Extension, List};
+use dv_phases::unlisted;
+use dv_rotation::{ChainFault, Turn};
+use dv_shelf::Shelf;
+use dv_writes::{Files, Renewal};
+use std::alloc::Global;
+
+const CACHE: &[u8] = b"cache";
+
+fn cache_of(extensions: &[Extension]) -> Option<&Extension>
+    ensures { option_copied result
+        ≡ find (λ e. bytes_eq e.name (codes "cache")) extensions.now }
+{
+    extensions.iter().find(|e| e.name.as_slice() == CACHE)
+}
+
+/// The number of the mailbox's cache file, or 0 where it has none.
+fn cache_number(live: &Live) -> u32
+    ensures { result ≡ cache_number live.now.mailbox }
+{
+    match cache_of(live.extensions().list().as_slice()) {
+        Some(cache) => cache.reset_id,
+        None => 0,
+    }
+}
+
+/// The number that a CHECK gives the mailbox's cache file, which is never 0.
+fn next_cache_number(live: &Live) -> u32
+    ensures { result ≡ next_number (cache_number live.now.mailbox) }
+{
+    let n = cache_number(live);
+    if n == u32::MAX { 1 } else { n + 1 }
+}
+
+/// The UIDs of the message files that no row has, rising, of those that were given out. Lists the
+/// folder once, and writes nothing.
+fn gone_uids<S: Shelf>(alloc: Global, live: &Live, shelf: &mut S) -> Result<List<u32>, ChainFault>
+    ensures free { IfOk result (All (IsFree live.now.mailbox)) }
+    ensures gone { S.tells → IfOk result (AreGone live.now.mailbox (S.files shelf.old)) }
+    // Nothing is changed.
+    ensures looks { S.tells →
+        OnlyLooks S.files S.may_leave S.moment S.left_since shelf.old shelf.new }
+    // No message file is read; a fault of the disk has its cause.
+    ensures mail_reads { CountsReads 0 (S.mail_reads shelf.old) (S.mail_reads shelf.new) }
+    ensures cause { HasFaultCause (S.fault_count shelf.old) (S.fault_count shelf.new) result }
+{
+    let names = match shelf.list(alloc) {
+        Ok(names) => names,
+        Err(fault) => return Err(told(shelf, fault)),
+    };
+    Ok(unlisted(alloc, live, &names)?)
+}
+
+/// The cache file of the messages of a chain's rows, under its next sequence. Reads each message
+/// file once, by rising UID, and writes nothing.
+fn next_cache<S: Shelf>(alloc: Global, chain: &Chain, shelf: &mut S) -> Result<Bytes, ChainFault>
+    requires { length chain.now.live.mailbox.rows ≤ 8388608 }
+    ensures text { S.tells → IfOk result (IsNextCache chain.now (S.files shelf.old)) }
+    // Nothing is changed.
+    ensures looks { S.tells →
+        OnlyLooks S.files S.may_leave S.moment S.left_since shelf.old shelf.new }
+    // Each of their message files is read once; a fault of the disk has its cause.
+    ensures mail_reads { CountsMails (length chain.now.live.mailbox.rows)
+        (S.mail_reads shelf.old) (S.mail_reads shelf.new) result }
+    ensures cause { HasFaultCause (S.fault_count shelf.old) (S.fault_count shelf.new) result }
+{
+    match cache_of_messages(alloc, shelf, chain, next_cache_number(&chain.live)) {
+        Ok(text) => Ok(text),
+        Err(fault) => Err(told(shelf, fault)),
+    }
+}
+
+/// What comes before the group of a CHECK: reads the rows' messages by rising UID, then the log,
+/// where it is rotated, and lists the folder.
+pub fn before_check<S: Shelf>(
+    alloc: Global,
+    chain: &Chain,
+    owed: &Option<Turn>,
+    times: Times,
+    shelf: &mut S,
+) -> Result<Before, ChainFault>
+    requires few { length chain.now.live.mailbox.rows ≤ 8388608 }
+    requires owing { IsOwing chain.now owed.now }
+    requires turn { is_some times.turn ≡ turns owed.now chain.now }
+    ensures is { (uids : Listed ℕ) →
+        IfOk result (IsBefore Command.Check uids owed.now chain.now times) }
+    ensures read { S.tells → (uids : Listed ℕ) → IfOk result
+        (IsRead Command.Check uids chain.now times.received (S.files shelf.old)) }
+    // Nothing is changed.
+    ensures looks { S.tells →
+        OnlyLooks S.files S.may_leave S.moment S.left_since shelf.old shelf.new }
+    // Each of their message files is read once; a fault of the disk has its cause.
+    ensures mail_reads { CountsMails (length chain.now.live.mailbox.rows)
+        (S.mail_reads shelf.old) (S.mail_reads shelf.new) result }
+    ensures cause { HasFaultCause (S.fault_count shelf.old) (S.fault_count shelf.new) result }
+{
+    let cache = next_cache(alloc, chain, shelf)?;
+    let turn = turn_at(alloc, chain, shelf, times.turn)?;
+    let gone = gone_uids(alloc, &chain.live, shelf)?;
+    let mark = beginning(chain, owed.is_some() || turn.is_some());
+    let index = snapshot_at(alloc, &chain.live, chain.indexid, mark)?;
+    Ok(Before {
+        guids: List::new(alloc),
+        turn,
+        files: Files::Check(Renewal { gone, index, cache }),
+    })
+}
