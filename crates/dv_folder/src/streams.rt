@@ -1,4 +1,4 @@
-ghost use Rattle.std.specs.Prelude.{◌≡◌, []};
+ghost use Rattle.std.specs.Prelude.{◌≡◌, [], IfOk, Ok};
 
 use dv_shelf::{Failed, Sink, Source};
 use dv_streams::{CallFault, ReadCalls, ReadStream, WriteCalls, WriteStream};
@@ -44,7 +44,9 @@ impl WriteCalls for OutputCalls {
     }
 }
 
-fn answer(done: io::Result<usize>) -> Result<usize, CallFault> {
+fn answer(done: io::Result<usize>) -> Result<usize, CallFault>
+    ensures { IfOk result (λ count. done ≡ Ok count) }
+{
     match done {
         Ok(count) => Ok(count),
         Err(e) if e.kind() == ErrorKind::Interrupted => Err(CallFault::Interrupted),
