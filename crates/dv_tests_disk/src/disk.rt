@@ -51,10 +51,19 @@ fn new_folder(
     Ok(Folder::new(alloc, system))
 }
 
+// A place of a file, in bytes, and the length of what is written there.
+const LONGEST: u32 = 4096;
+
 fn make_change(folder: &mut Folder<MemSystem>, change: Change) -> Result<(), Failed> {
     match change {
         Change::Replace(name, bytes) => folder.replace(name, bytes),
-        Change::Write(name, at, bytes) => folder.write_at(name, at, bytes),
+        Change::Write(name, at, bytes) => {
+            // The files of these tests are short.
+            if at > LONGEST || bytes.len() > LONGEST as usize {
+                return Err(Failed);
+            }
+            folder.write_at(name, at, bytes)
+        }
         Change::Sync(name) => folder.sync(name),
         Change::Remove(name) => folder.remove(name),
     }
