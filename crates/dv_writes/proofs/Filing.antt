@@ -65,7 +65,7 @@ or_true : (b : Bool) → (b || true) ≡ true
 or_true true = refl
 or_true false = refl
 
-named_true : (uids : List ℕ) (uid : ℕ) → Contains uids uid → has_name (mail_names uids) (name.Mail uid) ≡ true
+pub named_true : (uids : List ℕ) (uid : ℕ) → Contains uids uid → has_name (mail_names uids) (name.Mail uid) ≡ true
 named_true [] uid has = absurd (none_in uid has)
 named_true (u ∷ uids) uid has =
     ⊎_elim (λ here. ap (λ (b : Bool). b || has_name (mail_names uids) (name.Mail uid)) (is_same (name.Mail u) (name.Mail uid) (ap (λ (v : ℕ). name.Mail v) (one_in u uid here))))
@@ -85,7 +85,7 @@ renewed_else index cache d c k first second some =
     at_index : with_index index d k ≡ d k
     at_index = with_else d name.Index (Some index) k first
 
-swept_else : (uids : List ℕ) (d c : Folder) (k : Name) → ((uid : ℕ) → name.Mail uid ≢ k) → IsSweeping uids d c → c k ≡ d k
+pub swept_else : (uids : List ℕ) (d c : Folder) (k : Name) → ((uid : ℕ) → name.Mail uid ≢ k) → IsSweeping uids d c → c k ≡ d k
 swept_else uids d c k other some = ap (λ (f : Folder). f k) some.1 ∙ ap (λ (b : Bool). cond b None (d k)) (none_named k other (take some.0 uids))
 
 module _ (m : Mailbox) (renewal : Renewal) where

@@ -1,0 +1,5 @@
+pub mod States
+pub mod Opening
+pub mod Rest
+pub mod Faults
+pub mod Paying

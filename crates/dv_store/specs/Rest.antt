@@ -1,0 +1,50 @@
+-- A store at rest, and one that was only looked at. The records take the members of a shelf's type.
+use Rattle.std.specs.Prelude.{◌≡◌, ℕ, Option, Some, None, if◌then◌else◌}
+use Rattle.dv_model.specs.declared.types.Mailbox.{Mailbox}
+use Rattle.dv_model.specs.Journals.{Log, Mail}
+use Rattle.dv_model.specs.Sessions.{has_uid}
+use Rattle.dv_shelf.specs.Folders.{Folder}
+use Rattle.dv_openings.specs.TrueCaches.{HasTrueCache}
+use Rattle.dv_chain.specs.Openings.{OnlyLooks}
+use Rattle.dv_keeping.specs.Debts.{Debt, Fits, Stands}
+use Rattle.dv_lookups.specs.Founds.{mail_of}
+use Rattle.dv_lookups.specs.Kept.{IsFileOf}
+use Rattle.dv_store.specs.States.{State}
+
+-- the log's message of a UID that the mailbox has
+abbrev pub log_mail : Log → Mailbox → ℕ → Option Mail
+log_mail log m uid = if has_uid m uid then Some (log.mail uid) else None
+
+module _ {S C : Type 0} where
+  -- A store is at rest with a log: its chain stands with what is owed, which its turn fits, and what
+  -- it read of the cache file is that file.
+  pub record IsAtRest (files : S → Folder) (may_leave : S → Folder → Type 0) (log : Log) (debt : Debt)
+      (store : State S C) : Type 0 where
+    pub stands : Stands may_leave log debt store.chain store.shelf
+    pub fits : Fits store.owed debt
+    pub cache : IsFileOf (files store.shelf) store.cache
+
+  -- nothing but the shelf and what is read of the cache file changes
+  pub record IsLookedAt (old new : State S C) : Type 0 where
+    pub clock : new.clock ≡ old.clock
+    pub chain : new.chain ≡ old.chain
+    pub owed : new.owed ≡ old.owed
+
+  -- The shelf is only read, and a store at rest stays so.
+  pub record OnlyReads (files : S → Folder) (may_leave : S → Folder → Type 0) (moment : S → ℕ)
+      (left_since : S → ℕ → Folder → Type 0) (old new : State S C) : Type 0 where
+    pub looks : OnlyLooks files may_leave moment left_since old.shelf new.shelf
+    pub file : IsFileOf (files old.shelf) old.cache → IsFileOf (files new.shelf) new.cache
+    pub rests : (log : Log) (debt : Debt) → IsAtRest files may_leave log debt old
+        → IsAtRest files may_leave log debt new
+
+  -- the folder's cache file is true of the mailbox, and what was read of it is that file
+  pub record KnowsCache (folder : Folder) (store : State S C) : Type 0 where
+    pub file : IsFileOf folder store.cache
+    pub is_true : HasTrueCache folder store.chain.indexid store.chain.live.mailbox
+
+  -- so it is of a store at rest, and the messages of its rows are the log's
+  pub record RestKnows (folder : Folder) (log : Log) (store : State S C) : Type 0 where
+    pub knows : KnowsCache folder store
+    pub messages : (uid : ℕ) → mail_of folder store.chain.live.mailbox uid
+        ≡ log_mail log store.chain.live.mailbox uid

@@ -1,0 +1,155 @@
+//! What is looked up of a mailbox's messages.
+
+ghost use Rattle.std.specs.Prelude.{◌≡◌, IfOk, false, true};
+ghost use Rattle.dv_model.specs.Journals.{Log};
+ghost use Rattle.dv_model.specs.Sessions.{has_uid};
+ghost use Rattle.dv_openings.specs.TrueCaches.{HasTrueCache};
+ghost use Rattle.dv_keeping.specs.Debts.{Debt};
+ghost use Rattle.dv_lookups.specs.Commands.{IsNamed};
+ghost use Rattle.dv_lookups.specs.Founds.{IsBody, facts_found, field_found, mail_of, sizes_found};
+ghost use Rattle.dv_lookups.specs.Kept.{CountsUpTo, Economy, IsFileOf, IsSpared, Spares, can_stand, is_kept};
+ghost use Rattle.dv_plans.specs.Faults.{HasStoreCause};
+ghost use Rattle.dv_store.specs.Rest.{IsAtRest, IsLookedAt, OnlyReads, RestKnows};
+
+use crate::Store;
+use crate::fault::told;
+use dv_lookups::{BodyFound, FactsFound, FieldFound, SizesFound, body};
+use dv_plans::StoreFault;
+use dv_responses::Asked;
+use dv_shelf::Shelf;
+
+impl<S: Shelf, C> Store<S, C> {
+    /// At rest the cache file is true, and what is looked up is of the log's messages. Nothing is
+    /// computed.
+    pub fn knows(&self)
+        ensures { S.tells → (log : Log) (debt : Debt) →
+            IsAtRest S.files S.may_leave log debt self.now →
+            RestKnows (S.files self.now.shelf) log self.now }
+    {}
+
+    /// The message of a UID: `Gone` exactly where the mailbox has no such row, and `Damaged` exactly
+    /// where its message file is missing or not of the format. The file is read once.
+    pub fn body(&mut self, uid: u32) -> Result<BodyFound, StoreFault>
+        // The message, as its file has it.
+        ensures found { S.tells →
+            IfOk result (IsBody (S.files self.old.shelf) self.old.chain.live.mailbox uid) }
+        // Nothing is changed.
+        ensures stays { IsLookedAt self.old self.new }
+        ensures reads { S.tells →
+            OnlyReads S.files S.may_leave S.moment S.left_since self.old self.new }
+        // One message file is read at most; a fault of the disk has its cause.
+        ensures most { CountsUpTo 1 (S.mail_reads self.old.shelf) (S.mail_reads self.new.shelf) }
+        ensures gone { has_uid self.old.chain.live.mailbox uid ≡ false →
+            self.new.shelf ≡ self.old.shelf }
+        ensures cause { HasStoreCause (S.fault_count self.old.shelf)
+            (S.fault_count self.new.shelf) result }
+    {
+        match body(self.alloc, &mut self.shelf, &self.chain.live, uid) {
+            Ok(found) => Ok(found),
+            Err(fault) => Err(told(&self.shelf, fault)),
+        }
+    }
+
+    /// The first header field of this name of a UID's message. Where the cache file keeps fields of
+    /// the name, and the row has a place there, it is looked at first; a row that is found there
+    /// costs no read, and else the message file is read once.
+    pub fn field(&mut self, uid: u32, name: &[u8]) -> Result<FieldFound, StoreFault>
+        // The field is that of the message file, where the cache file is true.
+        ensures found { S.tells → IsFileOf (S.files self.old.shelf) self.old.cache →
+            HasTrueCache (S.files self.old.shelf) self.old.chain.indexid
+            self.old.chain.live.mailbox →
+            IfOk result (λ found. found ≡ field_found name.now
+            (mail_of (S.files self.old.shelf) self.old.chain.live.mailbox uid)) }
+        // Nothing is changed.
+        ensures stays { IsLookedAt self.old self.new }
+        ensures reads { S.tells →
+            OnlyReads S.files S.may_leave S.moment S.left_since self.old self.new }
+        // The shelf is called no more than is due; a fault of the disk has its cause.
+        ensures economy { Economy S.mail_reads self.old.chain.live.mailbox uid (is_kept name.now)
+            self.old.cache self.new.cache self.old.shelf self.new.shelf }
+        ensures spares { S.tells → IsFileOf (S.files self.old.shelf) self.old.cache →
+            is_kept name.now ≡ true →
+            IsSpared (S.files self.old.shelf) self.old.chain.indexid
+            self.old.chain.live.mailbox uid →
+            Spares S.mail_reads self.old.cache self.old.shelf self.new.shelf }
+        ensures cause { HasStoreCause (S.fault_count self.old.shelf)
+            (S.fault_count self.new.shelf) result }
+    {
+        match self
+            .cache
+            .field(self.alloc, &mut self.shelf, &self.chain, uid, name)
+        {
+            Ok(found) => Ok(found),
+            Err(fault) => Err(told(&self.shelf, fault)),
+        }
+    }
+
+    /// The sizes of a UID's message, counted from its bytes. Where the row has a place in the cache
+    /// file it is looked at first; a row that is found there costs no read, and else the message
+    /// file is read once.
+    pub fn sizes(&mut self, uid: u32) -> Result<SizesFound, StoreFault>
+        // The sizes are those of the message in its file, where the cache file is true.
+        ensures found { S.tells → IsFileOf (S.files self.old.shelf) self.old.cache →
+            HasTrueCache (S.files self.old.shelf) self.old.chain.indexid
+            self.old.chain.live.mailbox →
+            IfOk result (λ found. found ≡ sizes_found
+            (mail_of (S.files self.old.shelf) self.old.chain.live.mailbox uid)) }
+        // Nothing is changed.
+        ensures stays { IsLookedAt self.old self.new }
+        ensures reads { S.tells →
+            OnlyReads S.files S.may_leave S.moment S.left_since self.old self.new }
+        // The shelf is called no more than is due; a fault of the disk has its cause.
+        ensures economy { Economy S.mail_reads self.old.chain.live.mailbox uid true
+            self.old.cache self.new.cache self.old.shelf self.new.shelf }
+        ensures spares { S.tells → IsFileOf (S.files self.old.shelf) self.old.cache →
+            IsSpared (S.files self.old.shelf) self.old.chain.indexid
+            self.old.chain.live.mailbox uid →
+            Spares S.mail_reads self.old.cache self.old.shelf self.new.shelf }
+        ensures cause { HasStoreCause (S.fault_count self.old.shelf)
+            (S.fault_count self.new.shelf) result }
+    {
+        match self
+            .cache
+            .sizes(self.alloc, &mut self.shelf, &self.chain, uid)
+        {
+            Ok(found) => Ok(found),
+            Err(fault) => Err(told(&self.shelf, fault)),
+        }
+    }
+
+    /// What a command asks of the message of a UID. Where all of it can stand in the cache file, and
+    /// the row has a place there, the cache file is looked at first; a row that is found there costs
+    /// no read, and else its message file is read once.
+    pub fn facts(&mut self, asked: &Asked, uid: u32) -> Result<FactsFound, StoreFault>
+        // The facts are those of the message file, where the cache file is true.
+        ensures found { S.tells → IsFileOf (S.files self.old.shelf) self.old.cache →
+            HasTrueCache (S.files self.old.shelf) self.old.chain.indexid
+            self.old.chain.live.mailbox →
+            IfOk result (λ found. found ≡ facts_found asked.now uid
+            (mail_of (S.files self.old.shelf) self.old.chain.live.mailbox uid)) }
+        ensures named { IfOk result (IsNamed uid) }
+        // Nothing is changed.
+        ensures stays { IsLookedAt self.old self.new }
+        ensures reads { S.tells →
+            OnlyReads S.files S.may_leave S.moment S.left_since self.old self.new }
+        // The shelf is called no more than is due; a fault of the disk has its cause.
+        ensures economy { Economy S.mail_reads self.old.chain.live.mailbox uid
+            (can_stand asked.now)
+            self.old.cache self.new.cache self.old.shelf self.new.shelf }
+        ensures spares { S.tells → IsFileOf (S.files self.old.shelf) self.old.cache →
+            can_stand asked.now ≡ true →
+            IsSpared (S.files self.old.shelf) self.old.chain.indexid
+            self.old.chain.live.mailbox uid →
+            Spares S.mail_reads self.old.cache self.old.shelf self.new.shelf }
+        ensures cause { HasStoreCause (S.fault_count self.old.shelf)
+            (S.fault_count self.new.shelf) result }
+    {
+        match self
+            .cache
+            .facts(self.alloc, &mut self.shelf, &self.chain, asked, uid)
+        {
+            Ok(found) => Ok(found),
+            Err(fault) => Err(told(&self.shelf, fault)),
+        }
+    }
+}

@@ -1,0 +1,81 @@
+//! A mailbox folder is opened, or made.
+
+ghost use Rattle.std.specs.Prelude.{◌≡◌, IfErr, IfOk};
+ghost use Rattle.dv_shelf.specs.Clocks.{behind};
+ghost use Rattle.dv_shelf.specs.Crashes.{IsSettled};
+ghost use Rattle.dv_shelf.specs.Folders.{counted};
+ghost use Rattle.dv_openings.specs.Openings.{IsFound};
+ghost use Rattle.dv_openings.specs.Rebuilds.{stamp_of};
+ghost use Rattle.dv_chain.specs.Creations.{HasNone, IsFirst, IsOldOrCreated, LeavesCreated};
+ghost use Rattle.dv_chain.specs.Openings.{HasCause, IsChainOf, IsOutside, IsQuiet, LeavesFolder, found_of};
+ghost use Rattle.dv_store.specs.Opening.{IsFresh, Opens, OpensQuietly, answered, clock_behind, shelf_behind};
+
+use crate::Store;
+use crate::store::fresh;
+use dv_model::OpenFault;
+use dv_shelf::{Clock, Shelf};
+use std::alloc::Global;
+
+impl<S: Shelf, C: Clock> Store<S, C> {
+    /// Opens a mailbox folder: its log, and its rotated log and snapshot where they count, give the
+    /// mailbox at the log's end. Where the log was cut there, or a record may seem to begin there,
+    /// its end is closed by one replace. The folder and the clock are handed back with a fault.
+    pub fn open(alloc: Global, mut shelf: S, clock: C) -> Result<Store<S, C>, (S, C, OpenFault)>
+        // What is answered is found.
+        ensures opens { S.tells → Opens (S.files shelf) result }
+        ensures fresh { IfOk result IsFresh }
+        // What it leaves of the files, and what a crash leaves; from rest to rest.
+        ensures files { S.tells →
+            LeavesFolder (S.files shelf) (S.files (shelf_behind result)) (answered result) }
+        ensures quiet { S.tells → IsSettled S.files S.may_leave shelf →
+            OpensQuietly S.files S.may_leave S.moment S.left_since IsQuiet shelf result }
+        // The clock isn't read, and no message file is; a fault of the disk has its cause.
+        ensures clock { clock_behind result ≡ clock }
+        ensures mail_reads { S.mail_reads (shelf_behind result) ≡ counted (S.mail_reads shelf) 0 }
+        ensures cause { HasCause (S.fault_count shelf) (S.fault_count (shelf_behind result))
+            (answered result) }
+    {
+        match dv_chain::open(alloc, &mut shelf) {
+            Ok(chain) => Ok(fresh(alloc, shelf, clock, chain)),
+            Err(fault) => Err((shelf, clock, fault)),
+        }
+    }
+
+    /// Makes the mailbox of a folder that has none, by one replace: its log, whose number and
+    /// UIDVALIDITY are the clock's reading, in which 0 counts as 1. `Disk` and `NoMemory` are the
+    /// only faults; the folder and the clock are handed back with them. The folder has neither log
+    /// nor rotated log nor index before, where clauses speak of what is found.
+    pub fn create(
+        alloc: Global,
+        mut shelf: S,
+        mut clock: C,
+    ) -> Result<Store<S, C>, (S, C, OpenFault)>
+        // The mailbox is a new one, of the clock's reading, and it is found.
+        ensures first { C.tells → IfOk result (λ store.
+            IsFirst (stamp_of (C.upcoming clock 0)) store.chain) }
+        ensures opens { S.tells → HasNone (S.files shelf) → IfOk result (λ store.
+            IsFound (S.files store.shelf) (found_of store.chain)
+            × IsChainOf (S.files store.shelf) store.chain) }
+        ensures fresh { IfOk result IsFresh }
+        // What it leaves of the files, and what a crash leaves; from rest to rest.
+        ensures files { S.tells → C.tells → LeavesCreated (S.files shelf) (C.upcoming clock 0)
+            (S.files (shelf_behind result)) (answered result) }
+        ensures quiet { S.tells → C.tells → HasNone (S.files shelf) →
+            IsSettled S.files S.may_leave shelf →
+            OpensQuietly S.files S.may_leave S.moment S.left_since
+            (λ old. IsOldOrCreated old (C.upcoming clock 0)) shelf result }
+        // The clock is read once, and no message file is; a fault of the disk has its cause.
+        ensures clock { C.tells →
+            C.upcoming (clock_behind result) ≡ behind (C.upcoming clock) 1 }
+        ensures err { IfErr (answered result) IsOutside }
+        ensures mail_reads { S.mail_reads (shelf_behind result) ≡ S.mail_reads shelf }
+        ensures cause { HasCause (S.fault_count shelf) (S.fault_count (shelf_behind result))
+            (answered result) }
+    {
+        let now = clock.now();
+        match dv_chain::create(alloc, &mut shelf, now) {
+            Ok(chain) => Ok(fresh(alloc, shelf, clock, chain)),
+            Err(fault) => Err((shelf, clock, fault)),
+        }
+    }
+}
