@@ -15,6 +15,8 @@ pub enum Fault {
     BadAppend,
     #[error("a session hasn't selected the mailbox")]
     NotSelected,
+    #[error("a write is no entry of the log")]
+    NotWritten,
     #[error("the input, the output or the clock failed")]
     System,
 }

@@ -1,18 +1,19 @@
 //! Applies the records of a log to a live mailbox, and says how long it took; sessions may be told of
-//! each record.
+//! each record. Or plays sessions over one log, whose steps come in any order.
 #![tactic(auto)]
 
 mod fault;
 mod records;
 mod sessions;
 mod timing;
+mod worlds;
 
 use crate::fault::Fault;
 use std::env;
 use std::io::Read;
 use std::process::ExitCode;
 
-const USAGE: &str = "usage: dv_bench FIRST [touched | sessions] < RECORDS";
+const USAGE: &str = "usage: dv_bench FIRST [touched | sessions] < RECORDS, or dv_bench ROWS worlds";
 
 // What is done with the records that don't come first.
 #[derive(Clone, Copy)]
@@ -25,25 +26,35 @@ enum Way {
     Sessions,
 }
 
-fn way_of(word: &str) -> Option<Way> {
+// What is timed.
+#[derive(Clone, Copy)]
+enum Task {
+    // Standard input's records, of which so many come first.
+    Records(u32, Way),
+    // Sessions over a log with so many messages.
+    Worlds(u32),
+}
+
+fn task_of(first: u32, word: &str) -> Option<Task> {
     match word {
-        "touched" => Some(Way::Touched),
-        "sessions" => Some(Way::Sessions),
+        "touched" => Some(Task::Records(first, Way::Touched)),
+        "sessions" => Some(Task::Records(first, Way::Sessions)),
+        "worlds" => Some(Task::Worlds(first)),
         _ => None,
     }
 }
 
-// What the words ask for: how many records come first, and what is done with the others.
-fn asked(rt: HostRuntime) -> Option<(usize, Way)> {
+// What the words ask for.
+fn asked(rt: HostRuntime) -> Option<Task> {
     let mut words = env::args(&rt).ok()?.skip(1);
     let first = words.next()?.as_str().parse().ok()?;
     let Some(word) = words.next() else {
-        return Some((first, Way::Alone));
+        return Some(Task::Records(first, Way::Alone));
     };
     if words.next().is_some() {
         return None;
     }
-    Some((first, way_of(word.as_str())?))
+    task_of(first, word.as_str())
 }
 
 // Times standard input's records.
@@ -68,14 +79,34 @@ fn time_input(rt: HostRuntime, first: usize, way: Way) -> Result<(), Fault> {
     Ok(())
 }
 
+// Times sessions over a log with so many messages.
+fn time_events(rt: HostRuntime, rows: u32) -> Result<(), Fault> {
+    let times = worlds::time_world(rt, rows)?;
+    println!(rt;
+        "{rows} appends {} us, {} events {} us",
+        times.first,
+        worlds::EVENTS,
+        times.others
+    )?;
+    Ok(())
+}
+
+fn time(rt: HostRuntime, task: Task) -> Result<(), Fault> {
+    match task {
+        Task::Records(first, way) => time_input(rt, first as usize, way),
+        Task::Worlds(rows) => time_events(rt, rows),
+    }
+}
+
 /// Standard input holds records as a log does behind its header. FIRST of them are applied before
-/// the others. The status is 1 where anything is wrong.
+/// the others. Of worlds ROWS messages are appended, and nothing is read. The status is 1 where
+/// anything is wrong.
 fn main(rt: HostRuntime) -> ExitCode {
-    let Some((first, way)) = asked(rt) else {
+    let Some(task) = asked(rt) else {
         let _ = println!(rt; "{USAGE}");
         return ExitCode::from(1);
     };
-    match time_input(rt, first, way) {
+    match time(rt, task) {
         Ok(()) => ExitCode::from(0),
         Err(fault) => {
             let _ = println!(rt; "{fault}");
