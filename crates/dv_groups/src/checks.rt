@@ -40,6 +40,13 @@ fn next_number(n: u32) -> u32
     if n == u32::MAX { 1 } else { n + 1 }
 }
 
+/// The number that a CHECK gives the mailbox's cache file, which is never 0.
+pub fn next_cache_number(live: &Live) -> u32
+    ensures { result ≡ next_number (cache_number live.now.mailbox) }
+{
+    next_number(cache_number(live))
+}
+
 // The place of the entry of the row at this place, in bytes of the cache file.
 fn offset_of(at: u32) -> [u8; 4]
     ensures { result ≡ to_le_bytes w32 (32 + 16 * at) }

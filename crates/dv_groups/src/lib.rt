@@ -13,6 +13,7 @@ mod ranges;
 mod records;
 
 pub use changing::{changed_uids, expunged_uids, removes};
+pub use checks::next_cache_number;
 pub use groups::{group_from, group_length, group_of, need};
 pub use laws::groups_are_short;
 pub use limits::{Limit, limit_of};

@@ -1,6 +1,7 @@
 //! What is read of message files.
 
-ghost use Rattle.std.specs.Prelude.{◌≡◌, Some, IfErr, IfOk, length};
+ghost use Rattle.std.specs.Prelude.{◌≡◌, All, Some, IfErr, IfOk, length, map};
+ghost use Rattle.dv_model.specs.Journals.{IsGuid};
 ghost use Rattle.dv_shelf.specs.Causes.{HasCauseOf};
 ghost use Rattle.dv_shelf.specs.Folders.{counted};
 ghost use Rattle.dv_shelf.specs.declared.shelf.Name.TheVariants as name;
@@ -65,6 +66,20 @@ pub fn read_mail<S: Shelf>(alloc: Global, shelf: &mut S, uid: u32) -> Result<Mai
     }
 }
 
+/// The bytes of a GUID.
+fn guid_bytes(guid: &[u8; 16]) -> &[u8]
+    ensures { result.now ≡ guid.now }
+{
+    guid
+}
+
+/// A GUID has sixteen bytes, as its type has it. Nothing is computed.
+fn is_guid(guid: &[u8; 16])
+    ensures { IsGuid guid.now }
+{
+    let _bytes = guid_bytes(guid);
+}
+
 /// Each of these UIDs with the GUID of its message file, sixteen zero bytes where the file is
 /// damaged or has none. Reads each file once, in the order of the UIDs, and writes nothing.
 pub fn guids_of<S: Shelf>(
@@ -72,7 +87,9 @@ pub fn guids_of<S: Shelf>(
     shelf: &mut S,
     uids: &[u32],
 ) -> Result<List<GuidRow>, ShelfFault>
-    // The rows, beside the UIDs.
+    // The rows, beside the UIDs, each with a GUID.
+    ensures beside { IfOk result (λ rows. (map (λ row. row.uid) rows ≡ uids.now)
+        × All (λ row. IsGuid row.guid) rows) }
     ensures rows { S.tells → IfOk result (λ rows. rows ≡ guid_rows (S.files shelf.old) uids.now) }
     // Nothing is changed.
     ensures looks { S.tells →
@@ -87,6 +104,7 @@ pub fn guids_of<S: Shelf>(
     for uid in uids {
         let mail = read_mail(alloc, shelf, *uid)?;
         let guid = mail.guid();
+        is_guid(&guid);
         match rows.push(GuidRow { uid: *uid, guid }) {
             Ok(()) => (),
             Err(_) => return Err(ShelfFault::NoMemory),

@@ -1,68 +1,20 @@
 //! The GUIDs of messages: of those that a command removes, and of the one that it appends.
 
-ghost use Rattle.std.specs.Prelude.{◌≡◌, All, IfOk, length, map};
-ghost use Rattle.dv_model.specs.Journals.{IsGuid, new_guid};
-ghost use Rattle.dv_shelf.specs.Causes.{HasCauseOf};
+ghost use Rattle.std.specs.Prelude.{◌≡◌, IfOk, length};
+ghost use Rattle.dv_model.specs.Journals.{new_guid};
 ghost use Rattle.dv_chain.specs.Openings.{OnlyLooks};
-ghost use Rattle.dv_mails.specs.Reading.{ReadsMails, guid_rows};
+ghost use Rattle.dv_mails.specs.Reading.{guid_rows};
 ghost use Rattle.dv_rotation.specs.Leavings.{HasFaultCause};
 ghost use Rattle.dv_plans.specs.Counts.{CountsMails};
 ghost use Rattle.dv_plans.specs.Guids.{AreGuidsOf, removed_of};
 
 use crate::fault::told;
 use dv_groups::removes;
-use dv_mails::read_mail;
+use dv_mails::guids_of;
 use dv_model::{Command, GuidRow, List};
 use dv_rotation::ChainFault;
-use dv_shelf::{Shelf, ShelfFault};
+use dv_shelf::Shelf;
 use std::alloc::Global;
-
-/// The bytes of a GUID.
-fn guid_bytes(guid: &[u8; 16]) -> &[u8]
-    ensures { result.now ≡ guid.now }
-{
-    guid
-}
-
-/// A GUID has sixteen bytes, as its type has it. Nothing is computed.
-fn is_guid(guid: &[u8; 16])
-    ensures { IsGuid guid.now }
-{
-    let _bytes = guid_bytes(guid);
-}
-
-/// Each of these UIDs with the GUID of its message file, sixteen zero bytes where the file is
-/// damaged or has none. Reads each file once, in the order of the UIDs, and writes nothing.
-fn guids_of<S: Shelf>(
-    alloc: Global,
-    shelf: &mut S,
-    uids: &[u32],
-) -> Result<List<GuidRow>, ShelfFault>
-    // The rows, beside the UIDs, each with a GUID.
-    ensures beside { IfOk result (λ rows. (map (λ row. row.uid) rows ≡ uids.now)
-        × All (λ row. IsGuid row.guid) rows) }
-    ensures rows { S.tells → IfOk result (λ rows. rows ≡ guid_rows (S.files shelf.old) uids.now) }
-    // Nothing is changed.
-    ensures looks { S.tells →
-        OnlyLooks S.files S.may_leave S.moment S.left_since shelf.old shelf.new }
-    // Each message file is read once; a fault of the disk has its cause.
-    ensures mail_reads { ReadsMails (length uids.now)
-        (S.mail_reads shelf.old) (S.mail_reads shelf.new) result }
-    ensures cause { HasCauseOf ShelfFault.Failed
-        (S.fault_count shelf.old) (S.fault_count shelf.new) result }
-{
-    let mut rows = List::new(alloc);
-    for uid in uids {
-        let mail = read_mail(alloc, shelf, *uid)?;
-        let guid = mail.guid();
-        is_guid(&guid);
-        match rows.push(GuidRow { uid: *uid, guid }) {
-            Ok(()) => (),
-            Err(_) => return Err(ShelfFault::NoMemory),
-        }
-    }
-    Ok(rows)
-}
 
 /// Of the messages that a command changes those that it removes, each with the GUID of its message
 /// file: sixteen zero bytes where that is damaged or has none. Reads each file once, in the order

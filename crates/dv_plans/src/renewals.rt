@@ -1,8 +1,6 @@
 //! What a CHECK removes and replaces.
 
-ghost use Rattle.std.specs.Prelude.{◌≡◌, ◌≤◌, All, IfOk, List as Listed, bytes_eq, codes, find, is_some, length, ℕ};
-ghost use Rattle.std.specs.Option.{option_copied};
-ghost use Rattle.dv_model.specs.Sessions.{cache_number, next_number};
+ghost use Rattle.std.specs.Prelude.{◌≡◌, ◌≤◌, All, IfOk, List as Listed, is_some, length, ℕ};
 ghost use Rattle.dv_chain.specs.Openings.{OnlyLooks};
 ghost use Rattle.dv_keeping.specs.Repairing.{IsOwing};
 ghost use Rattle.dv_phases.specs.Removals.{IsFree};
@@ -20,40 +18,14 @@ use crate::times::Times;
 use crate::turns::turn_at;
 use dv_apply::Live;
 use dv_chain::Chain;
+use dv_groups::next_cache_number;
 use dv_lookups::cache_of_messages;
-use dv_model::{Bytes, Command, Extension, List};
+use dv_model::{Bytes, Command, List};
 use dv_phases::unlisted;
 use dv_rotation::{ChainFault, Turn};
 use dv_shelf::Shelf;
 use dv_writes::{Files, Renewal};
 use std::alloc::Global;
-
-const CACHE: &[u8] = b"cache";
-
-fn cache_of(extensions: &[Extension]) -> Option<&Extension>
-    ensures { option_copied result
-        ≡ find (λ e. bytes_eq e.name (codes "cache")) extensions.now }
-{
-    extensions.iter().find(|e| e.name.as_slice() == CACHE)
-}
-
-/// The number of the mailbox's cache file, or 0 where it has none.
-fn cache_number(live: &Live) -> u32
-    ensures { result ≡ cache_number live.now.mailbox }
-{
-    match cache_of(live.extensions().list().as_slice()) {
-        Some(cache) => cache.reset_id,
-        None => 0,
-    }
-}
-
-/// The number that a CHECK gives the mailbox's cache file, which is never 0.
-fn next_cache_number(live: &Live) -> u32
-    ensures { result ≡ next_number (cache_number live.now.mailbox) }
-{
-    let n = cache_number(live);
-    if n == u32::MAX { 1 } else { n + 1 }
-}
 
 /// The UIDs of the message files that no row has, rising, of those that were given out. Lists the
 /// folder once, and writes nothing.

@@ -1,10 +1,15 @@
-use Rattle.std.proofs.Common.{◌≡◌, take}
+use Rattle.std.proofs.Common.{◌≡◌, map, take}
+use Rattle.std.specs.Prelude.{All}
+use Rattle.dv_model.specs.declared.types.GuidRow.{GuidRow}
+use Rattle.dv_model.specs.Journals.{IsGuid}
 use Rattle.dv_chain.specs.Openings.{OnlyLooks}
 use Rattle.dv_mails.specs.Reading.{after_reads, guid_rows}
 use Rattle.dv_mails.proofs.reading.guids_of.Given as goal
 
 abbrev pub invariant-loop-uid : goal.invariant-loop-uid
 invariant-loop-uid g l = record {
+  beside : map (λ (row : GuidRow). row.uid) l.rows ≡ take l.uid-index l.uids;
+  guids : All (λ (row : GuidRow). IsGuid row.guid) l.rows;
   rows : g.S.Shelf.tells → l.rows ≡ guid_rows (g.S.Shelf.files l.initial.shelf) (take l.uid-index l.uids);
   looks : g.S.Shelf.tells → OnlyLooks g.S.Shelf.files g.S.Shelf.may_leave g.S.Shelf.moment g.S.Shelf.left_since l.initial.shelf l.shelf;
   mail_reads : g.S.Shelf.mail_reads l.shelf ≡ after_reads (g.S.Shelf.mail_reads l.initial.shelf) l.uid-index;

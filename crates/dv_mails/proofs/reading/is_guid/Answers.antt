@@ -1,6 +1,6 @@
 use Rattle.std.proofs.Common.{ℕ, ◌<◌, ◌^◌}
 use Rattle.std.proofs.lemmas.List.Elements.{All-from_get_or}
-use Rattle.dv_plans.proofs.guids.is_guid.Goals as goal
+use Rattle.dv_mails.proofs.reading.is_guid.Goals as goal
 
 pub returns : goal.returns
 returns c = record {
