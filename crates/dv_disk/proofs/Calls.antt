@@ -1,13 +1,14 @@
 -- What single calls do to the entries.
-use Rattle.std.proofs.Common.{◌≡◌, ◌⊎◌, inl, inr, ℕ, ◌≤◌, Bool, true, false, List, Option, None, Result, Ok, Err, IsErr, OnOk, OnErr, refl, sym, ◌∙◌, ap, subst}
+use Rattle.std.proofs.Common.{◌≡◌, ◌⊎◌, inl, inr, ℕ, ◌≤◌, Bool, true, false, ◌+◌, List, [], ◌∷◌, ◌++◌, length, Option, Some, None, Result, Ok, Err, IsErr, OnOk, OnErr, refl, sym, ◌∙◌, ap, subst, arith}
+use Rattle.std.proofs.lemmas.List.{append-nil, drop_all}
 use Rattle.std.proofs.lemmas.Result.{err_from_is_err_and}
 use Rattle.std.specs.Prelude.{is_err, IsErrAnd}
 use Rattle.dv_shelf.specs.declared.shelf.Name.{Name}
-use Rattle.dv_shelf.specs.Folders.{Folder}
+use Rattle.dv_shelf.specs.Folders.{Folder, patched}
 use Rattle.dv_shelf.specs.Crashes.{FollowsNone, Elapses}
 use Rattle.dv_shelf.specs.Disks.{Version, Gone, settled_version}
 use Rattle.dv_system.specs.declared.system.Entry.TheVariants as entry
-use Rattle.dv_system.specs.Entries.{At, put_at, hidden_at, swept_at, unsure_at, synced_at, doubted_at, read_at, IsEntryImage}
+use Rattle.dv_system.specs.Entries.{At, empty_file, put_at, hidden_at, written_at, swept_at, unsure_at, synced_at, doubted_at, read_at, IsEntryImage}
 use Rattle.dv_system.specs.Disks.{Disk, changed, changed_names, renamed, with_place, made_place, doubted_place, with_named, may_vanish, IsOneOf, IsUnchangedOr, LeftBy, Unlinks}
 use Rattle.dv_system.proofs.Named.{named_here, named_else}
 use Rattle.dv_disk.specs.States.{sweeps}
@@ -146,6 +147,33 @@ temporary_changed f old new is = record { place = ap (λ (d : Disk). d.place) is
 
 pub temporary_same : (old new : Disk) → new ≡ old → LeavesNames old new
 temporary_same old new is = record { place = ap (λ (d : Disk). d.place) is; named = ap (λ (d : Disk). d.named) is }
+
+-- bytes were written over it, or none
+pub temporary_written : (bytes : List ℕ) (old new : Disk) → (length bytes ≡ 0 → new ≡ old) → (1 ≤ length bytes → new ≡ changed (written_at 0 (length bytes) bytes) old entry.Temporary) → LeavesNames old new
+temporary_written [] old new none some = temporary_same old new (none refl)
+temporary_written (b ∷ bytes) old new none some = temporary_changed (written_at 0 (length (b ∷ bytes)) (b ∷ bytes)) old new (some (omega arith))
+
+whole : (bytes : List ℕ) → patched [] 0 bytes ≡ bytes
+whole bytes = ap (λ (l : List ℕ). bytes ++ l) (drop_all (0 + length bytes) [] (omega arith)) ∙ append-nil bytes
+
+-- it was made, written and synced
+pub temporary_durable : {T E : Type 0} (r : Result T E) (bytes : List ℕ) (old made wrote new : Disk) → made ≡ changed (put_at empty_file false) old entry.Temporary
+    → (length bytes ≡ 0 → wrote ≡ made) → (1 ≤ length bytes → wrote ≡ changed (written_at 0 (length bytes) bytes) made entry.Temporary)
+    → OnOk r (new ≡ changed synced_at wrote entry.Temporary) → OnOk r (IsDurable new.temporary (Some bytes))
+temporary_durable (Err e) bytes old made wrote new is none some synced = tt
+temporary_durable (Ok x) [] old made wrote new is none some synced =
+    let at : new.temporary ≡ synced_at (put_at empty_file false old.temporary) =
+    ap (λ (d : Disk). d.temporary) synced ∙ ap (λ (d : Disk). synced_at d.temporary) (none refl ∙ is) in
+    record { first = ap (λ (a : At). a.first) at; sure = ap (λ (a : At). a.is_doubted) at }
+temporary_durable (Ok x) (b ∷ bytes) old made wrote new is none some synced =
+    let all = b ∷ bytes in
+    let n = length all in
+    let at : new.temporary ≡ synced_at (written_at 0 n all (put_at empty_file false old.temporary)) =
+    ap (λ (d : Disk). d.temporary) synced ∙ ap (λ (d : Disk). synced_at d.temporary) (some (omega arith)) ∙ ap (λ (d : Disk). synced_at (written_at 0 n all d.temporary)) is in
+    record {
+      first = ap (λ (a : At). a.first) at ∙ ap (λ (l : List ℕ). settled_version (Some l)) (whole all);
+      sure = ap (λ (a : At). a.is_doubted) at;
+    }
 
 pub temporary_synced : {T E : Type 0} (r : Result T E) (old new : Disk) → OnOk r (new ≡ changed synced_at old entry.Temporary) → OnErr r (IsUnchangedOr old (changed doubted_at old entry.Temporary) new)
     → LeavesNames old new

@@ -1,20 +1,23 @@
 -- Bytes are written over a file, which may be made before.
-use Rattle.std.proofs.Common.{◌≡◌, ◌⊎◌, inl, inr, ⊎_elim, ℕ, ◌≤◌, true, false, List, [], length, Option, Some, None, Result, Ok, Err, IsErr, OnOk, refl, sym, ◌∙◌, ap, subst, arith}
-use Rattle.std.specs.Prelude.{unwrap_or}
+use Rattle.std.proofs.Common.{◌≡◌, ◌≢◌, ◌⊎◌, inl, inr, ⊎_elim, ℕ, ◌≤◌, true, false, List, [], length, Option, Some, None, Result, Ok, Err, IsErr, OnOk, refl, sym, ◌∙◌, ap, subst, arith}
+use Rattle.std.specs.Prelude.{nat_eq, unwrap_or}
+use Rattle.std.proofs.lemmas.Bool.{eqb-true}
+use Rattle.std.proofs.lemmas.List.{nil_from_length}
 use Rattle.dv_shelf.specs.declared.shelf.Name.{Name}
-use Rattle.dv_shelf.specs.Folders.{Folder, patched, Torn, TornFile}
+use Rattle.dv_shelf.specs.Folders.{Folder, with_file, patched, ChangesOnly, IsEither, Torn, TornFile}
 use Rattle.dv_shelf.specs.Crashes.{Elapses}
 use Rattle.dv_shelf.specs.Disks.{Version, Gone, There, version_bytes, version_written}
 use Rattle.dv_shelf.specs.Images.{IsFileImage}
+use Rattle.dv_shelf.proofs.FolderLemmas.{with_changes, with_else, with_here}
 use Rattle.dv_shelf.proofs.Torn.{patched_torn}
 use Rattle.dv_shelf.proofs.TornImages.{version_torn}
 use Rattle.dv_shelf.proofs.ShelfLemmas.{same_torn, torn_more}
 use Rattle.dv_system.specs.declared.system.Entry.TheVariants as entry
 use Rattle.dv_system.specs.Entries.{At, empty_file, read_at, put_at, hidden_at, written_at, IsEntryImage}
-use Rattle.dv_system.specs.Disks.{Disk, LeftBy, IsReadable, IsOneOf, changed}
+use Rattle.dv_system.specs.Disks.{Disk, LeftBy, IsReadable, IsOneOf, changed, files_of}
 use Rattle.dv_system.proofs.Named.{named_here, named_else}
 use Rattle.dv_disk.specs.States.{is_firm}
-use Rattle.dv_disk.specs.Steps.{IsWritten, OnlyAt, Writes, Wrote}
+use Rattle.dv_disk.specs.Steps.{IsWritten, OnlyAt, Puts, Writes, Wrote}
 use Rattle.dv_disk.proofs.Runs.{elapses_in, elapses_on, quiet_same, writes_nothing}
 use Rattle.dv_disk.proofs.Places.{firm_left, images_left, images_on, image_here, others_before, at_each, is_alike, only_changes, only_follows, only_reads}
 use Rattle.dv_disk.proofs.Putting.{settled_image, one_more}
@@ -190,3 +193,54 @@ module _ {S : Type 0} (disk : S → Disk) (moment : S → ℕ) (left_since : S �
     made_wrote r (inr (failed, is)) first second =
         make_failed r new failed none (inr (inl (is ∙ made)))
         (elapses_on moment left_since old mid new (LeftBy (disk mid)) (LeftBy (disk new)) (LeftBy (disk new)) first second (λ c left. subst (λ (d : Disk). LeftBy d c) (sym is) left) (λ c left. left))
+
+pub none_left : (bytes : List ℕ) → nat_eq (length bytes) 0 ≡ true → bytes ≡ []
+none_left bytes none = nil_from_length bytes (eqb-true (length bytes) 0 none)
+
+-- ---- a write of no bytes: the file is replaced by itself, with zero bytes up to the place
+
+module _ {S : Type 0} (disk : S → Disk) (moment : S → ℕ) (left_since : S → ℕ → Folder → Type 0)
+    (name : Name) (place : ℕ) (old : S) (firm : is_firm (disk old).place ≡ true) (readable : IsReadable (disk old)) where
+  abbrev Filled : Option (List ℕ) → Option (List ℕ)
+  Filled file = Some (patched (unwrap_or file []) place [])
+
+  abbrev as_read : Option (List ℕ)
+  as_read = read_at ((disk old).named name)
+
+  filled_torn : (was file : Option (List ℕ)) → IsEither (Filled was) was file → TornFile place 0 was file
+  filled_torn was file (inl same) = subst (TornFile place 0 was) (sym same) (same_torn place 0 was)
+  filled_torn was file (inr is) = subst (TornFile place 0 was) (sym is) (reads_torn place 0 [] was (omega arith))
+
+  filled_changes : (new : S) → ChangesOnly name (IsEither (Filled as_read)) (files_of (disk old)) (files_of (disk new))
+      → ChangesOnly name (TornFile place 0) (files_of (disk old)) (files_of (disk new))
+  filled_changes new change = record { there = filled_torn as_read _ change.there; others = change.others }
+
+  -- what a crash leaves came of the file as reads gave it, or of what a crash left before
+  filled_follows : (c d : Folder) → LeftBy (disk old) d → ChangesOnly name (IsEither (Filled as_read)) d c
+      → (was : Folder) × LeftBy (disk old) was × ChangesOnly name (TornFile place 0) was c
+  filled_follows c d left change = by_case change.there
+    where
+      others : (file : Option (List ℕ)) (n : Name) → n ≢ name → IsEntryImage ((disk old).named n) (with_file c name file n)
+      others file n other = subst (IsEntryImage ((disk old).named n)) (sym (with_else c name file n other ∙ change.others n other)) (firm_left (disk old) d firm left n)
+
+      by_case : IsEither (Filled as_read) (d name) (c name) → (was : Folder) × LeftBy (disk old) was × ChangesOnly name (TornFile place 0) was c
+      by_case (inl same) = (d, left, record { there = subst (TornFile place 0 (d name)) (sym same) (same_torn place 0 (d name)); others = change.others })
+      by_case (inr is) = (
+        with_file c name as_read,
+        images_left (disk old) _ (at_each (disk old) name _ (others as_read) (subst (IsEntryImage ((disk old).named name)) (sym (with_here c name as_read)) (inl (readable name)))),
+        with_changes c name (TornFile place 0) as_read (filled_torn as_read (c name) (inr is)),
+      )
+
+  pub replaced : {T E : Type 0} (r : Result T E) (new : S) → Puts disk moment left_since name (Filled as_read) r old new → Writes disk moment left_since name place [] r old new
+  replaced (Ok x) new puts = record {
+    ok = puts.ok;
+    err = tt;
+    crash = λ c left. let was = puts.crash c left in filled_follows c was.0 was.1 was.2;
+    time = puts.time;
+  }
+  replaced (Err e) new puts = record {
+    ok = tt;
+    err = filled_changes new puts.err;
+    crash = λ c left. let was = puts.crash c left in filled_follows c was.0 was.1 was.2;
+    time = puts.time;
+  }

@@ -1,12 +1,14 @@
-ghost use Rattle.std.specs.Prelude.{◌≡◌, ◌≢◌, List, ℕ, Option, Some, None, true, false, IfOk, MatchOption, OnOk, OnErr};
+ghost use Rattle.std.specs.Prelude.{◌≡◌, ◌≢◌, ◌≤◌, List, [], length, ℕ, Option, unwrap_or, Some, None, true, false, IfOk, MatchOption, OnOk, OnErr};
 ghost use Rattle.dv_shelf.specs.declared.shelf.Name.{Name};
+ghost use Rattle.dv_shelf.specs.Folders.{patched};
 ghost use Rattle.dv_system.specs.declared.system.Entry.TheVariants as entry;
+ghost use Rattle.dv_system.specs.Disks.{is_missing};
 ghost use Rattle.dv_disk.specs.declared.kept.KeptFile.{KeptFile};
 ghost use Rattle.dv_disk.specs.States.{Stands, AreSwept, IsTrusted, IsPlaceTrusted};
 
 use crate::kept::{KeptFile, close};
 use crate::names::names_of;
-use dv_model::{Bytes, List};
+use dv_model::{Bytes, List, NoMemory};
 use dv_shelf::{Failed, Name, ShelfFault};
 use dv_system::{Entry, System};
 use std::alloc::Global;
@@ -18,12 +20,16 @@ pub(crate) struct Files<Y: System + Drop> {
     alloc: Global,
     /// The file that was written last.
     kept: Option<KeptFile<Y::File>>,
+    /// The folder is there, and the system has its lock.
+    is_locked: bool,
     /// The folder was made where it was missing, and is durable.
     is_ready: bool,
     /// No entry changed since a sync of the folder answered Ok.
     is_swept: bool,
     /// A sync of a file that was written, or of a folder, failed: no later one makes that good.
     has_failed: bool,
+    ghost held: { is_locked ≡ true → Y.locked system ≡ true },
+    ghost there: { is_locked ≡ true → Y.tells → is_missing (Y.disk system).place ≡ false },
     ghost ready: { Stands is_ready Y.tells (Y.disk system) },
     ghost swept: { AreSwept is_swept Y.tells (Y.disk system) },
     ghost trusted: { IsTrusted has_failed Y.tells (Y.disk system) },
@@ -36,7 +42,7 @@ impl<Y: System + Drop> Files<Y> {
     ghost use Rattle.dv_shelf.specs.Crashes.{Elapses};
     ghost use Rattle.dv_shelf.specs.Folders.{Lists};
     ghost use Rattle.dv_system.specs.Entries.{swept_at, unsure_at};
-    ghost use Rattle.dv_system.specs.Disks.{changed_names, files_of, is_missing, IsUnchangedOr, LeftBy};
+    ghost use Rattle.dv_system.specs.Disks.{changed_names, files_of, IsUnchangedOr, LeftBy};
     ghost use Rattle.dv_disk.specs.Steps.{IsQuiet, IsDurable, LeavesNames, Puts, Syncs, Writes, Wrote};
 
     /// The files of a folder on which no sync failed.
@@ -49,34 +55,52 @@ impl<Y: System + Drop> Files<Y> {
             system,
             alloc,
             kept: None,
+            is_locked: false,
             is_ready: false,
             is_swept: false,
             has_failed: false,
         }
     }
 
-    /// Makes the folder where it is missing, and makes it durable.
+    /// Makes the folder where it is missing, and takes its lock, which the first call does.
+    fn enter(&mut self) -> Result<(), Failed>
+        ensures quiet { Y.tells →
+            IsQuiet Y.disk Y.moment Y.left_since self.old.system self.new.system }
+        ensures locked { OnOk result (self.new.is_locked ≡ true) }
+    {
+        if self.is_locked {
+            return Ok(());
+        }
+        self.system.make_folder()?;
+        self.system.lock()?;
+        self.is_locked = true;
+        Ok(())
+    }
+
+    /// Makes the folder durable.
     fn make_ready(&mut self) -> Result<(), Failed>
         ensures quiet { Y.tells →
             IsQuiet Y.disk Y.moment Y.left_since self.old.system self.new.system }
+        ensures locked { OnOk result (self.new.is_locked ≡ true) }
         ensures ready { OnOk result (self.new.is_ready ≡ true) }
     {
+        self.enter()?;
         if self.is_ready {
             return Ok(());
         }
         if self.has_failed {
             return Err(Failed);
         }
-        self.system.make_folder()?;
         self.sync_parent()
     }
 
     /// Makes the folder durable, which is there.
     fn sync_parent(&mut self) -> Result<(), Failed>
-        requires there { Y.tells → is_missing (Y.disk self.old.system).place ≡ false }
+        requires locked { self.old.is_locked ≡ true }
         requires trusted { self.old.has_failed ≡ false }
         ensures quiet { Y.tells →
             IsQuiet Y.disk Y.moment Y.left_since self.old.system self.new.system }
+        ensures locked { self.new.is_locked ≡ true }
         ensures ready { OnOk result (self.new.is_ready ≡ true) }
     {
         match self.system.sync_parent() {
@@ -93,6 +117,7 @@ impl<Y: System + Drop> Files<Y> {
 
     /// Makes the entries durable.
     fn sweep(&mut self) -> Result<(), Failed>
+        requires locked { self.old.is_locked ≡ true }
         ensures ok { Y.tells → OnOk result
             (Y.disk self.new.system ≡ changed_names swept_at (Y.disk self.old.system)) }
         ensures err { Y.tells → OnErr result (IsUnchangedOr (Y.disk self.old.system)
@@ -102,6 +127,7 @@ impl<Y: System + Drop> Files<Y> {
             (LeftBy (Y.disk self.new.system)) }
         ensures ready { self.new.is_ready ≡ self.old.is_ready }
         ensures swept { OnOk result (self.new.is_swept ≡ true) }
+        ensures locked { self.new.is_locked ≡ true }
     {
         match self.system.sync_folder() {
             Ok(()) => {
@@ -119,6 +145,7 @@ impl<Y: System + Drop> Files<Y> {
     fn start(&mut self) -> Result<(), Failed>
         ensures quiet { Y.tells →
             IsQuiet Y.disk Y.moment Y.left_since self.old.system self.new.system }
+        ensures locked { OnOk result (self.new.is_locked ≡ true) }
         ensures ready { OnOk result (self.new.is_ready ≡ true) }
         ensures swept { OnOk result (self.new.is_swept ≡ true) }
     {
@@ -131,6 +158,7 @@ impl<Y: System + Drop> Files<Y> {
 
     /// Writes the temporary file anew, and makes its bytes durable.
     fn write_temporary(&mut self, bytes: &[u8]) -> Result<(), Failed>
+        requires locked { self.old.is_locked ≡ true }
         ensures names { Y.tells → LeavesNames (Y.disk self.old.system) (Y.disk self.new.system) }
         ensures bytes { Y.tells → OnOk result
             (IsDurable (Y.disk self.new.system).temporary (Some bytes.now)) }
@@ -138,6 +166,7 @@ impl<Y: System + Drop> Files<Y> {
             IsQuiet Y.disk Y.moment Y.left_since self.old.system self.new.system }
         ensures ready { self.new.is_ready ≡ self.old.is_ready }
         ensures swept { self.new.is_swept ≡ self.old.is_swept }
+        ensures locked { self.new.is_locked ≡ true }
     {
         let file = self.system.create(Entry::Temporary)?;
         self.system.write(&file, 0, bytes)?;
@@ -146,6 +175,7 @@ impl<Y: System + Drop> Files<Y> {
 
     /// Gives the temporary file, whose bytes are durable, a name.
     fn put(&mut self, name: Name) -> Result<(), Failed>
+        requires locked { self.old.is_locked ≡ true }
         requires ready { self.old.is_ready ≡ true }
         requires swept { self.old.is_swept ≡ true }
         requires sure { Y.tells → (Y.disk self.old.system).temporary.is_doubted ≡ false }
@@ -194,14 +224,34 @@ impl<Y: System + Drop> Files<Y> {
             self.old.system self.new.system }
     {
         self.make_ready()?;
+        if bytes.is_empty() {
+            return self.fill(name, at);
+        }
         match self.take_open(name)? {
             Some(file) => self.write_kept(KeptFile { name, file }, at, bytes),
             None => self.write_new(name, at, bytes),
         }
     }
 
+    /// Fills a file with zero bytes up to a place, which a write of no bytes doesn't: the whole
+    /// file is replaced.
+    fn fill(&mut self, name: Name, at: u32) -> Result<(), Failed>
+        requires ready { self.old.is_ready ≡ true }
+        ensures { Y.tells → Writes Y.disk Y.moment Y.left_since name at [] result
+            self.old.system self.new.system }
+    {
+        let Ok(file) = self.read(self.alloc, name) else {
+            return Err(Failed);
+        };
+        match filled(self.alloc, file, at) {
+            Ok(bytes) => self.replace(name, bytes.as_slice()),
+            Err(_) => Err(Failed),
+        }
+    }
+
     /// The open file of a name, which is kept or opened now, or `None` where there is none.
     fn take_open(&mut self, name: Name) -> Result<Option<Y::File>, Failed>
+        requires locked { self.old.is_locked ≡ true }
         ensures found { Y.tells → IfOk result (λ file. MatchOption file
             (files_of (Y.disk self.old.system) name ≡ None)
             (λ f. Y.stands self.new.system f (entry.File name) ≡ true)) }
@@ -210,6 +260,7 @@ impl<Y: System + Drop> Files<Y> {
             IsQuiet Y.disk Y.moment Y.left_since self.old.system self.new.system }
         ensures ready { self.new.is_ready ≡ self.old.is_ready }
         ensures swept { self.new.is_swept ≡ self.old.is_swept }
+        ensures locked { self.new.is_locked ≡ true }
     {
         if let Some(kept) = self.kept.take() {
             if kept.name == name {
@@ -221,6 +272,8 @@ impl<Y: System + Drop> Files<Y> {
 
     /// Writes a file that isn't there.
     fn write_new(&mut self, name: Name, at: u32, bytes: &[u8]) -> Result<(), Failed>
+        requires some { 1 ≤ length bytes.now }
+        requires locked { self.old.is_locked ≡ true }
         requires ready { self.old.is_ready ≡ true }
         requires missing { Y.tells → files_of (Y.disk self.old.system) name ≡ None }
         ensures { Y.tells → Writes Y.disk Y.moment Y.left_since name at bytes.now result
@@ -233,6 +286,8 @@ impl<Y: System + Drop> Files<Y> {
 
     /// Writes over an open file, and keeps it open.
     fn write_kept(&mut self, kept: KeptFile<Y::File>, at: u32, bytes: &[u8]) -> Result<(), Failed>
+        requires some { 1 ≤ length bytes.now }
+        requires locked { self.old.is_locked ≡ true }
         requires stands { Y.tells →
             Y.stands self.old.system kept.file (entry.File kept.name) ≡ true }
         ensures written { Y.tells → Wrote kept.name at bytes.now result
@@ -260,6 +315,7 @@ impl<Y: System + Drop> Files<Y> {
 
     /// Makes an open file durable.
     fn sync_open(&mut self, kept: KeptFile<Y::File>) -> Result<(), Failed>
+        requires locked { self.old.is_locked ≡ true }
         requires ready { self.old.is_ready ≡ true }
         requires swept { self.old.is_swept ≡ true }
         requires stands { Y.tells →
@@ -287,6 +343,7 @@ impl<Y: System + Drop> Files<Y> {
 
     /// Makes the bytes of an open file durable, and keeps it open.
     fn sync_kept(&mut self, kept: KeptFile<Y::File>) -> Result<(), Failed>
+        requires locked { self.old.is_locked ≡ true }
         requires ready { self.old.is_ready ≡ true }
         requires swept { self.old.is_swept ≡ true }
         requires trusted { self.old.has_failed ≡ false }
@@ -295,7 +352,7 @@ impl<Y: System + Drop> Files<Y> {
         ensures { Y.tells → Syncs Y.disk Y.moment Y.left_since kept.name result
             self.old.system self.new.system }
     {
-        let done = self.system.sync(&kept.file);
+        let done = self.system.sync_data(&kept.file);
         if done.is_err() {
             self.has_failed = true;
         }
@@ -305,6 +362,7 @@ impl<Y: System + Drop> Files<Y> {
 
     /// Replaces an open file by its own bytes, since no sync makes good one that failed.
     fn write_again(&mut self, kept: KeptFile<Y::File>) -> Result<(), Failed>
+        requires locked { self.old.is_locked ≡ true }
         requires ready { self.old.is_ready ≡ true }
         requires stands { Y.tells →
             Y.stands self.old.system kept.file (entry.File kept.name) ≡ true }
@@ -324,6 +382,20 @@ impl<Y: System + Drop> Files<Y> {
         ensures quiet { Y.tells →
             IsQuiet Y.disk Y.moment Y.left_since self.old.system self.new.system }
     {
+        if self.enter().is_err() {
+            return Err(ShelfFault::Failed);
+        }
+        self.read_there(alloc, name)
+    }
+
+    /// The same of a folder that is there.
+    fn read_there(&mut self, alloc: Global, name: Name) -> Result<Option<Bytes>, ShelfFault>
+        requires locked { self.old.is_locked ≡ true }
+        ensures found { Y.tells →
+            IfOk result (λ bytes. bytes ≡ files_of (Y.disk self.old.system) name) }
+        ensures quiet { Y.tells →
+            IsQuiet Y.disk Y.moment Y.left_since self.old.system self.new.system }
+    {
         match self.system.open(Entry::File(name)) {
             Ok(Some(file)) => Ok(Some(self.system.read(alloc, file)?)),
             Ok(None) => Ok(None),
@@ -338,10 +410,27 @@ impl<Y: System + Drop> Files<Y> {
         ensures quiet { Y.tells →
             IsQuiet Y.disk Y.moment Y.left_since self.old.system self.new.system }
     {
+        if self.enter().is_err() {
+            return Err(ShelfFault::Failed);
+        }
         let entries = self.system.list(alloc)?;
         match names_of(alloc, entries.as_slice()) {
             Ok(names) => Ok(names),
             Err(_) => Err(ShelfFault::NoMemory),
         }
     }
+}
+
+/// A file's bytes, with zero bytes up to a place where it ends before that.
+fn filled(alloc: Global, file: Option<Bytes>, at: u32) -> Result<Bytes, NoMemory>
+    ensures { IfOk result (λ made. made ≡ patched (unwrap_or file []) at []) }
+{
+    let mut bytes = match file {
+        Some(bytes) => bytes.into_vec(),
+        None => Vec::new(alloc),
+    };
+    if bytes.len() < at as usize {
+        bytes.resize(at as usize, 0)?;
+    }
+    Ok(List::from_vec(bytes))
 }

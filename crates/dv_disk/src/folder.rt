@@ -21,8 +21,9 @@ impl<Y: System + Drop> Folder<Y> {
     ghost use Rattle.dv_shelf.specs.Causes.{HasCause, HasCauseOf};
     ghost use Rattle.dv_disk.specs.States.{IsTrusted, IsPlaceTrusted};
 
-    /// A folder that the first change makes where it is missing. No sync may have failed on it
-    /// before: no later one would tell. This call makes no call of the system.
+    /// A folder that the first call makes where it is missing, and locks until this value is
+    /// dropped; where that fails, so does the call. No sync may have failed on the folder before:
+    /// no later one would tell. This call makes no call of the system.
     pub fn new(alloc: Global, system: Y) -> Folder<Y>
         requires trusted { IsTrusted false Y.tells (Y.disk system) }
         requires place_trusted { IsPlaceTrusted false Y.tells (Y.disk system) }

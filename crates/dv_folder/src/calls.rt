@@ -1,9 +1,10 @@
 use crate::names::{name_of, push_name};
+use crate::streams::write_error;
 use dv_model::{Bytes, List};
 use dv_shelf::{Failed, Name, ShelfFault};
 use dv_system::{Entry, System};
 use std::alloc::{AllocError, Global};
-use std::fs::{self, DirBuilder, File, OpenOptions};
+use std::fs::{self, DirBuilder, File, OpenOptions, TryLockError};
 use std::io::{self, ErrorKind, Read};
 use std::os::unix::fs::{DirBuilderExt, FileExt, OpenOptionsExt};
 use std::path::Path;
@@ -14,6 +15,9 @@ const LONGEST_NAME: usize = 20;
 /// The file that is written before it takes a name. No other call uses it.
 const TEMPORARY: &str = "dovecot.tmp";
 
+/// What is told of a folder that another process has.
+const IN_USE: &[u8] = b"sdbox: another process has the folder\n";
+
 /// The system's calls on a real folder, one each. Nothing is told of what they do.
 #[derive(Drop)]
 pub(crate) struct Calls {
@@ -23,6 +27,8 @@ pub(crate) struct Calls {
     /// Room for the path of a file, so that no call but a read or a list takes memory.
     path: String,
     temporary: String,
+    /// The folder, open and locked.
+    lock: Option<File>,
 }
 
 impl Calls {
@@ -44,6 +50,7 @@ impl Calls {
             folder,
             path,
             temporary,
+            lock: None,
         })
     }
 
@@ -52,6 +59,7 @@ impl Calls {
         ensures path { OnOk result
             (string_bytes self.new.path ≡ string_bytes self.old.folder ++ file_name name) }
         ensures folder { self.new.folder ≡ self.old.folder }
+        ensures lock { self.new.lock ≡ self.old.lock }
     {
         self.path.clear();
         self.path.push_str(self.folder.as_str())?;
@@ -59,7 +67,9 @@ impl Calls {
     }
 
     /// Opens a file for reading and writing.
-    fn open_with(&mut self, options: &OpenOptions, entry: Entry) -> io::Result<File> {
+    fn open_with(&mut self, options: &OpenOptions, entry: Entry) -> io::Result<File>
+        ensures lock { self.new.lock ≡ self.old.lock }
+    {
         match entry {
             Entry::File(name) => {
                 self.set_path(name)?;
@@ -69,12 +79,16 @@ impl Calls {
         }
     }
 
-    fn rename_to(&mut self, name: Name) -> io::Result<()> {
+    fn rename_to(&mut self, name: Name) -> io::Result<()>
+        ensures lock { self.new.lock ≡ self.old.lock }
+    {
         self.set_path(name)?;
         fs::rename(&self.rt, self.temporary.as_str(), self.path.as_str())
     }
 
-    fn unlink_file(&mut self, name: Name) -> io::Result<()> {
+    fn unlink_file(&mut self, name: Name) -> io::Result<()>
+        ensures lock { self.new.lock ≡ self.old.lock }
+    {
         self.set_path(name)?;
         fs::remove_file(&self.rt, self.path.as_str())
     }
@@ -113,7 +127,7 @@ impl Calls {
 }
 
 impl System for Calls {
-    ghost use Rattle.std.specs.Prelude.{false};
+    ghost use Rattle.std.specs.Prelude.{false, is_some};
     ghost use Rattle.dv_system.specs.Disks.{Firm};
     ghost use Rattle.dv_system.specs.Entries.{absent};
 
@@ -128,6 +142,26 @@ impl System for Calls {
     ghost moment = { λ _. 0 };
 
     ghost left_since = { λ _ _ _. Unit {0} };
+
+    ghost locked = { λ s. is_some s.lock };
+
+    fn lock(&mut self) -> Result<(), Failed> {
+        if self.lock.is_some() {
+            return Ok(());
+        }
+        let folder = answer(File::open(&self.rt, self.folder.as_str()))?;
+        match folder.try_lock() {
+            Ok(()) => {
+                self.lock = Some(folder);
+                Ok(())
+            }
+            Err(TryLockError::WouldBlock) => {
+                write_error(self.rt, IN_USE);
+                Err(Failed)
+            }
+            Err(TryLockError::Error(_)) => Err(Failed),
+        }
+    }
 
     fn open(&mut self, entry: Entry) -> Result<Option<File>, Failed> {
         let mut options = OpenOptions::new();
@@ -163,6 +197,10 @@ impl System for Calls {
 
     fn sync(&mut self, file: &File) -> Result<(), Failed> {
         answer(file.sync_all())
+    }
+
+    fn sync_data(&mut self, file: &File) -> Result<(), Failed> {
+        answer(file.sync_data())
     }
 
     fn rename(&mut self, name: Name) -> Result<(), Failed> {

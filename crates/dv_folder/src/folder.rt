@@ -13,8 +13,9 @@ pub struct Folder {
 }
 
 impl Folder {
-    /// The folder at a path, which is made by the first change where it is missing. This call
-    /// touches nothing of the disk.
+    /// The folder at a path. The first call on it makes it where it is missing, and locks it for
+    /// as long as this value is held; it fails where another process has it. This call touches
+    /// nothing of the disk.
     pub fn new(alloc: Global, rt: HostRuntime, path: &str) -> Result<Folder, NoMemory>
         ensures faults { IfOk result (λ shelf. shelf.shelf.faults ≡ 0) }
         ensures path { IfOk result (λ shelf. path_of shelf ≡ folder_path path.now) }

@@ -1,5 +1,7 @@
 -- Calls on an open file.
 use Rattle.std.proofs.Common.{◌≡◌, ◌⊎◌, inl, inr, ⊎_elim, ℕ, ◌/◌, ◌≤◌, true, false, List, [], length, take, Option, Some, None, Result, Ok, Err, OnOk, OnErr, refl, sym, ◌∙◌, ap, subst, arith}
+use Rattle.std.specs.Prelude.{nat_eq}
+use Rattle.std.proofs.lemmas.Bool.{eq-eqb, eqb-true}
 use Rattle.std.proofs.lemmas.List.{take_all}
 use Rattle.dv_system.specs.declared.system.Entry.{Entry}
 use Rattle.dv_system.specs.Entries.{At, written_at, synced_at, doubted_at}
@@ -43,6 +45,18 @@ module _ (entry : Entry) (at : ℕ) (bytes : List ℕ) (n : ℕ) (long : n ≡ l
 
   pub written_time : {T E : Type 0} (r : Result T E) → OnOk r (new ≡ with_step old (write_deed entry at n) bytes) → OnErr r (IsTried Hidden Shown bytes old new) → Time old new
   written_time r ok err = elapsed (write_deed entry at n) Hidden Shown bytes old new r ok err
+
+-- ---- a write of no bytes, and one of some
+
+pub not_some : (bytes : List ℕ) → nat_eq (length bytes) 0 ≡ true → 1 ≤ length bytes → ⊥
+not_some bytes none some =
+    let zero : length bytes ≡ 0 = eqb-true (length bytes) 0 none in
+    omega (arith, some, zero)
+
+pub not_none : (bytes : List ℕ) → nat_eq (length bytes) 0 ≡ false → length bytes ≡ 0 → ⊥
+not_none bytes some none =
+    let both : true ≡ false = sym (eq-eqb (length bytes) 0 none) ∙ some in
+    cc
 
 -- ---- the entry at which an open file stands
 

@@ -27,6 +27,7 @@ pub struct MemSystem {
     stop: Option<u32>,
     trace: Trace,
     calls: u64,
+    is_locked: bool,
 }
 
 impl MemSystem {
@@ -66,6 +67,7 @@ impl MemSystem {
             stop,
             trace,
             calls: 0,
+            is_locked: false,
         }
     }
 
@@ -169,6 +171,7 @@ impl MemSystem {
     fn add(&mut self, deed: Deed, bytes: &[u8]) -> Result<(), Failed>
         ensures ok { OnOk result (self.new.steps ≡ with_step self.old.steps deed bytes.now) }
         ensures err { OnErr result (self.new.steps ≡ self.old.steps) }
+        ensures lock { self.new.is_locked ≡ self.old.is_locked }
     {
         let Ok(bytes) = List::from_slice(self.alloc, bytes) else {
             return Err(Failed);
@@ -185,6 +188,7 @@ impl MemSystem {
         ensures ok { OnOk result (self.new.steps ≡ with_step self.old.steps done bytes.now) }
         ensures err { OnErr result
             (IsTried hidden shown bytes.now self.old.steps self.new.steps) }
+        ensures lock { self.new.is_locked ≡ self.old.is_locked }
     {
         match self.next_turn() {
             Turn::Passes => self.add(done, bytes),
@@ -202,7 +206,8 @@ impl MemSystem {
 
     /// A call that changes nothing.
     fn look(&mut self) -> Result<(), Failed>
-        ensures { self.new.steps ≡ self.old.steps }
+        ensures steps { self.new.steps ≡ self.old.steps }
+        ensures lock { self.new.is_locked ≡ self.old.is_locked }
     {
         if self.next_turn() == Turn::Passes {
             Ok(())
@@ -215,6 +220,7 @@ impl MemSystem {
     fn refuse(&mut self) -> Result<(), Failed>
         ensures err { IsErr result }
         ensures steps { self.new.steps ≡ self.old.steps }
+        ensures lock { self.new.is_locked ≡ self.old.is_locked }
     {
         let _ = self.next_turn();
         Err(Failed)
@@ -302,6 +308,7 @@ impl MemSystem {
             (read_at (at_entry (disk_of self.old) entry) ≡ None)
             (λ f. place_of self.new.steps f ≡ Some entry)) }
         ensures steps { self.new.steps ≡ self.old.steps }
+        ensures lock { self.new.is_locked ≡ self.old.is_locked }
     {
         let has = self.found(entry)?;
         self.look()?;
@@ -316,6 +323,7 @@ impl MemSystem {
         ensures found { (e : Entry) → place_of self.old.steps file ≡ Some e →
             IfOk result (λ bytes. read_at (at_entry (disk_of self.old) e) ≡ Some bytes) }
         ensures steps { self.new.steps ≡ self.old.steps }
+        ensures lock { self.new.is_locked ≡ self.old.is_locked }
     {
         let place = self.place(&file);
         if self.look().is_err() {
@@ -347,6 +355,7 @@ impl MemSystem {
             stands_at self.old f e ≡ true → stands_at self.new f e ≡ true }
         ensures time { Elapses (moment_of self.old) (moment_of self.new)
             (left_of self.old) (left_of self.new) (LeftBy (disk_of self.new)) }
+        ensures lock { self.new.is_locked ≡ self.old.is_locked }
     {
         let len = bytes.len();
         let half = len / 2;
@@ -370,6 +379,7 @@ impl MemSystem {
             ≡ with_step self.old.steps (synced_so entry true) []) }
         ensures err { OnErr result (IsTried (synced_so entry false) (synced_so entry false) []
             self.old.steps self.new.steps) }
+        ensures lock { self.new.is_locked ≡ self.old.is_locked }
     {
         let done = Deed::File {
             entry,
@@ -387,6 +397,7 @@ impl MemSystem {
             ≡ with_step self.old.steps (Deed.Rename name true) []) }
         ensures err { OnErr result (IsTried (Deed.Rename name false) (Deed.Rename name true) []
             self.old.steps self.new.steps) }
+        ensures lock { self.new.is_locked ≡ self.old.is_locked }
     {
         let done = Deed::Rename {
             name,
@@ -408,6 +419,7 @@ impl MemSystem {
             ≡ with_step self.old.steps (unlinked_so name true) [])) }
         ensures err { OnErr result (IsTried (unlinked_so name false) (unlinked_so name true) []
             self.old.steps self.new.steps) }
+        ensures lock { self.new.is_locked ≡ self.old.is_locked }
     {
         let entry = Entry::File(name);
         let done = Deed::File {
@@ -425,6 +437,7 @@ impl MemSystem {
     fn unlink_missing(&mut self) -> Result<bool, Failed>
         ensures ok { IfOk result (λ was. was ≡ false) }
         ensures steps { self.new.steps ≡ self.old.steps }
+        ensures lock { self.new.is_locked ≡ self.old.is_locked }
     {
         self.look()?;
         Ok(false)
@@ -433,6 +446,7 @@ impl MemSystem {
     fn list_there(&mut self, alloc: Global) -> Result<List<Entry>, ShelfFault>
         ensures found { IfOk result (λ entries. ListsEntries (disk_of self.old) entries) }
         ensures steps { self.new.steps ≡ self.old.steps }
+        ensures lock { self.new.is_locked ≡ self.old.is_locked }
     {
         let found = self.entries(alloc);
         if self.look().is_err() {
@@ -471,6 +485,15 @@ impl System for MemSystem {
 
     ghost left_since = { left_of };
 
+    ghost locked = { λ s. s.is_locked };
+
+    /// No other system has the folder, so it fails where the list of failing calls says so.
+    fn lock(&mut self) -> Result<(), Failed> {
+        self.look()?;
+        self.is_locked = true;
+        Ok(())
+    }
+
     fn open(&mut self, entry: Entry) -> Result<Option<MemFile>, Failed> {
         self.open_there(entry)
     }
@@ -494,6 +517,9 @@ impl System for MemSystem {
 
     /// A file that stands nowhere takes the bytes, and no one sees them.
     fn write(&mut self, file: &MemFile, at: u32, bytes: &[u8]) -> Result<(), Failed> {
+        if bytes.is_empty() {
+            return self.look();
+        }
         match self.place(file) {
             Some(entry) => self.write_there(entry, at, bytes),
             None => self.look(),
@@ -505,6 +531,10 @@ impl System for MemSystem {
             Some(entry) => self.sync_there(entry),
             None => self.look(),
         }
+    }
+
+    fn sync_data(&mut self, file: &MemFile) -> Result<(), Failed> {
+        self.sync(file)
     }
 
     fn rename(&mut self, name: Name) -> Result<(), Failed> {

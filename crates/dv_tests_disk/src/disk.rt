@@ -201,6 +201,56 @@ fn changes_are_read_and_listed(rt: HostRuntime) -> Result<(), Fail> {
     Ok(())
 }
 
+/// How many of a folder's calls fail.
+fn count_failures(alloc: Global, folder: &mut Folder<MemSystem>) -> u32 {
+    let failures = [
+        folder.list(alloc).is_err(),
+        folder.read(alloc, Name::Log).is_err(),
+        folder.write_at(Name::Log, 0, b"log").is_err(),
+        folder.sync(Name::Log).is_err(),
+        folder.replace(Name::Log, b"log").is_err(),
+        folder.remove(Name::Log).is_err(),
+    ];
+    let mut count = 0u32;
+    for has_failed in failures {
+        count = count.saturating_add(u32::from(has_failed));
+    }
+    count
+}
+
+#[test]
+fn nothing_is_done_without_the_lock(rt: HostRuntime) -> Result<(), Fail> {
+    let alloc = rt.alloc();
+    // Each of the six makes the folder, and is refused its lock.
+    let mut folder = new_folder(alloc, &[2, 4, 6, 8, 10, 12], None, Trace::Shown)?;
+    assert_eq!(rt; count_failures(alloc, &mut folder), 6);
+    assert_eq!(rt; folder.faults(), 6);
+    assert_eq!(rt; folder.system().call_count(), 12);
+    assert_eq!(rt; count_failures(alloc, &mut folder), 0);
+    Ok(())
+}
+
+/// A write of no bytes at a place leaves this file.
+fn fills(
+    rt: &impl Abort,
+    alloc: Global,
+    folder: &mut Folder<MemSystem>,
+    at: u32,
+    expected: &[u8],
+) -> Result<(), Fail> {
+    assert!(rt; folder.write_at(Name::Log, at, b"").is_ok());
+    file_is(rt, alloc, folder, Name::Log, expected)
+}
+
+#[test]
+fn a_write_of_no_bytes_fills_a_gap(rt: HostRuntime) -> Result<(), Fail> {
+    let alloc = rt.alloc();
+    let mut folder = new_folder(alloc, &[], None, Trace::Nothing)?;
+    fills(&rt, alloc, &mut folder, 2, b"\0\0")?;
+    fills(&rt, alloc, &mut folder, 1, b"\0\0")?;
+    fills(&rt, alloc, &mut folder, 5, b"\0\0\0\0\0")
+}
+
 /// Each call fails alone, and leaves this trace.
 fn one_call_fails(rt: &impl Abort, alloc: Global, trace: Trace) -> Result<(), Fail> {
     let count = u32::try_from(count_calls(rt, alloc)?).unwrap_or(u32::MAX);
@@ -284,6 +334,7 @@ fn what_is_not_synced_may_be_lost(rt: HostRuntime) -> Result<(), Fail> {
     assert!(rt; system.make_folder().is_ok());
     assert!(rt; system.sync_parent().is_ok());
     let file = system.create(Entry::Temporary).ok().ok_or("create")?;
+    assert!(rt; system.write(&file, 9, b"").is_ok());
     assert!(rt; system.write(&file, 0, b"text").is_ok());
     assert!(rt; system.rename(Name::Log).is_ok());
     assert!(rt; shows(alloc, &system, None)?);
@@ -293,7 +344,7 @@ fn what_is_not_synced_may_be_lost(rt: HostRuntime) -> Result<(), Fail> {
     assert!(rt; system.sync_folder().is_ok());
     assert!(rt; !shows(alloc, &system, None)?);
     assert!(rt; shows(alloc, &system, Some(b""))?);
-    assert!(rt; system.sync(&file).is_ok());
+    assert!(rt; system.sync_data(&file).is_ok());
     assert!(rt; !shows(alloc, &system, Some(b""))?);
     assert!(rt; shows(alloc, &system, Some(b"text"))?);
     Ok(())

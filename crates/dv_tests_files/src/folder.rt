@@ -33,13 +33,13 @@ fn files_of_a_real_folder(rt: HostRuntime) -> Result<(), Fail> {
     let id = process::id(rt.process());
     let path = format!(in alloc; "folder_of_test_{id}")?;
     let mut shelf = Folder::new(alloc, rt, path.as_str())?;
-    assert!(rt; shelf.list(alloc).ok().ok_or("list")?.is_empty());
-    assert!(rt; shelf.read(alloc, Name::Log).ok().ok_or("read")?.is_none());
     assert!(rt; !fs::exists(&rt, path.as_str())?);
+    assert!(rt; shelf.list(alloc).ok().ok_or("list")?.is_empty());
+    assert!(rt; fs::exists(&rt, path.as_str())?);
+    assert!(rt; shelf.read(alloc, Name::Log).ok().ok_or("read")?.is_none());
 
     assert!(rt; shelf.sync(Name::Log).is_ok());
     assert!(rt; shelf.remove(Name::Mail(7)).is_ok());
-    assert!(rt; fs::exists(&rt, path.as_str())?);
     assert!(rt; shelf.replace(Name::Log, b"log").is_ok());
     assert!(rt; shelf.write_at(Name::Log, 1, b"ive").is_ok());
     assert!(rt; shelf.write_at(Name::Mail(4_294_967_295), 2, b"x").is_ok());
@@ -66,6 +66,45 @@ fn files_of_a_real_folder(rt: HostRuntime) -> Result<(), Fail> {
     assert!(rt; shelf.remove(Name::Log).is_ok());
     assert!(rt; shelf.read(alloc, Name::Log).ok().ok_or("read")?.is_none());
     assert_eq!(rt; shelf.faults(), 0);
+    fs::remove_dir_all(&rt, path.as_str())?;
+    Ok(())
+}
+
+/// How many of a folder's calls fail.
+fn count_failures(alloc: Global, folder: &mut Folder) -> u32 {
+    let failures = [
+        folder.replace(Name::Log, b"kept").is_err(),
+        folder.list(alloc).is_err(),
+        folder.read(alloc, Name::Log).is_err(),
+    ];
+    let mut count = 0u32;
+    for has_failed in failures {
+        count = count.saturating_add(u32::from(has_failed));
+    }
+    count
+}
+
+/// How many calls fail of a folder that is in use, behind one of which none may.
+fn count_refused(rt: HostRuntime, alloc: Global, path: &str) -> Result<u32, Fail> {
+    let mut first = Folder::new(alloc, rt, path)?;
+    let failed = count_failures(alloc, &mut first);
+    let mut second = Folder::new(alloc, rt, path)?;
+    let refused = count_failures(alloc, &mut second);
+    if failed != 0 || count_failures(alloc, &mut first) != 0 {
+        return Ok(0);
+    }
+    Ok(refused)
+}
+
+#[test]
+fn a_folder_that_is_in_use_is_a_fault(rt: HostRuntime) -> Result<(), Fail> {
+    let alloc = rt.alloc();
+    let id = process::id(rt.process());
+    let path = format!(in alloc; "folder_in_use_{id}")?;
+    assert_eq!(rt; count_refused(rt, alloc, path.as_str())?, 3);
+    let mut third = Folder::new(alloc, rt, path.as_str())?;
+    contents_are(&rt, alloc, &mut third, Name::Log, b"kept")?;
+    assert_eq!(rt; third.faults(), 0);
     fs::remove_dir_all(&rt, path.as_str())?;
     Ok(())
 }

@@ -10,9 +10,10 @@ returns-in_err-rename g c = record {
   puts = λ tells that durable.
       let Y = g.Y.System in
       let old = c.args.self.now.system in
+      let held = c.args.self.now.held c.requires.locked in
       put_failed Y.disk Y.moment Y.left_since g.met.Y.System.counts_now c.args.name that old (c.args.self.now.ready c.requires.ready tells) (g.met.Y.System.readable old tells)
       c.from_residual.result c.rename.new.self (Y.disk old).temporary.is_doubted (passed c.from_residual.result _ c.from_residual.ensures.1)
-      (rename_failed (Y.disk old) _ c.args.name that durable (c.in_err-rename.ensures.err tells)) (c.rename.ensures.time tells);
+      (rename_failed (Y.disk old) _ c.args.name that durable (c.in_err-rename.ensures.err tells held)) (c.rename.ensures.time tells held);
 }
 
 pub returns : goal.returns
@@ -20,12 +21,13 @@ returns g c = record {
   puts = λ tells that durable.
       let Y = g.Y.System in
       let old = c.args.self.now.system in
+      let held = c.args.self.now.held c.requires.locked in
       let mid = c.rename.new.self in
       let new = c.sweep.new.self.system in
       let n = c.args.name in
       let b = (Y.disk old).temporary.is_doubted in
       let at = put_at (settled_version that) b ((Y.disk old).named n) in
-      let is = c.in_ok-rename.ensures.ok tells in
+      let is = c.in_ok-rename.ensures.ok tells held in
       let place = same_place (Y.disk old) (Y.disk mid) _ is refl in
       let names = renamed_names (Y.disk old) (Y.disk mid) n that durable is in
       let all = c.args.self.now.swept c.requires.swept tells in
@@ -33,5 +35,5 @@ returns g c = record {
       c.sweep.result mid new b (renamed_at (Y.disk old) (Y.disk mid) n that durable is)
       (swept_there (Y.disk old) (Y.disk mid) (Y.disk new) n at place names all c.sweep.result (c.sweep.ensures.ok tells))
       (unsure_there (Y.disk old) (Y.disk mid) (Y.disk new) n at place names all c.sweep.result (c.sweep.ensures.err tells))
-      (c.rename.ensures.time tells) (c.sweep.ensures.time tells);
+      (c.rename.ensures.time tells held) (c.sweep.ensures.time tells);
 }

@@ -8,5 +8,6 @@ returns g c = λ tells.
     let files = c.args.self.now in
     let n = c.args.kept.name in
     let stands = c.requires.stands tells in
-    synced Y.disk Y.moment Y.left_since g.met.Y.System.counts_now n files.system (files.ready c.requires.ready tells) (g.met.Y.System.readable files.system tells) c.sync-done.result c.sync-done.new.self
-    (files.swept c.requires.swept tells n) (files.trusted c.requires.trusted tells n) (c.sync-done.ensures.ok tells (entry.File n) stands) (c.sync-done.ensures.err tells (entry.File n) stands) (c.sync-done.ensures.time tells)
+    let held = files.held c.requires.locked in
+    synced Y.disk Y.moment Y.left_since g.met.Y.System.counts_now n files.system (files.ready c.requires.ready tells) (g.met.Y.System.readable files.system tells) c.sync_data-done.result c.sync_data-done.new.self
+    (files.swept c.requires.swept tells n) (files.trusted c.requires.trusted tells n) (c.sync_data-done.ensures.ok tells held (entry.File n) stands) (c.sync_data-done.ensures.err tells held (entry.File n) stands) (c.sync_data-done.ensures.time tells held)

@@ -9,7 +9,8 @@ returns g c = λ tells.
     let Y = g.Y.System in
     let files = c.args.self.now in
     let n = c.args.kept.name in
-    let found = c.in-Ok.ensures.found tells (entry.File n) (c.requires.stands tells) in
+    let held = files.held c.requires.locked in
+    let found = c.in-Ok.ensures.found tells held (entry.File n) (c.requires.stands tells) in
     written_again Y.disk Y.moment Y.left_since g.met.Y.System.counts_now n files.system c.read.new.self c.replace.new.self.system c.replace.result c.in-Ok.bytes
-    (files.ready c.requires.ready tells) (g.met.Y.System.readable files.system tells) (c.read.ensures.disk tells) (c.read.ensures.time tells) found
+    (files.ready c.requires.ready tells) (g.met.Y.System.readable files.system tells) (c.read.ensures.disk tells held) (c.read.ensures.time tells held) found
     (subst (λ (b : List ℕ). Puts Y.disk Y.moment Y.left_since n (Some b) c.replace.result c.read.new.self c.replace.new.self.system) c.as_slice.ensures (c.replace.ensures tells))

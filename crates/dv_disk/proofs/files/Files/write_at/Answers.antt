@@ -1,7 +1,8 @@
-use Rattle.std.proofs.Common.{◌∙◌}
+use Rattle.std.proofs.Common.{[], List, ℕ, ◌∙◌, subst, sym}
+use Rattle.dv_disk.specs.Steps.{Writes}
 use Rattle.dv_disk.proofs.Runs.{quiet_on, writes_behind, writes_nothing}
 use Rattle.dv_disk.proofs.Calls.{passed}
-use Rattle.dv_disk.proofs.Writing.{wrote}
+use Rattle.dv_disk.proofs.Writing.{none_left, wrote}
 use Rattle.dv_disk.proofs.files.Files.write_at.Goals as goal
 
 pub returns-in_err-make_ready : goal.returns-in_err-make_ready
@@ -9,6 +10,15 @@ returns-in_err-make_ready g c = λ tells.
     let Y = g.Y.System in
     writes_nothing Y.moment Y.left_since Y.disk g.met.Y.System.counts_now c.args.self.now.system c.make_ready.new.self.system c.args.name c.args.at c.args.bytes.now c.from_residual.result
     (passed c.from_residual.result _ c.from_residual.ensures.1) (c.make_ready.ensures.quiet tells)
+
+pub returns-then-is_empty : goal.returns-then-is_empty
+returns-then-is_empty g c = λ tells.
+    let Y = g.Y.System in
+    let old = c.args.self.now.system in
+    let new = c.fill.new.self.system in
+    let n = c.args.name in
+    subst (λ (b : List ℕ). Writes Y.disk Y.moment Y.left_since n c.args.at b c.fill.result old new) (sym (none_left c.args.bytes.now (sym c.is_empty.ensures ∙ c.if-is_empty.true)))
+    (writes_behind Y.moment Y.left_since Y.disk g.met.Y.System.counts_now old c.make_ready.new.self.system new n c.args.at [] c.fill.result (c.make_ready.ensures.quiet tells) (c.fill.ensures tells))
 
 pub returns-in_err-file : goal.returns-in_err-file
 returns-in_err-file g c = λ tells.

@@ -5,10 +5,10 @@ use Rattle.dv_memory_system.proofs.Standing.{still_same}
 use Rattle.dv_memory_system.proofs.system.MemSystemSystem.list.Goals as goal
 
 pub returns-clause-disk : goal.returns-clause-disk
-returns-clause-disk c = λ told. ap disk_after c.list_there.ensures.steps
+returns-clause-disk c = λ told held. ap disk_after c.list_there.ensures.steps
 
 pub returns-clause-open : goal.returns-clause-open
-returns-clause-open c = λ told file e. still_same file e c.args.self.now.steps c.list_there.new.self.steps c.list_there.ensures.steps
+returns-clause-open c = λ told held file e. still_same file e c.args.self.now.steps c.list_there.new.self.steps c.list_there.ensures.steps
 
 pub returns-clause-time : goal.returns-clause-time
-returns-clause-time c = λ told. stays_same c.args.self.now.steps c.list_there.new.self.steps c.list_there.ensures.steps
+returns-clause-time c = λ told held. stays_same c.args.self.now.steps c.list_there.new.self.steps c.list_there.ensures.steps
