@@ -28,8 +28,8 @@ use Rattle.dv_writes.specs.declared.steps.Files.TheVariants as kind
 use Rattle.dv_writes.specs.declared.steps.Steps.{Steps}
 use Rattle.dv_writes.specs.Steps.{HasWritten, HoldsFiles, IsNamed, IsOfLog, KeepsUnnamed}
 use Rattle.dv_writes.specs.Ways.{IsDue, KeepsMails, MakesWay, MakesWayQuietly, MayGiveOn, ready}
-use Rattle.dv_writes.specs.Writes.{AreFilesOf, CarriesOut, IsAfter, IsLeftOwed, IsWriteOf, MayGiveWrite, Write, WritesStore, log_with}
-use Rattle.dv_writes.proofs.Ready.{gives_ready, repaired_indexid, repaired_live, repaired_place, same_indexid, same_live}
+use Rattle.dv_writes.specs.Writes.{AreFilesOf, CarriesOut, IsAfter, IsWriteOf, MayGiveWrite, MayOweGate, Write, WritesStore, log_with}
+use Rattle.dv_writes.proofs.Ready.{gives_ready, repaired_indexid, repaired_live, same_indexid, same_live}
 
 -- ---- the chain
 
@@ -37,14 +37,14 @@ module _ (owed : Option Turn) (text : List ℕ) (steps : Steps) (chain : Chain) 
   abbrev on : Chain
   on = ready owed steps.turn chain
 
-  pub carry_stopped : {T E F : Type 0} (left : Option Turn) (mid : Chain) (e : E) (f : F) → IsDue owed chain steps.turn → MakesWay owed left steps.turn chain mid {T = T} {E = E} (Err e) → CarriesOut owed left text steps chain mid {E = F} (Err f)
-  carry_stopped left mid e f due way = record {
+  pub carry_stopped : {T E F : Type 0} (left : Option Turn) (mid : Chain) (e : E) (f : F) → MakesWay owed left steps.turn chain mid {T = T} {E = E} (Err e) → CarriesOut owed left text steps chain mid {E = F} (Err f)
+  carry_stopped left mid e f way = record {
     mailbox = λ after pending. tt;
     mark = tt;
     touched = tt;
     paid = tt;
     failed = ⊎_elim (λ same. ap (λ (k : Chain). k.live) same.0) (λ paid. ap (λ (k : Chain). k.live) paid.0 ∙ repaired_live owed chain) way.failed;
-    place = ⊎_elim (λ same. inl (ap place_of same.0)) (λ paid. repaired_place owed steps.turn chain mid due paid.0) way.failed;
+    place = inl way.failed;
     indexid = ⊎_elim (λ same. ap (λ (k : Chain). k.indexid) same.0) (λ paid. ap (λ (k : Chain). k.indexid) paid.0 ∙ repaired_indexid owed chain) way.failed;
     owing = way.owing;
   }
@@ -66,12 +66,16 @@ module _ (owed : Option Turn) (text : List ℕ) (steps : Steps) (chain : Chain) 
       touched = tt;
       paid = tt;
       failed = live_then;
-      place = inr (ap place_of way.ok.0);
+      place = inr (ap place_of way.ok.0, way.ok.1);
       indexid = indexid_then;
       owing = way.owing;
     }
 
     module _ (next : Chain) where
+      -- a group that failed leaves the chain where it begins
+      pub failed_place : {E : Type 0} (e : E) → AdvancesChain text mid next {E = E} (Err e) → place_of next ≡ place_of on
+      failed_place e value = (λ i. record { file_seq = value.file.0 i; offset = value.failed.1 i }) ∙ ap place_of way.ok.0
+
       pub carry_failed : {E F : Type 0} (e : E) (f : F) → AdvancesChain text mid next {E = E} (Err e) → CarriesOut owed left text steps chain next {E = F} (Err f)
       carry_failed e f value = record {
         mailbox = λ after pending. tt;
@@ -79,7 +83,7 @@ module _ (owed : Option Turn) (text : List ℕ) (steps : Steps) (chain : Chain) 
         touched = tt;
         paid = tt;
         failed = value.failed.0 ∙ live_then;
-        place = inr ((λ i. record { file_seq = value.file.0 i; offset = value.failed.1 i }) ∙ ap place_of way.ok.0);
+        place = inr (failed_place e value, way.ok.1);
         indexid = value.file.1 ∙ indexid_then;
         owing = owing_then next (λ owing. record { bounds = value.bounds owing.bounds; owed = tt });
       }
@@ -149,10 +153,10 @@ module _ {S : Type 0} (files : S → Folder) (may_leave : S → Folder → Type 
   abbrev May : Folder → Type 0
   May = MayGiveWrite log debt write owed text steps chain
 
-  way_since : {T E : Type 0} (left : Option Turn) (mid : Chain) (way : S) (result : Result T E) → MakesWayQuietly may_leave moment left_since log debt left steps.turn chain mid result old way → LeavesOnly moment left_since old way May
+  way_since : {T E : Type 0} (left : Option Turn) (mid : Chain) (way : S) (result : Result T E) → MakesWayQuietly may_leave moment left_since log debt owed left steps.turn chain mid result old way → LeavesOnly moment left_since old way May
   way_since left mid way result quiet = weaker moment left_since old way (MayGiveOn log debt steps.turn chain) May quiet.since (λ c gives. inl gives)
 
-  pub stores_stopped : {T U E F : Type 0} (left : Option Turn) (mid : Chain) (way : S) (e : E) (f : F) → MakesWayQuietly may_leave moment left_since log debt left steps.turn chain mid {T = T} {E = E} (Err e) old way → KeepsMails (files old) (files way) → Stores {T = U} {E = F} left mid (Err f) way
+  pub stores_stopped : {T U E F : Type 0} (left : Option Turn) (mid : Chain) (way : S) (e : E) (f : F) → MakesWayQuietly may_leave moment left_since log debt owed left steps.turn chain mid {T = T} {E = E} (Err e) old way → KeepsMails (files old) (files way) → Stores {T = U} {E = F} left mid (Err f) way
   stores_stopped left mid way e f quiet keeps = record {
     ok = tt;
     err =
@@ -179,7 +183,7 @@ module _ {S : Type 0} (files : S → Folder) (may_leave : S → Folder → Type 
     pub next_here : (shelf : S) → KeepsNext may_leave log (log_with log write mid.live.mailbox) is_write.after shelf → KeepsNext may_leave log (log_with log write m) is_write.after shelf
     next_here shelf next = subst (λ (k : Mailbox). KeepsNext may_leave log (log_with log write k) is_write.after shelf) same_mailbox next
 
-    module _ (due : IsDue owed chain steps.turn) (fits : Fits owed debt) (quiet : MakesWayQuietly may_leave moment left_since log debt left steps.turn chain mid {T = X} {E = D} (Ok x) old way) (keeps : KeepsMails (files old) (files way))
+    module _ (due : IsDue owed chain steps.turn) (fits : Fits owed debt) (quiet : MakesWayQuietly may_leave moment left_since log debt owed left steps.turn chain mid {T = X} {E = D} (Ok x) old way) (keeps : KeepsMails (files old) (files way))
         (between : S) (before : IsQuiet may_leave moment left_since log mid way between) (unnamed : KeepsUnnamed mid.live.mailbox steps.files (files way) (files between)) where
       fits_none : Fits left Nothing
       fits_none = subst (λ (o : Option Turn). Fits o Nothing) (sym value.ok.1) tt
@@ -195,7 +199,7 @@ module _ {S : Type 0} (files : S → Folder) (may_leave : S → Folder → Type 
       pub stores_halted : {T F : Type 0} (f : F) → Stores {T = T} {E = F} left mid (Err f) between
       stores_halted f = record {
         ok = tt;
-        err = (Nothing, inl (inr (inl refl)), fits_none, before.stands);
+        err = (Nothing, inr (ap place_of value.ok.0, value.ok.1, inl refl), fits_none, before.stands);
         any_moment = files_since;
         written = written_halted m steps.files (files old) (files way) keeps (files between) unnamed_here f;
       }
@@ -215,14 +219,19 @@ module _ {S : Type 0} (files : S → Folder) (may_leave : S → Folder → Type 
         owed_after log_debt.None = fits_none
         owed_after log_debt.Gate = subst (λ (o : Option Turn). Fits o (Pending text is_write.after (log_with log write m))) (sym value.ok.1) tt
 
-        left_owed : (gate : LogDebt) → IsLeftOwed log debt write text m (debt_after gate text is_write.after (log_with log write m))
-        left_owed log_debt.None = inl (inr (inl refl))
-        left_owed log_debt.Gate = inr (is_write.after, is_write.gives, refl)
+        gate_after : (gate : LogDebt) → MayOweGate log write text m (debt_after gate text is_write.after (log_with log write m))
+        gate_after log_debt.None = inl refl
+        gate_after log_debt.Gate = inr (is_write.after, is_write.gives, refl)
 
-        pub stores_failed : {E T F : Type 0} (e : E) (f : F) → Groups {E = E} next (Err e) new → Stores {T = T} {E = F} left next (Err f) new
-        stores_failed e f group = record {
+        pub stores_failed : {E T F : Type 0} (e : E) (f : F) → AdvancesChain text mid next {E = E} (Err e) → Groups {E = E} next (Err e) new → Stores {T = T} {E = F} left next (Err f) new
+        stores_failed e f advances group = record {
           ok = tt;
-          err = (debt_after next.log.debt text is_write.after (log_with log write m), left_owed next.log.debt, owed_after next.log.debt, group.err);
+          err = (
+            debt_after next.log.debt text is_write.after (log_with log write m),
+            inr (failed_place owed text steps chain left mid x value next e advances, value.ok.1, gate_after next.log.debt),
+            owed_after next.log.debt,
+            group.err,
+          );
           any_moment = group_since (Err e) group;
           written = written_failed m steps.files (files old) (files way) keeps (files between) unnamed_here (files new) group.others f;
         }

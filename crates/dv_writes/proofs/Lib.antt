@@ -3,3 +3,4 @@ pub mod Making
 pub mod Filing
 pub mod Next
 pub mod Carried
+pub mod Left

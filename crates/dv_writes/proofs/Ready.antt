@@ -1,5 +1,6 @@
 -- The chain behind what is owed and due, and what its place gives.
-use Rattle.std.proofs.Common.{◌≡◌, ◌⊎◌, inl, inr, ◌<◌, Option, Some, None, Ok, refl, sym, ◌∙◌, ap, subst}
+use Rattle.std.proofs.Common.{◌≡◌, inl, inr, ⊎_elim, ◌<◌, Option, Some, None, Ok, refl, sym, ◌∙◌, ap, subst}
+use Rattle.std.specs.Prelude.{IsSome}
 use Rattle.dv_model.specs.Journals.{Log}
 use Rattle.dv_shelf.specs.Folders.{Folder}
 use Rattle.dv_logfile.specs.declared.commit.Debt.TheVariants as log_debt
@@ -11,7 +12,7 @@ use Rattle.dv_rotation.specs.Texts.{IsTurnOf, place_of, turned}
 use Rattle.dv_keeping.specs.Debts.{Debt, Fits, Last, MayGive, Nothing, Pending}
 use Rattle.dv_keeping.specs.Keeping.{Gives}
 use Rattle.dv_keeping.specs.Repairing.{IsOwing, Repairs}
-use Rattle.dv_writes.specs.Ways.{IsDue, MayGiveOn, healed, ready, repaired}
+use Rattle.dv_writes.specs.Ways.{IsDue, MayGiveOn, StopsOnWay, healed, ready, repaired}
 
 -- ---- the chain
 
@@ -58,11 +59,18 @@ pub repaired_indexid : (owed : Option Turn) (chain : Chain) → (repaired owed c
 repaired_indexid None chain = refl
 repaired_indexid (Some turn) chain = refl
 
--- its place is the old one's or the ready one's
-pub repaired_place : (owed turn : Option Turn) (chain next : Chain) → IsDue owed chain turn → next ≡ repaired owed chain → (place_of next ≡ place_of chain) ⊎ (place_of next ≡ place_of (ready owed turn chain))
-repaired_place None turn chain next due is = inl (ap place_of is)
-repaired_place (Some owed) None chain next due is = inr (ap place_of is)
-repaired_place (Some owed) (Some turn) chain next due is = absurd (let no : Some owed ≡ None = due.2 in cc)
+-- no turn is owed where one is due
+pub due_none : (owed turn : Option Turn) (chain : Chain) → IsDue owed chain turn → IsSome turn → owed ≡ None
+due_none owed None chain due some = absurd cc
+due_none owed (Some turn) chain due some = due.2
+
+-- so what is repaired there is at its place
+pub paid_place : (owed turn : Option Turn) (chain next : Chain) → IsDue owed chain turn → IsSome turn → next ≡ repaired owed chain → place_of next ≡ place_of chain
+paid_place owed turn chain next due some is = ap place_of (is ∙ ap (λ (o : Option Turn). repaired o chain) (due_none owed turn chain due some))
+
+-- a chain that stopped on the way is at its place
+pub stopped_place : (owed left turn : Option Turn) (chain next : Chain) → IsDue owed chain turn → StopsOnWay owed left turn chain next → place_of next ≡ place_of chain
+stopped_place owed left turn chain next due = ⊎_elim (λ same. ap place_of same.0) (λ paid. paid_place owed turn chain next due paid.1 paid.0)
 
 -- a turn that was made before is one of the chain behind it
 pub due_room : {T E : Type 0} (x : T) (owed left : Option Turn) (turn : Turn) (chain next : Chain) → IsOwing chain owed → Repairs owed left chain next {T = T} {E = E} (Ok x) → IsDue owed chain (Some turn) → next.log.file_seq < 4294967295

@@ -10,7 +10,7 @@ use Rattle.dv_chain.specs.declared.chain.Chain.{Chain}
 use Rattle.dv_chain.specs.Rest.{next_mark}
 use Rattle.dv_rotation.specs.declared.texts.Turn.{Turn}
 use Rattle.dv_rotation.specs.Texts.{IsTurnOf, turned}
-use Rattle.dv_keeping.specs.Debts.{Debt, Fits, Last, MayGive, Nothing, Stands}
+use Rattle.dv_keeping.specs.Debts.{Debt, Fits, Last, MayGive, Nothing, Stands, debt_of}
 use Rattle.dv_keeping.specs.Keeping.{Gives}
 use Rattle.dv_keeping.specs.Repairing.{IsOwing}
 
@@ -35,13 +35,18 @@ abbrev pub IsDue : Option Turn → Chain → Option Turn → Type 0
 IsDue owed chain turn =
     IfSome turn (λ t. IsTurnOf chain t × (chain.log.file_seq < 4294967295) × (owed ≡ None))
 
--- Behind Ok nothing is owed, and the chain is ready. An error leaves all as it was; or what was
--- owed is paid, and the rotation wasn't made, or its last replace is owed.
+-- An error leaves chain and turn as they were; or, where a rotation was due, what was owed is paid,
+-- and the rotation wasn't made, or its last replace is owed.
+abbrev pub StopsOnWay : Option Turn → Option Turn → Option Turn → Chain → Chain → Type 0
+StopsOnWay owed left turn old new =
+    ((new ≡ old) × (left ≡ owed))
+    ⊎ ((new ≡ repaired owed old) × IsSome turn × ((left ≡ None) ⊎ (left ≡ turn)))
+
+-- Behind Ok nothing is owed, and the chain is ready. An error stops on the way there.
 pub record MakesWay (owed left turn : Option Turn) (old new : Chain) {T E : Type 0}
     (result : Result T E) : Type 0 where
   pub ok : OnOk result ((new ≡ ready owed turn old) × (left ≡ None))
-  pub failed : OnErr result (((new ≡ old) × (left ≡ owed))
-      ⊎ ((new ≡ repaired owed old) × ((left ≡ None) ⊎ (left ≡ turn))))
+  pub failed : OnErr result (StopsOnWay owed left turn old new)
   pub owing : IsOwing new left
 
 -- ---- the folder
@@ -53,19 +58,24 @@ MayGiveOn log debt turn chain c =
     MayGive log debt chain c
     ⊎ (IsSome turn × Gives log chain.live.mailbox (next_mark chain) c)
 
--- what is owed then: the same, nothing, or the last replace of a rotation
-abbrev pub IsOwedBehind : Debt → Debt → Type 0
-IsOwedBehind before now = (now ≡ before) ⊎ (now ≡ Nothing) ⊎ ((new : List ℕ) × (now ≡ Last new))
+-- What an error leaves of chain, turn and debt together: all as it was; or, where a rotation was
+-- due, what was owed is paid, and nothing is owed, or the rotation's last replace.
+abbrev pub IsLeftOnWay : Option Turn → Option Turn → Option Turn → Chain → Chain → Debt → Debt
+    → Type 0
+IsLeftOnWay owed left turn old new debt now =
+    ((new ≡ old) × (left ≡ owed) × (now ≡ debt))
+    ⊎ ((new ≡ repaired owed old) × IsSome turn × (left ≡ None) × (now ≡ Nothing))
+    ⊎ ((new ≡ repaired owed old) × IsSome turn × (left ≡ turn) × (now ≡ debt_of turn))
 
--- From rest to rest: behind Ok nothing is owed. A crash at any moment leaves a folder that gives
--- the mailbox, or that with what was owed.
+-- From rest to rest: behind Ok nothing is owed, behind an error what is left says. A crash at any
+-- moment leaves a folder that gives the mailbox, or that with what was owed.
 pub record MakesWayQuietly {S : Type 0} (may_leave : S → Folder → Type 0) (moment : S → ℕ)
-    (left_since : S → ℕ → Folder → Type 0) (log : Log) (debt : Debt) (left turn : Option Turn)
+    (left_since : S → ℕ → Folder → Type 0) (log : Log) (debt : Debt) (owed left turn : Option Turn)
     (chain new_chain : Chain) {T E : Type 0} (result : Result T E) (old new : S) : Type 0 where
   pub since : LeavesOnly moment left_since old new (MayGiveOn log debt turn chain)
   pub ok : OnOk result (Stands may_leave log Nothing new_chain new)
-  pub err : OnErr result ((now : Debt) × IsOwedBehind debt now × Fits left now
-      × Stands may_leave log now new_chain new)
+  pub err : OnErr result ((now : Debt) × IsLeftOnWay owed left turn chain new_chain debt now
+      × Fits left now × Stands may_leave log now new_chain new)
 
 -- the cache file and the message files are as before
 pub record KeepsMails (old new : Folder) : Type 0 where

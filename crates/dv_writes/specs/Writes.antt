@@ -30,13 +30,13 @@ use Rattle.dv_writes.specs.declared.steps.Files.TheVariants as files
 use Rattle.dv_writes.specs.declared.steps.Renewal.{Renewal}
 use Rattle.dv_writes.specs.declared.steps.Steps.{Steps}
 use Rattle.dv_writes.specs.Steps.{HasWritten}
-use Rattle.dv_writes.specs.Ways.{IsOwedBehind, MayGiveOn, ready}
+use Rattle.dv_writes.specs.Ways.{IsLeftOnWay, MayGiveOn, StopsOnWay, ready}
 
 -- ---- the chain
 
 -- Behind Ok the mailbox has the group, the mark is the place behind it, the touched UIDs are handed
--- out, and nothing is owed. An error keeps the mailbox, and leaves the chain at its place, or where
--- it is behind what was owed and due.
+-- out, and nothing is owed. An error keeps the mailbox, and stops on the way, or leaves the chain
+-- where the group begins; then no turn is owed.
 pub record CarriesOut (owed left : Option Turn) (text : List ℕ) (steps : Steps) (old new : Chain)
     {E : Type 0} (result : Result Committed E) : Type 0 where
   pub mailbox : (after : Mailbox) → IsPending text after (ready owed steps.turn old)
@@ -47,8 +47,8 @@ pub record CarriesOut (owed left : Option Turn) (text : List ℕ) (steps : Steps
       ↔ IsTouched old.live.mailbox new.live.mailbox uid)
   pub paid : OnOk result ((new.log.debt ≡ log_debt.None) × (left ≡ None))
   pub failed : OnErr result (new.live ≡ old.live)
-  pub place : OnErr result ((place_of new ≡ place_of old)
-      ⊎ (place_of new ≡ place_of (ready owed steps.turn old)))
+  pub place : OnErr result (StopsOnWay owed left steps.turn old new
+      ⊎ ((place_of new ≡ place_of (ready owed steps.turn old)) × (left ≡ None)))
   pub indexid : new.indexid ≡ old.indexid
   pub owing : IsOwing new left
 
@@ -114,15 +114,24 @@ MayGiveWrite log debt write owed text steps chain c =
     × Gives (log_with log write chain.live.mailbox) after
     (mark_behind text (ready owed steps.turn chain)) c)
 
--- what an error leaves owed: what a repair or a rotation does, or the gate of the group
-abbrev pub IsLeftOwed : Log → Debt → Write → List ℕ → Mailbox → Debt → Type 0
-IsLeftOwed log before write text m now =
-    IsOwedBehind before now
+-- nothing is owed, or the gate of the write's group may be open
+abbrev pub MayOweGate : Log → Write → List ℕ → Mailbox → Debt → Type 0
+MayOweGate log write text m now =
+    (now ≡ Nothing)
     ⊎ ((after : Mailbox) × IsAfter log write m after
     × (now ≡ Pending text after (log_with log write m)))
 
+-- What an error leaves of chain, turn and debt together: what is left on the way; or the chain is
+-- where the group begins, no turn is owed, and the group's gate may be open.
+abbrev pub IsLeftByWrite : Log → Debt → Write → Option Turn → Option Turn → List ℕ → Steps → Chain
+    → Chain → Debt → Type 0
+IsLeftByWrite log debt write owed left text steps old new now =
+    IsLeftOnWay owed left steps.turn old new debt now
+    ⊎ ((place_of new ≡ place_of (ready owed steps.turn old)) × (left ≡ None)
+    × MayOweGate log write text old.live.mailbox now)
+
 -- From rest to rest: behind Ok with the group, and nothing is owed; behind an error as before, with
--- what is owed. A crash at any moment leaves the mailbox from before or with the group, whole. The
+-- what is left. A crash at any moment leaves the mailbox from before or with the group, whole. The
 -- message files, the index and the cache file are as the steps say.
 pub record WritesStore {S : Type 0} (files : S → Folder) (may_leave : S → Folder → Type 0)
     (moment : S → ℕ) (left_since : S → ℕ → Folder → Type 0) (log : Log) (debt : Debt)
@@ -131,7 +140,7 @@ pub record WritesStore {S : Type 0} (files : S → Folder) (may_leave : S → Fo
   pub ok : OnOk result
       (Stands may_leave (log_with log write chain.live.mailbox) Nothing new_chain new)
   pub err : OnErr result ((now : Debt)
-      × IsLeftOwed log debt write text chain.live.mailbox now × Fits left now
+      × IsLeftByWrite log debt write owed left text steps chain new_chain now × Fits left now
       × Stands may_leave log now new_chain new)
   pub any_moment : LeavesOnly moment left_since old new
       (MayGiveWrite log debt write owed text steps chain)

@@ -30,7 +30,7 @@ pub fn make_way<S: Shelf>(
     ensures quiet { S.tells → (log : Log) (debt : Debt) → Fits owed.old debt →
         Stands S.may_leave log debt chain.old shelf.old →
         IfSome turn (λ t. ClosesLog chain.old t (S.files shelf.old)) →
-        MakesWayQuietly S.may_leave S.moment S.left_since log debt owed.new turn
+        MakesWayQuietly S.may_leave S.moment S.left_since log debt owed.old owed.new turn
         chain.old chain.new result shelf.old shelf.new }
     // The cache file and the message files stay.
     ensures files { S.tells → KeepsMails (S.files shelf.old) (S.files shelf.new) }

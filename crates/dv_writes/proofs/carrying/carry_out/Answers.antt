@@ -24,7 +24,7 @@ commit_group-requires-clause-debt g c = ap (λ (k : Chain). k.log.debt) c.in_ok-
 pub returns-in_err-make_way-clause-value : goal.returns-in_err-make_way-clause-value
 returns-in_err-make_way-clause-value g c =
     let p = err_from_is_err_and c.from_residual.result c.from_residual.ensures.1 in
-    rw p.1 (carry_stopped c.args.owed.now c.args.text.now c.args.steps c.args.chain.now c.make_way.new.owed c.make_way.new.chain _ p.0 c.requires.steps.due c.in_err-make_way.ensures.value)
+    rw p.1 (carry_stopped c.args.owed.now c.args.text.now c.args.steps c.args.chain.now c.make_way.new.owed c.make_way.new.chain _ p.0 c.in_err-make_way.ensures.value)
 
 pub returns-in_err-make_way-clause-gives : goal.returns-in_err-make_way-clause-gives
 returns-in_err-make_way-clause-gives g c = λ tells log debt write fits stands is.
@@ -87,7 +87,7 @@ returns-clause-gives g c = λ tells log debt write fits stands is.
     let before = c.in_ok-write_files.ensures.quiet tells log quiet.ok (may_renew log write.received mid.live.mailbox write.command steps.files there) in
     let next = next_here S.files S.may_leave S.moment S.left_since log debt write owed text steps chain old is left mid way _ value between (c.in_ok-write_files.ensures.next tells log write is.after quiet.ok gives there) in
     stores_failed S.files S.may_leave S.moment S.left_since log debt write owed text steps chain old is left mid way _ value c.requires.steps.due fits quiet (c.in_ok-make_way.ensures.files tells)
-    between before (c.in_ok-write_files.ensures.others tells) c.commit_group.new.chain c.commit_group.new.shelf _ _
+    between before (c.in_ok-write_files.ensures.others tells) c.commit_group.new.chain c.commit_group.new.shelf _ _ c.in-Err.ensures.value
     (c.in-Err.ensures.gives tells log (log_with log write chain.live.mailbox) is.after before.stands pending next)
 
 pub returns-in-Ok-clause-gives : goal.returns-in-Ok-clause-gives

@@ -1,9 +1,9 @@
-use Rattle.std.proofs.Common.{◌≡◌, Option, ◌∙◌, ap, subst}
+use Rattle.std.proofs.Common.{Option, subst}
 use Rattle.std.proofs.lemmas.Result.{err_from_is_err_and}
 use Rattle.dv_rotation.specs.declared.texts.Turn.{Turn}
 use Rattle.dv_rotation.specs.Texts.{ClosesLog}
 use Rattle.std.specs.Prelude.{IfSome}
-use Rattle.dv_writes.specs.Ways.{IsDue, healed, repaired}
+use Rattle.dv_writes.specs.Ways.{IsDue}
 use Rattle.dv_writes.proofs.Making.{quiet_failed, quiet_paid, quiet_turned, repair_mails, turn_mails, way_failed, way_paid, way_turned}
 use Rattle.dv_writes.proofs.Ready.{due_room, due_turn, repaired_is}
 use Rattle.dv_writes.proofs.way.make_way.Goals as goal
@@ -18,7 +18,7 @@ returns-in_err-repair-clause-quiet g c = λ tells log debt fits stands closes.
     let S = g.S.Shelf in
     let p = err_from_is_err_and c.from_residual.result c.from_residual.ensures.1 in
     rw p.1
-    (quiet_failed S.may_leave S.moment S.left_since log debt c.args.chain.now c.repair.new.chain c.args.shelf.now c.repair.new.shelf _ p.0 c.args.owed.now c.repair.new.turn c.args.turn c.in_err-repair.ensures.value.failed.1 fits
+    (quiet_failed S.may_leave S.moment S.left_since log debt c.args.chain.now c.repair.new.chain c.args.shelf.now c.repair.new.shelf _ p.0 c.args.owed.now c.repair.new.turn c.args.turn c.in_err-repair.ensures.value.failed fits
     (c.in_err-repair.ensures.quiet tells log debt fits stands))
 
 pub returns-in_err-repair-clause-files : goal.returns-in_err-repair-clause-files
@@ -49,12 +49,12 @@ returns-in-Some-clause-quiet g c = λ tells log debt fits stands closes.
     let chain = c.args.chain.now in
     let made = c.in-Some.made in
     let due = subst (λ (o : Option Turn). IsDue c.args.owed.now chain o) c.in-Some.is c.requires.due in
-    let is : c.repair.new.chain ≡ healed chain = repaired_is _ c.args.owed.now c.repair.new.turn chain c.repair.new.chain c.requires.owing c.in_ok-repair.ensures.value ∙ ap (λ (o : Option Turn). repaired o chain) due.2 in
+    let paid = repaired_is _ c.args.owed.now c.repair.new.turn chain c.repair.new.chain c.requires.owing c.in_ok-repair.ensures.value in
     let quiet = c.in_ok-repair.ensures.quiet tells log debt fits stands in
     let closes_old = subst (λ (o : Option Turn). IfSome o (λ t. ClosesLog chain t (S.files old))) c.in-Some.is closes in
     let closes_mid = (c.in_ok-repair.ensures.turns tells due.2 made).closes closes_old in
     rw c.in-Some.is
-    (quiet_turned S.may_leave S.moment S.left_since log debt chain c.repair.new.chain old mid _ made c.turn_over.new.owed c.turn_over.new.chain c.turn_over.new.shelf c.turn_over.result is c.turn_over.ensures.value quiet
+    (quiet_turned S.may_leave S.moment S.left_since log debt chain c.repair.new.chain old mid _ c.args.owed.now made c.turn_over.new.owed c.turn_over.new.chain c.turn_over.new.shelf c.turn_over.result due.2 paid c.turn_over.ensures.value quiet
     (c.turn_over.ensures.quiet tells log quiet.ok closes_mid))
 
 pub returns-in-Some-clause-files : goal.returns-in-Some-clause-files
@@ -72,7 +72,7 @@ pub returns-in-None-clause-quiet : goal.returns-in-None-clause-quiet
 returns-in-None-clause-quiet g c = λ tells log debt fits stands closes.
     let S = g.S.Shelf in
     rw c.in-None.is
-    (quiet_paid S.may_leave S.moment S.left_since log debt c.args.chain.now c.repair.new.chain c.args.shelf.now c.repair.new.shelf _ tt c.repair.new.turn (c.in_ok-repair.ensures.quiet tells log debt fits stands))
+    (quiet_paid S.may_leave S.moment S.left_since log debt c.args.chain.now c.repair.new.chain c.args.shelf.now c.repair.new.shelf _ tt c.args.owed.now c.repair.new.turn (c.in_ok-repair.ensures.quiet tells log debt fits stands))
 
 pub returns-in-None-clause-files : goal.returns-in-None-clause-files
 returns-in-None-clause-files g c = λ tells.
