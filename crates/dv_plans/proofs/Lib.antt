@@ -9,3 +9,4 @@ pub mod Passed
 pub mod Readied
 pub mod Planned
 pub mod Made
+pub mod Timed

@@ -102,6 +102,11 @@ module _ (c : Command) (view : View) (chain : Chain) (uids : List ℕ) (owed : O
     text = made.text;
     size = λ other others. ap (λ (g : Group). length (group_text g)) (group_next guid group_is) ∙ same_size c view live.mailbox guid other sizes others;
     steps = steps_are;
+    turn = is.turn ∙ due;
+    some = made.some;
+    after = made.after;
+    gives = made.gives;
+    pending = pending_ready owed before.turn next written made room;
   }
 
   pub plans_each : (folder behind : Folder) (received : ℕ) → IsRead c uids chain received folder before → behind ≡ folder → PlansEach c view owed received next behind plan

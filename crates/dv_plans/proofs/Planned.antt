@@ -94,21 +94,22 @@ check_for owed turn chain gone index due free snapshot = (
 
 -- ---- the group
 
+-- the rows of the messages that a command removes have the GUIDs of a function
+pub removed_rows : (c : Command) (view : View) (m : Mailbox) (uids : List ℕ) (rows : List GuidRow) → IsOrdered view → IsValid m → uids ≡ changed_uids c view m → AreGuidsOf (removed_of c uids) rows → rows ≡ guid_rows (guid_from rows) (expunged_uids c view m)
+removed_rows c view m uids rows ordered valid changed beside =
+    let same : map (λ (row : GuidRow). row.uid) rows ≡ expunged_uids c view m = beside.beside ∙ ap (removed_of c) changed in
+    rows_found rows (subst IsStrictlyIncreasing (sym same) (expunged_rise c view m ordered valid)) ∙ ap (guid_rows (guid_from rows)) same
+
 module _ (c : Command) (view : View) (chain : Chain) (uids : List ℕ) (rows : List GuidRow) (good : IsCommand c) (ordered : IsOrdered view) (valid : IsValid chain.live.mailbox) (resets : HasResets chain.live.mailbox)
     (changed : uids ≡ changed_uids c view chain.live.mailbox) (written : IsWrittenOver c view chain) (beside : AreGuidsOf (removed_of c uids) rows) where
   abbrev m : Mailbox
   m = chain.live.mailbox
 
-  removed_is : removed_of c uids ≡ expunged_uids c view m
-  removed_is = ap (removed_of c) changed
-
   found_sizes : HasSizes (guid_from rows)
   found_sizes uid = (guids_found rows beside.guids uid).size
 
   pub rows_are : rows ≡ guid_rows (guid_from rows) (expunged_uids c view m)
-  rows_are =
-      let same : map (λ (row : GuidRow). row.uid) rows ≡ expunged_uids c view m = beside.beside ∙ removed_is in
-      rows_found rows (subst IsStrictlyIncreasing (sym same) (expunged_rise c view m ordered valid)) ∙ ap (guid_rows (guid_from rows)) same
+  rows_are = removed_rows c view m uids rows ordered valid changed beside
 
   pub all_found : AreFound c m uids rows
   all_found = record {

@@ -1,5 +1,5 @@
 -- Where a group begins, and which readings of the clock come before it.
-use Rattle.std.specs.Prelude.{◌≡◌, ◌⊎◌, ◌+◌, ◌&&◌, ℕ, Bool, true, false, Option, Some, is_none, Result, Ok}
+use Rattle.std.specs.Prelude.{◌≡◌, ◌⊎◌, ◌+◌, ◌&&◌, ℕ, Bool, true, false, Option, Some, is_none, Result, Ok, Err}
 use Rattle.dv_model.specs.declared.types.Command.{Command}
 use Rattle.dv_model.specs.declared.types.Mark.{Mark}
 use Rattle.dv_model.specs.Journals.{is_rotation_due}
@@ -10,6 +10,7 @@ use Rattle.dv_chain.specs.Rest.{next_mark}
 use Rattle.dv_rotation.specs.declared.texts.Turn.{Turn}
 use Rattle.dv_rotation.specs.Texts.{place_of}
 use Rattle.dv_plans.specs.declared.fault.StoreFault.{StoreFault}
+use Rattle.dv_plans.specs.declared.fault.StoreFault.TheVariants as fault
 
 -- at the end of the log, or at the first place of the next file
 abbrev pub beginning : Bool → Chain → Mark
@@ -33,8 +34,10 @@ readings_of c owed chain = count_of (turns owed chain) + count_of (is_append c)
 abbrev pub received_at : Bool → (ℕ → ℕ) → ℕ
 received_at turns upcoming = upcoming (count_of turns)
 
--- so many readings are behind, where a group is made ready; else none or as many
+-- so many readings are behind, where a group is made ready, or a file couldn't be read for it; else
+-- none or as many
 abbrev pub TakesReadings : {A : Type 0} → ℕ → (ℕ → ℕ) → (ℕ → ℕ) → Result (Option A) StoreFault
     → Type 0
 TakesReadings n old new (Ok (Some x)) = new ≡ behind old n
+TakesReadings n old new (Err (fault.Disk faults)) = new ≡ behind old n
 TakesReadings n old new r = (new ≡ old) ⊎ (new ≡ behind old n)

@@ -1,9 +1,11 @@
 -- A group that is made ready over a live mailbox.
 use Rattle.std.specs.Prelude.{◌≡◌, ◌≤◌, ℕ, List, ◌++◌, length, Some}
 use Rattle.dv_model.specs.declared.types.Command.{Command}
+use Rattle.dv_model.specs.declared.types.Group.{Group}
 use Rattle.dv_model.specs.declared.types.GuidRow.{GuidRow}
 use Rattle.dv_model.specs.declared.types.Mailbox.{Mailbox}
 use Rattle.dv_model.specs.Effects.{applied}
+use Rattle.dv_model.specs.Journals.{IsGuid}
 use Rattle.dv_model.specs.Sessions.{group_of}
 use Rattle.dv_model.specs.Spelling.{group_text}
 use Rattle.dv_model.specs.Views.{View}
@@ -22,6 +24,12 @@ pub record AreFound (c : Command) (m : Mailbox) (uids : List ℕ) (rows : List G
   pub some : 1 ≤ length (group_of c view m guid).records
   pub changed : uids ≡ changed_uids c view m
   pub removed : rows ≡ guid_rows guid (expunged_uids c view m)
+
+-- the group is a command's over a mailbox, with some GUIDs
+pub record IsGroupOf (c : Command) (view : View) (m : Mailbox) (group : Group) : Type 0 where
+  pub guid : ℕ → List ℕ
+  pub guids : (uid : ℕ) → IsGuid (guid uid)
+  pub is : group ≡ group_of c view m guid
 
 -- the group has its text, and the mailbox with it is prepared
 pub record IsGroupReady (live : Held) (written : Written) : Type 0 where

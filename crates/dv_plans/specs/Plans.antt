@@ -1,19 +1,24 @@
 -- The plan of a command's write.
-use Rattle.std.specs.Prelude.{◌≡◌, ℕ, List, ◌++◌, length, Option, Some, Result, Ok, ⊤}
+use Rattle.std.specs.Prelude.{◌≡◌, ◌≤◌, ℕ, is_some, List, ◌++◌, length, Option, Some, Result, Ok, ⊤}
 use Rattle.dv_model.specs.declared.types.Command.{Command}
+use Rattle.dv_model.specs.declared.types.Mailbox.{Mailbox}
+use Rattle.dv_model.specs.Effects.{applied}
 use Rattle.dv_model.specs.Journals.{IsGuid, Log}
 use Rattle.dv_model.specs.Spelling.{group_text}
 use Rattle.dv_model.specs.Views.{View}
 use Rattle.dv_shelf.specs.Folders.{Folder}
 use Rattle.dv_logfile.specs.Layout.{closing}
 use Rattle.dv_chain.specs.declared.chain.Chain.{Chain}
+use Rattle.dv_chain.specs.Rest.{IsPending}
 use Rattle.dv_groups.specs.Groups.{HasSizes}
 use Rattle.dv_keeping.specs.Keeping.{Keeps}
 use Rattle.dv_rotation.specs.declared.texts.Turn.{Turn}
 use Rattle.dv_writes.specs.Steps.{AreSteps}
+use Rattle.dv_writes.specs.Ways.{ready}
 use Rattle.dv_writes.specs.Writes.{IsWriteOf, Write, group_by}
 use Rattle.dv_plans.specs.declared.fault.StoreFault.{StoreFault}
 use Rattle.dv_plans.specs.declared.plan.Plan.{Plan}
+use Rattle.dv_plans.specs.Begins.{turns}
 use Rattle.dv_plans.specs.Overs.{group_over}
 
 -- The plan has the command's group over the chain's mailbox, with some GUIDs, its written text,
@@ -27,6 +32,11 @@ pub record IsPlanOf (c : Command) (view : View) (owed : Option Turn) (chain : Ch
   pub size : (other : ℕ → List ℕ) → HasSizes other
       → length (group_text plan.group) ≡ length (group_text (group_over c view chain other))
   pub steps : AreSteps owed chain plan.text plan.steps
+  pub turn : is_some plan.steps.turn ≡ turns owed chain
+  pub some : 1 ≤ length plan.group.records
+  pub after : Mailbox
+  pub gives : applied chain.live.mailbox plan.group.records ≡ Some after
+  pub pending : IsPending plan.text after (ready owed plan.steps.turn chain)
 
 -- it is the plan of a write over a log, with the log's GUIDs
 pub record PlansWrite (log : Log) (write : Write) (owed : Option Turn) (chain : Chain)

@@ -1,20 +1,27 @@
 //! What a command changes, and whether it writes anything.
 
-ghost use Rattle.std.specs.Prelude.{◌≡◌, IfOk, IfSome};
-ghost use Rattle.dv_model.specs.Sessions.{IsCommand};
-ghost use Rattle.dv_groups.specs.Changes.{changed_uids};
+ghost use Rattle.std.specs.Prelude.{◌≡◌, IfOk, IfSome, length};
+ghost use Rattle.dv_model.specs.Sessions.{IsCommand, group_of};
+ghost use Rattle.dv_chain.specs.Openings.{OnlyLooks};
+ghost use Rattle.dv_groups.specs.Changes.{changed_uids, expunged_uids};
 ghost use Rattle.dv_groups.specs.Groups.{HasFewKeywords};
-ghost use Rattle.dv_plans.specs.Faults.{OnDisk};
+ghost use Rattle.dv_mails.specs.Reading.{guid_at};
+ghost use Rattle.dv_plans.specs.Counts.{CountsMails};
+ghost use Rattle.dv_plans.specs.Faults.{HasStoreCause, OnDisk};
+ghost use Rattle.dv_plans.specs.Groups.{IsGroupOf};
 ghost use Rattle.dv_plans.specs.Overs.{DecidesOver};
 
 use crate::StoreFault;
 use crate::bounds::have_bounds;
-use crate::fault::limit_fault;
+use crate::fault::{chain_fault, limit_fault};
+use crate::guids::removed_guids;
 use crate::limits::{is_empty, limit_met};
 use crate::places::place_of;
+use dv_apply::Live;
 use dv_chain::Chain;
-use dv_groups::changed_uids;
-use dv_model::{Command, List};
+use dv_groups::{changed_uids, group_from};
+use dv_model::{Command, Group, List};
+use dv_shelf::Shelf;
 use dv_view::View;
 use std::alloc::Global;
 
@@ -43,4 +50,37 @@ pub fn find_changes(
         return Ok(None);
     }
     Ok(Some(uids))
+}
+
+/// The group that a command writes over this mailbox, from the view of its session. The GUIDs of
+/// the messages that it removes are those of their message files, sixteen zero bytes where one is
+/// damaged or has none. Reads each of these files once, by rising UID, and writes nothing. No limit
+/// is tested.
+pub fn plan_group<S: Shelf>(
+    alloc: Global,
+    c: &Command,
+    view: &View,
+    live: &Live,
+    shelf: &mut S,
+) -> Result<Group, StoreFault>
+    // The group, over any shelf with some GUIDs.
+    ensures group { IfOk result (IsGroupOf c.now view.now live.now.mailbox) }
+    ensures read { S.tells → IfOk result (λ group. group
+        ≡ group_of c.now view.now live.now.mailbox (guid_at (S.files shelf.old))) }
+    // Nothing is changed.
+    ensures looks { S.tells →
+        OnlyLooks S.files S.may_leave S.moment S.left_since shelf.old shelf.new }
+    // Each of these message files is read once; a fault of the disk has its cause.
+    ensures mail_reads { CountsMails (length (expunged_uids c.now view.now live.now.mailbox))
+        (S.mail_reads shelf.old) (S.mail_reads shelf.new) result }
+    ensures cause { HasStoreCause (S.fault_count shelf.old) (S.fault_count shelf.new) result }
+{
+    have_bounds(view, live);
+    let uids = changed_uids(alloc, c, view, live)?;
+    let rows = match removed_guids(alloc, c, uids.as_slice(), shelf) {
+        Ok(rows) => rows,
+        Err(fault) => return Err(chain_fault(fault)),
+    };
+    let group = group_from(alloc, c, live, uids.as_slice(), rows.as_slice())?;
+    Ok(group)
 }

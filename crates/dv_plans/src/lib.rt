@@ -17,6 +17,7 @@ mod snapshots;
 mod times;
 mod turns;
 
+pub use changes::plan_group;
 pub use fault::StoreFault;
 pub use guids::message_guid;
 pub use limits::{is_empty, limit_met};

@@ -17,7 +17,7 @@ use Rattle.dv_keeping.specs.Repairing.{IsOwing}
 abbrev roomy : Chain → ℕ → List (List ℕ) → Chain
 roomy chain spare hidden = record chain { live = record { mailbox = chain.live.mailbox; spare = spare; hidden = hidden } }
 
-equal_path : (one other : Chain) → AreEqual one other → roomy one other.live.spare other.live.hidden ≡ other
+pub equal_path : (one other : Chain) → AreEqual one other → roomy one other.live.spare other.live.hidden ≡ other
 equal_path one other same = λ i. record {
   live = record { mailbox = same.mailbox i; spare = other.live.spare; hidden = other.live.hidden };
   log = same.log i;

@@ -5,3 +5,6 @@ pub mod Known
 pub mod Paid
 pub mod Swept
 pub mod Equal
+pub mod Places
+pub mod Receipts
+pub mod Committing

@@ -3,3 +3,5 @@ pub mod Opening
 pub mod Rest
 pub mod Faults
 pub mod Paying
+pub mod Carried
+pub mod Commits

@@ -1,10 +1,14 @@
 //! A mailbox folder and a clock behind one value: the one place that writes.
 #![tactic(auto)]
 
+mod commits;
 mod fault;
 mod looking;
 mod opening;
+mod planning;
+mod receipt;
 mod store;
 mod sweeping;
 
+pub use receipt::Receipt;
 pub use store::Store;

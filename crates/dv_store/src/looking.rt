@@ -1,22 +1,27 @@
 //! What is looked up of a mailbox's messages.
 
-ghost use Rattle.std.specs.Prelude.{◌≡◌, IfOk, false, true};
-ghost use Rattle.dv_model.specs.Journals.{Log};
+ghost use Rattle.std.specs.Prelude.{◌≡◌, ℕ, IfOk, count_by, false, true};
+ghost use Rattle.dv_model.specs.Journals.{Log, Mail as Message};
 ghost use Rattle.dv_model.specs.Sessions.{has_uid};
 ghost use Rattle.dv_openings.specs.TrueCaches.{HasTrueCache};
 ghost use Rattle.dv_keeping.specs.Debts.{Debt};
-ghost use Rattle.dv_lookups.specs.Commands.{IsNamed};
-ghost use Rattle.dv_lookups.specs.Founds.{IsBody, facts_found, field_found, mail_of, sizes_found};
-ghost use Rattle.dv_lookups.specs.Kept.{CountsUpTo, Economy, IsFileOf, IsSpared, Spares, can_stand, is_kept};
+ghost use Rattle.dv_responses.specs.Depth.{IsShallow};
+ghost use Rattle.dv_responses.specs.Supplied.{AreSupplied};
+ghost use Rattle.dv_lookups.specs.Commands.{CanStand, CannotStand, IsNamed, SparesEach, uids_read};
+ghost use Rattle.dv_lookups.specs.Founds.{AreMessages, IsBody, facts_found, field_found, mail_of, sizes_found};
+ghost use Rattle.dv_lookups.specs.Kept.{CountsUpTo, Economy, IsFileOf, IsSpared, Spares, can_stand, is_kept, is_read};
 ghost use Rattle.dv_plans.specs.Faults.{HasStoreCause};
 ghost use Rattle.dv_store.specs.Rest.{IsAtRest, IsLookedAt, OnlyReads, RestKnows};
 
 use crate::Store;
 use crate::fault::told;
 use dv_lookups::{BodyFound, FactsFound, FieldFound, SizesFound, body};
+use dv_model::Command;
 use dv_plans::StoreFault;
 use dv_responses::Asked;
+use dv_search::Mail;
 use dv_shelf::Shelf;
+use dv_view::View;
 
 impl<S: Shelf, C> Store<S, C> {
     /// At rest the cache file is true, and what is looked up is of the log's messages. Nothing is
@@ -149,6 +154,46 @@ impl<S: Shelf, C> Store<S, C> {
             .facts(self.alloc, &mut self.shelf, &self.chain, asked, uid)
         {
             Ok(found) => Ok(found),
+            Err(fault) => Err(told(&self.shelf, fault)),
+        }
+    }
+
+    /// What a command is answered from: what it asks of each message that it reads, by rising
+    /// number, each as by `facts`. A message that the mailbox lacks, or whose file is missing or
+    /// not of the format, has no facts. Each message file is read once at most.
+    pub fn facts_for(&mut self, c: &Command, view: &View) -> Result<Mail, StoreFault>
+        requires shallow { IsShallow c.now }
+        // The facts are those of the messages in their files, where the cache file is true.
+        ensures found { S.tells → IsFileOf (S.files self.old.shelf) self.old.cache →
+            HasTrueCache (S.files self.old.shelf) self.old.chain.indexid
+            self.old.chain.live.mailbox →
+            (mail : ℕ → Message) →
+            AreMessages (S.files self.old.shelf) self.old.chain.live.mailbox mail →
+            IfOk result (AreSupplied mail c.now view.now self.old.chain.live.mailbox) }
+        // Nothing is changed; the cache file isn't read again, or without need.
+        ensures stays { IsLookedAt self.old self.new }
+        ensures reads { S.tells →
+            OnlyReads S.files S.may_leave S.moment S.left_since self.old self.new }
+        ensures again { is_read self.old.cache ≡ true → self.new.cache ≡ self.old.cache }
+        ensures aside { CannotStand c.now → self.new.cache ≡ self.old.cache }
+        // A message file is read at most for each row that the mailbox has, and none for one that
+        // is found in the cache file; a fault of the disk has its cause.
+        ensures most { CountsUpTo (count_by (has_uid self.old.chain.live.mailbox)
+            (uids_read c.now view.now))
+            (S.mail_reads self.old.shelf) (S.mail_reads self.new.shelf) }
+        ensures spares { S.tells → IsFileOf (S.files self.old.shelf) self.old.cache →
+            CanStand c.now →
+            SparesEach (S.files self.old.shelf) self.old.chain.indexid
+            self.old.chain.live.mailbox (uids_read c.now view.now)
+            (S.mail_reads self.old.shelf) (S.mail_reads self.new.shelf) }
+        ensures cause { HasStoreCause (S.fault_count self.old.shelf)
+            (S.fault_count self.new.shelf) result }
+    {
+        match self
+            .cache
+            .facts_for(self.alloc, &mut self.shelf, &self.chain, c, view)
+        {
+            Ok(mail) => Ok(mail),
             Err(fault) => Err(told(&self.shelf, fault)),
         }
     }

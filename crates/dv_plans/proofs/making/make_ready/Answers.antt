@@ -3,7 +3,9 @@ use Rattle.std.proofs.lemmas.Result.{err_from_is_err_and}
 use Rattle.dv_plans.specs.declared.plan.Plan.{Plan}
 use Rattle.dv_plans.specs.Limits.{Decides}
 use Rattle.dv_plans.specs.Overs.{group_over, limit_over}
+use Rattle.dv_plans.specs.Begins.{readings_of}
 use Rattle.dv_plans.proofs.Decided.{passed_decided}
+use Rattle.dv_plans.proofs.Timed.{readings_none, readings_told}
 use Rattle.dv_plans.proofs.making.make_ready.Goals as goal
 
 pub returns-in_err-found-clause-decides : goal.returns-in_err-found-clause-decides
@@ -30,3 +32,12 @@ returns-in-Ok-clause-decides g c = λ guid sizes.
     let met = limit_over c.args.c.now c.args.view.now c.args.chain.now guid in
     let group = group_over c.args.c.now c.args.view.now c.args.chain.now guid in
     subst (λ (o : Option (List ℕ)). Decides {A = List ℕ} met group (Ok o)) c.in-Some.is (c.in_ok-found.ensures.decides guid sizes)
+
+pub returns-in_err-found-clause-clock : goal.returns-in_err-found-clause-clock
+returns-in_err-found-clause-clock g c = λ tells.
+    let p = err_from_is_err_and c.from_residual.result c.from_residual.ensures.1 in
+    rw (p.1, p.2) (readings_none (List ℕ) Plan (readings_of c.args.c.now c.args.owed.now c.args.chain.now) (g.C.Clock.upcoming c.args.clock.now) c.in_err-found.field-0.0 c.in_err-found.ensures.disk)
+
+pub returns-clause-clock : goal.returns-clause-clock
+returns-clause-clock g c = λ tells.
+    rw c.chain_fault.ensures (readings_told Plan (readings_of c.args.c.now c.args.owed.now c.args.chain.now) (g.C.Clock.upcoming c.args.clock.now) (g.C.Clock.upcoming c.make_plan.new.clock) c.in-Err.fault (c.in-Err.ensures.clock tells))

@@ -1,0 +1,17 @@
+use dv_model::{Bytes, Group, Mark};
+use dv_touched::Touched;
+
+/// What a command wrote.
+#[derive(Drop)]
+pub struct Receipt {
+    /// Where the log ends behind the group.
+    pub mark: Mark,
+    /// The UID of an appended message.
+    pub uid: Option<u32>,
+    /// The records; none where the command changes nothing.
+    pub group: Group,
+    /// The written spelling of the records.
+    pub text: Bytes,
+    /// The UIDs of which a session is to be told.
+    pub touched: Touched,
+}
