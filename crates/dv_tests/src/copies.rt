@@ -1,5 +1,7 @@
 use dv_apply::Live;
-use dv_model::{Boxed, Command, End, How, Item, Items, Key, List, Mailbox, Span};
+use dv_model::{
+    Boxed, Command, End, Extension, How, Item, Items, Key, List, Mailbox, NoMemory, Row, Span,
+};
 use dv_records::{decode, encode};
 use std::alloc::Global;
 use std::test::*;
@@ -32,55 +34,89 @@ pub const RECORDS: [&[u8]; 12] = [
     b"\x80\x80\x80\x83\0\0\x08\0\x1c\0\0\0",
 ];
 
+// Whether these bytes are written of a copy of their record.
+fn is_copied(alloc: Global, bytes: &[u8]) -> Result<bool, NoMemory> {
+    let Ok((record, _)) = decode(alloc, bytes, 0) else {
+        return Err(NoMemory);
+    };
+    let copy = record.copy(alloc)?;
+    let mut written = List::new(alloc);
+    encode(alloc, &copy, &mut written)?;
+    Ok(written.as_slice() == bytes)
+}
+
 #[test]
-fn records_are_copied(rt: HostRuntime) -> Result<(), Fail> {
+fn records_are_copied(rt: HostRuntime) {
     for bytes in RECORDS {
-        let (record, _) = decode(rt.alloc(), bytes, 0).ok().ok_or("a record")?;
-        let copy = record.copy(rt.alloc())?;
-        let mut written = List::new(rt.alloc());
-        assert!(rt; encode(rt.alloc(), &copy, &mut written).is_ok());
-        assert_eq!(rt; written.as_slice(), bytes);
+        assert_eq!(rt; is_copied(rt.alloc(), bytes), Ok(true), "{bytes:?}");
+    }
+}
+
+// A record that is refused or can't be read counts as want of memory, which no test expects.
+fn apply(alloc: Global, live: &mut Live, bytes: &[u8]) -> Result<(), NoMemory> {
+    let Ok((record, _)) = decode(alloc, bytes, 0) else {
+        return Err(NoMemory);
+    };
+    match live.apply(&record) {
+        Ok(()) => Ok(()),
+        Err(_) => Err(NoMemory),
+    }
+}
+
+fn apply_all(alloc: Global, live: &mut Live) -> Result<(), NoMemory> {
+    for bytes in RECORDS {
+        apply(alloc, live, bytes)?;
     }
     Ok(())
 }
 
-fn mailbox_of(alloc: Global) -> Result<Mailbox, Fail> {
+fn mailbox_of(alloc: Global) -> Result<Mailbox, NoMemory> {
     let mut live = Live::empty(alloc, 1000);
-    for bytes in RECORDS {
-        let (record, _) = decode(alloc, bytes, 0).ok().ok_or("a record")?;
-        live.apply(&record).ok().ok_or("an effect")?;
-    }
-    Ok(live.mailbox(alloc)?)
+    apply_all(alloc, &mut live)?;
+    live.mailbox(alloc)
+}
+
+fn is_that_row(row: &Row) -> bool {
+    let [part] = row.parts.as_slice() else {
+        return false;
+    };
+    (row.uid, row.flags, row.modseq) == (1, 8, 5)
+        && row.keywords.as_slice() == [0].as_slice()
+        && part.as_slice() == [0x20, 0, 0, 0].as_slice()
+}
+
+fn is_that_extension(cache: &Extension) -> bool {
+    cache.name.as_slice() == b"cache".as_slice() && (cache.reset_id, cache.record_size) == (1, 4)
+}
+
+// Whether the rows, the keywords and the extensions are each the one that is there.
+fn has_those(mailbox: &Mailbox) -> [bool; 3] {
+    [
+        matches!(mailbox.rows.as_slice(), [row] if is_that_row(row)),
+        are_those_keywords(&mailbox.keywords),
+        matches!(mailbox.extensions.as_slice(), [cache] if is_that_extension(cache)),
+    ]
+}
+
+// The UIDVALIDITY, the UIDNEXT and the highest modification sequence of a copy, and what it has.
+fn copied(alloc: Global) -> Result<((u32, u32, u64), [bool; 3]), NoMemory> {
+    let made = mailbox_of(alloc)?;
+    let copy = made.copy(alloc)?;
+    let numbers = (copy.uid_validity, copy.next_uid, copy.highest);
+    Ok((numbers, has_those(&copy)))
 }
 
 #[test]
-fn a_mailbox_is_copied(rt: HostRuntime) -> Result<(), Fail> {
-    let made = mailbox_of(rt.alloc())?;
-    let copy = made.copy(rt.alloc())?;
-    assert_eq!(rt; copy.uid_validity, 1000);
-    assert_eq!(rt; copy.next_uid, 3);
-    assert_eq!(rt; copy.highest, 13);
-    assert_eq!(rt; copy.rows.len(), 1);
-    let row = copy.rows.get(0);
-    assert_eq!(rt; (row.uid, row.flags, row.modseq), (1, 8, 5));
-    assert_eq!(rt; row.keywords.as_slice(), [0].as_slice());
-    assert_eq!(rt; row.parts.len(), 1);
-    assert_eq!(rt; row.parts.get(0).as_slice(), [0x20, 0, 0, 0].as_slice());
-    assert_eq!(rt; copy.keywords.len(), 1);
-    assert_eq!(rt; copy.keywords.get(0).as_slice(), b"k1".as_slice());
-    assert_eq!(rt; copy.extensions.len(), 1);
-    let cache = copy.extensions.get(0);
-    assert_eq!(rt; cache.name.as_slice(), b"cache".as_slice());
-    assert_eq!(rt; (cache.reset_id, cache.record_size), (1, 4));
-    Ok(())
+fn a_mailbox_is_copied(rt: HostRuntime) {
+    assert_eq!(rt; copied(rt.alloc()), Ok(((1000, 3, 13), [true; 3])));
 }
 
-fn bytes_of(alloc: Global, text: &[u8]) -> Result<List<u8>, Fail> {
+fn bytes_of(alloc: Global, text: &[u8]) -> Result<List<u8>, NoMemory> {
     Ok(List::from_slice(alloc, text)?)
 }
 
 // NOT of: DRAFT or (KEYWORD k1, LARGER 4)
-fn key_of(alloc: Global) -> Result<Key, Fail> {
+fn key_of(alloc: Global) -> Result<Key, NoMemory> {
     let mut both = Items::new(alloc);
     both.push(Key::Keyword(bytes_of(alloc, b"k1")?))?;
     both.push(Key::Larger(4))?;
@@ -105,7 +141,7 @@ fn is_that_key(key: &Key) -> bool {
     name.as_slice() == b"k1".as_slice()
 }
 
-fn all_of(alloc: Global) -> Result<List<Span>, Fail> {
+fn all_of(alloc: Global) -> Result<List<Span>, NoMemory> {
     let all = Span {
         from: End::Number(1),
         to: End::Star,
@@ -120,18 +156,33 @@ fn is_all(set: &List<Span>) -> bool {
     matches!((span.from, span.to), (End::Number(1), End::Star))
 }
 
-#[test]
-fn a_search_is_copied(rt: HostRuntime) -> Result<(), Fail> {
-    let search = Command::Search {
+fn search_of(alloc: Global) -> Result<Command, NoMemory> {
+    Ok(Command::Search {
         by_uid: true,
-        key: key_of(rt.alloc())?,
-    };
-    let copy = search.copy(rt.alloc())?;
-    assert!(rt; matches!(&copy, Command::Search { by_uid: true, key } if is_that_key(key)));
-    Ok(())
+        key: key_of(alloc)?,
+    })
 }
 
-fn keywords_of(alloc: Global) -> Result<List<List<u8>>, Fail> {
+fn is_that_search(command: &Command) -> bool {
+    matches!(command, Command::Search { by_uid: true, key } if is_that_key(key))
+}
+
+fn copy_of(alloc: Global, command: Result<Command, NoMemory>) -> Result<Command, NoMemory> {
+    let command = command?;
+    command.copy(alloc)
+}
+
+fn search_is_copied(alloc: Global) -> Result<bool, NoMemory> {
+    let copy = copy_of(alloc, search_of(alloc))?;
+    Ok(is_that_search(&copy))
+}
+
+#[test]
+fn a_search_is_copied(rt: HostRuntime) {
+    assert_eq!(rt; search_is_copied(rt.alloc()), Ok(true));
+}
+
+fn keywords_of(alloc: Global) -> Result<List<List<u8>>, NoMemory> {
     let mut keywords = List::new(alloc);
     keywords.push(bytes_of(alloc, b"k1")?)?;
     Ok(keywords)
@@ -144,7 +195,7 @@ fn are_those_keywords(keywords: &List<List<u8>>) -> bool {
     name.as_slice() == b"k1".as_slice()
 }
 
-fn append_of(alloc: Global) -> Result<Command, Fail> {
+fn append_of(alloc: Global) -> Result<Command, NoMemory> {
     Ok(Command::Append {
         flags: 8,
         keywords: keywords_of(alloc)?,
@@ -164,15 +215,17 @@ fn is_that_append(command: &Command) -> bool {
     are_those_keywords(keywords) && message.as_slice() == b"hello".as_slice()
 }
 
-#[test]
-fn an_append_is_copied(rt: HostRuntime) -> Result<(), Fail> {
-    let append = append_of(rt.alloc())?;
-    let copy = append.copy(rt.alloc())?;
-    assert!(rt; is_that_append(&copy));
-    Ok(())
+fn append_is_copied(alloc: Global) -> Result<bool, NoMemory> {
+    let copy = copy_of(alloc, append_of(alloc))?;
+    Ok(is_that_append(&copy))
 }
 
-fn store_of(alloc: Global) -> Result<Command, Fail> {
+#[test]
+fn an_append_is_copied(rt: HostRuntime) {
+    assert_eq!(rt; append_is_copied(rt.alloc()), Ok(true));
+}
+
+fn store_of(alloc: Global) -> Result<Command, NoMemory> {
     Ok(Command::Store {
         by_uid: false,
         set: all_of(alloc)?,
@@ -198,34 +251,74 @@ fn is_that_store(command: &Command) -> bool {
     is_all(set) && are_those_keywords(keywords)
 }
 
-#[test]
-fn a_store_is_copied(rt: HostRuntime) -> Result<(), Fail> {
-    let store = store_of(rt.alloc())?;
-    let copy = store.copy(rt.alloc())?;
-    assert!(rt; is_that_store(&copy));
-    Ok(())
+fn store_is_copied(alloc: Global) -> Result<bool, NoMemory> {
+    let copy = copy_of(alloc, store_of(alloc))?;
+    Ok(is_that_store(&copy))
 }
 
 #[test]
-fn a_fetch_and_a_removal_are_copied(rt: HostRuntime) -> Result<(), Fail> {
-    let mut items = List::new(rt.alloc());
+fn a_store_is_copied(rt: HostRuntime) {
+    assert_eq!(rt; store_is_copied(rt.alloc()), Ok(true));
+}
+
+fn items_of(alloc: Global) -> Result<List<Item>, NoMemory> {
+    let subject = bytes_of(alloc, b"Subject")?;
+    let mut items = List::new(alloc);
     items.push(Item::Modseq)?;
-    items.push(Item::Field(bytes_of(rt.alloc(), b"Subject")?))?;
-    let fetch = Command::Fetch {
+    items.push(Item::Field(subject))?;
+    Ok(items)
+}
+
+fn fetch_of(alloc: Global) -> Result<Command, NoMemory> {
+    let items = items_of(alloc)?;
+    Ok(Command::Fetch {
         by_uid: true,
-        set: all_of(rt.alloc())?,
+        set: all_of(alloc)?,
         items,
-    };
-    let Command::Fetch { by_uid, set, items } = fetch.copy(rt.alloc())? else {
-        return Err("another command".into());
-    };
-    assert!(rt; by_uid && is_all(&set));
+    })
+}
+
+fn are_those_items(items: &List<Item>) -> bool {
     let [Item::Modseq, Item::Field(name)] = items.as_slice() else {
-        return Err("other items".into());
+        return false;
     };
-    assert_eq!(rt; name.as_slice(), b"Subject".as_slice());
-    let removal = Command::UidRemove { set };
-    let copy = removal.copy(rt.alloc())?;
-    assert!(rt; matches!(&copy, Command::UidRemove { set } if is_all(set)));
-    Ok(())
+    name.as_slice() == b"Subject".as_slice()
+}
+
+fn is_that_fetch(command: &Command) -> bool {
+    let Command::Fetch {
+        by_uid: true,
+        set,
+        items,
+    } = command
+    else {
+        return false;
+    };
+    is_all(set) && are_those_items(items)
+}
+
+fn fetch_is_copied(alloc: Global) -> Result<bool, NoMemory> {
+    let copy = copy_of(alloc, fetch_of(alloc))?;
+    Ok(is_that_fetch(&copy))
+}
+
+fn removal_of(alloc: Global) -> Result<Command, NoMemory> {
+    Ok(Command::UidRemove {
+        set: all_of(alloc)?,
+    })
+}
+
+fn is_that_removal(command: &Command) -> bool {
+    matches!(command, Command::UidRemove { set } if is_all(set))
+}
+
+fn removal_is_copied(alloc: Global) -> Result<bool, NoMemory> {
+    let copy = copy_of(alloc, removal_of(alloc))?;
+    Ok(is_that_removal(&copy))
+}
+
+#[test]
+fn a_fetch_and_a_removal_are_copied(rt: HostRuntime) {
+    assert_eq!(rt; fetch_is_copied(rt.alloc()), Ok(true));
+    assert_eq!(rt; removal_is_copied(rt.alloc()), Ok(true));
 }

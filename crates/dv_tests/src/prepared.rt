@@ -1,3 +1,5 @@
+ghost use Rattle.std.specs.Prelude.{◌<◌};
+
 use crate::copies::RECORDS;
 use dv_apply::Live;
 use dv_model::Row;
@@ -73,14 +75,31 @@ fn have_same_rows(one: &Live, other: &Live) -> bool {
     true
 }
 
-#[test]
-fn prepared_records_are_completed(rt: HostRuntime) -> Result<(), Fail> {
-    let mut live = Live::empty(rt.alloc(), 1000);
-    let mut other = Live::empty(rt.alloc(), 1000);
+fn is_completed(alloc: Global, live: &mut Live, other: &mut Live, at: usize) -> bool
+    requires { at < 12 }
+{
+    completes(alloc, live, RECORDS[at], STEPS[at])
+        && apply(alloc, other, RECORDS[at])
+        && have_same_rows(live, other)
+}
+
+fn first_in(alloc: Global, live: &mut Live, other: &mut Live) -> Option<usize> {
     for at in 0..RECORDS.len() {
-        assert!(rt; completes(rt.alloc(), &mut live, RECORDS[at], STEPS[at]));
-        assert!(rt; apply(rt.alloc(), &mut other, RECORDS[at]));
-        assert!(rt; have_same_rows(&live, &other));
+        if !is_completed(alloc, live, other, at) {
+            return Some(at);
+        }
     }
-    Ok(())
+    None
+}
+
+// The place of the first record that is prepared or completed in another way.
+fn first_wrong(alloc: Global) -> Option<usize> {
+    let mut live = Live::empty(alloc, 1000);
+    let mut other = Live::empty(alloc, 1000);
+    first_in(alloc, &mut live, &mut other)
+}
+
+#[test]
+fn prepared_records_are_completed(rt: HostRuntime) {
+    assert_eq!(rt; first_wrong(rt.alloc()), None);
 }

@@ -1,8 +1,8 @@
 use dv_apply::Live;
-use dv_chain::open;
+use dv_chain::{Chain, open};
 use dv_logfile::scan;
-use dv_model::{Bytes, List};
-use dv_shelf::{MemShelf, Name};
+use dv_model::{Bytes, List, NoMemory, OpenFault};
+use dv_shelf::{Folder, MemShelf, Name};
 use std::alloc::Global;
 use std::test::*;
 
@@ -56,7 +56,7 @@ const SECOND: [&[u8]; 10] = [
     b"\x80\x80\x80\x87\x90\xed\0\0\x03\0\0\0\x50\xb8\x26\x1c\x2c\x7b\x6f\x4a\x3e\x0f\0\0\x9a\x2e\x51\xd0",
 ];
 
-fn file_of(alloc: Global, pieces: &[&[u8]]) -> Result<Bytes, Fail> {
+fn file_of(alloc: Global, pieces: &[&[u8]]) -> Result<Bytes, NoMemory> {
     let mut file = List::new(alloc);
     for piece in pieces {
         file.extend(piece)?;
@@ -72,16 +72,17 @@ fn has_records(alloc: Global, file: &Bytes, places: &[u32], end: u32) -> bool {
     }
 }
 
+fn finds(alloc: Global, pieces: &[&[u8]], places: &[u32], end: u32) -> Result<bool, NoMemory> {
+    let file = file_of(alloc, pieces)?;
+    Ok(has_records(alloc, &file, places, end))
+}
+
 #[test]
-fn logs_of_a_server_are_scanned(rt: HostRuntime) -> Result<(), Fail> {
-    let alloc = rt.alloc();
-    let first = file_of(alloc, &FIRST)?;
+fn logs_of_a_server_are_scanned(rt: HostRuntime) {
     let places = [40, 56, 68, 100, 136, 160, 176, 200, 228, 248];
-    assert!(rt; has_records(alloc, &first, &places, 264));
-    let second = file_of(alloc, &SECOND)?;
+    assert_eq!(rt; finds(rt.alloc(), &FIRST, &places, 264), Ok(true));
     let places = [40, 56, 84, 116, 144, 160, 176, 192, 220];
-    assert!(rt; has_records(alloc, &second, &places, 248));
-    Ok(())
+    assert_eq!(rt; finds(rt.alloc(), &SECOND, &places, 248), Ok(true));
 }
 
 // A row: its UID, its flags, its keywords, its modification sequence, its part.
@@ -96,10 +97,8 @@ fn has_row(live: &Live, place: u32, wanted: Seen) -> bool {
     let [part] = row.parts.as_slice() else {
         return false;
     };
-    row.uid == wanted.0
-        && row.flags == wanted.1
+    (row.uid, row.flags, row.modseq) == (wanted.0, wanted.1, wanted.3)
         && row.keywords.as_slice() == wanted.2
-        && row.modseq == wanted.3
         && part.as_slice() == wanted.4
 }
 
@@ -123,36 +122,71 @@ fn has_names(live: &Live, names: &[&[u8]]) -> bool {
             .all(|(name, wanted)| name.as_slice() == *wanted)
 }
 
-#[test]
-fn a_server_s_first_log_is_opened(rt: HostRuntime) -> Result<(), Fail> {
-    let alloc = rt.alloc();
-    let mut files = List::new(alloc);
-    files.push((Name::Log, file_of(alloc, &FIRST)?))?;
-    let mut shelf = MemShelf::of(alloc, &files, 2000, List::new(alloc), None)?;
-    let chain = open(alloc, &mut shelf).ok().ok_or("a fault")?;
-    let live = &chain.live;
-    assert!(rt; live.uid_validity() == 0x4a6f_7b2c && live.highest() == 11);
-    assert!(rt; live.count() == 2 && live.next_uid() == 4 && chain.log.end == 264);
-    assert!(rt; has_row(live, 0, (1, 0, &[0], 9, &[0; 4])));
-    assert!(rt; has_row(live, 1, (3, 0x0a, &[0], 10, &[0x50, 0, 0, 0])));
-    assert!(rt; has_extension(live, 0x4a6f_7b31, &[]) && has_names(live, &[b"NonJunk"]));
+fn add(alloc: Global, files: &mut Folder, name: Name, pieces: &[&[u8]]) -> Result<(), NoMemory> {
+    let file = file_of(alloc, pieces)?;
+    files.push((name, file))?;
     Ok(())
 }
 
-#[test]
-fn a_server_s_logs_are_joined(rt: HostRuntime) -> Result<(), Fail> {
-    let alloc = rt.alloc();
-    let mut files = List::new(alloc);
-    files.push((Name::Log, file_of(alloc, &SECOND)?))?;
-    files.push((Name::Log2, file_of(alloc, &FIRST)?))?;
-    let mut shelf = MemShelf::of(alloc, &files, 2000, List::new(alloc), None)?;
-    let chain = open(alloc, &mut shelf).ok().ok_or("a fault")?;
+fn open_files(alloc: Global, files: &Folder) -> Result<Chain, OpenFault> {
+    let mut shelf = MemShelf::of(alloc, files, 2000, List::new(alloc), None)?;
+    open(alloc, &mut shelf)
+}
+
+// The UIDVALIDITY, the highest modification sequence, the number of rows, the UIDNEXT and the end.
+fn numbers_of(chain: &Chain) -> (u32, u64, u32, u32, u32) {
     let live = &chain.live;
-    assert!(rt; live.uid_validity() == 0x4a6f_7b2c && live.highest() == 20);
-    assert!(rt; live.count() == 2 && live.next_uid() == 5 && chain.log.end == 248);
-    assert!(rt; has_row(live, 0, (3, 0x0a, &[1], 14, &[0x60, 0, 0, 0])));
-    assert!(rt; has_row(live, 1, (4, 0, &[], 18, &[0; 4])));
-    assert!(rt; has_extension(live, 0x4a6f_7b31, &[7, 0, 0, 0]));
-    assert!(rt; has_names(live, &[b"NonJunk", b"$Forwarded"]));
-    Ok(())
+    (
+        live.uid_validity(),
+        live.highest(),
+        live.count(),
+        live.next_uid(),
+        chain.log.end,
+    )
+}
+
+// Whether a mailbox has the first row, the second, the extension and the names.
+fn has_first(live: &Live) -> [bool; 4] {
+    [
+        has_row(live, 0, (1, 0, &[0], 9, &[0; 4])),
+        has_row(live, 1, (3, 0x0a, &[0], 10, &[0x50, 0, 0, 0])),
+        has_extension(live, 0x4a6f_7b31, &[]),
+        has_names(live, &[b"NonJunk"]),
+    ]
+}
+
+fn first_opened(alloc: Global) -> Result<((u32, u64, u32, u32, u32), [bool; 4]), OpenFault> {
+    let mut files = List::new(alloc);
+    add(alloc, &mut files, Name::Log, &FIRST)?;
+    let chain = open_files(alloc, &files)?;
+    Ok((numbers_of(&chain), has_first(&chain.live)))
+}
+
+#[test]
+fn a_server_s_first_log_is_opened(rt: HostRuntime) {
+    let numbers = (0x4a6f_7b2c, 11, 2, 4, 264);
+    assert_eq!(rt; first_opened(rt.alloc()), Ok((numbers, [true; 4])));
+}
+
+fn has_joined(live: &Live) -> [bool; 4] {
+    [
+        has_row(live, 0, (3, 0x0a, &[1], 14, &[0x60, 0, 0, 0])),
+        has_row(live, 1, (4, 0, &[], 18, &[0; 4])),
+        has_extension(live, 0x4a6f_7b31, &[7, 0, 0, 0]),
+        has_names(live, &[b"NonJunk", b"$Forwarded"]),
+    ]
+}
+
+fn joined(alloc: Global) -> Result<((u32, u64, u32, u32, u32), [bool; 4]), OpenFault> {
+    let mut files = List::new(alloc);
+    add(alloc, &mut files, Name::Log, &SECOND)?;
+    add(alloc, &mut files, Name::Log2, &FIRST)?;
+    let chain = open_files(alloc, &files)?;
+    Ok((numbers_of(&chain), has_joined(&chain.live)))
+}
+
+#[test]
+fn a_server_s_logs_are_joined(rt: HostRuntime) {
+    let numbers = (0x4a6f_7b2c, 20, 2, 5, 248);
+    assert_eq!(rt; joined(rt.alloc()), Ok((numbers, [true; 4])));
 }

@@ -3,7 +3,7 @@ ghost use Rattle.dv_cache.specs.Caches.{HasFive};
 ghost use Rattle.dv_cache.specs.declared.row.CacheRow.{CacheRow};
 
 use dv_cache::{CacheRow, Known, find, write};
-use dv_model::{Bytes, Duplicate, List, NoMemory};
+use dv_model::{Bytes, List, NoMemory};
 use std::alloc::Global;
 use std::test::*;
 
@@ -27,54 +27,79 @@ const UNKNOWN: &[u8] =
 const KNOWN: &[u8] =
     b"dvca\x01\0\0\0\x07\0\0\0\x09\0\0\0\x01\0\0\0\x4a\0\0\0\0\0\0\0\0\0\0\0\x05\0\0\0\x2c\x01\0\0\x36\x01\0\0\x30\0\0\0\x01\0\0\0d\x02\0\0\0ab\0\0\0\0\xff\xff\xff\xff\x03\0\0\0<1>";
 
-const FIELDS: Fields<'static> = [Some(b"d"), Some(b"ab"), Some(b""), None, Some(b"<1>")];
+const FIELDS: &Fields<'static> = &[Some(b"d"), Some(b"ab"), Some(b""), None, Some(b"<1>")];
+
+// A message's row: its UID, its sizes and its fields, unless it can't be read.
+#[derive(Clone, Copy)]
+struct Given<'a> {
+    uid: u32,
+    sizes: (u32, u32),
+    fields: Option<&'a Fields<'a>>,
+}
+
+fn field_of(alloc: Global, value: Option<&[u8]>) -> Result<Option<Bytes>, NoMemory> {
+    match value {
+        Some(value) => Ok(Some(Bytes::from_slice(alloc, value)?)),
+        None => Ok(None),
+    }
+}
 
 fn fields_of(alloc: Global, values: &Fields) -> Result<List<Option<Bytes>>, NoMemory> {
     let mut fields = List::new(alloc);
     for value in values {
-        let field = match value {
-            Some(value) => Some(Bytes::from_slice(alloc, *value)?),
-            None => None,
-        };
-        fields.push(field)?;
+        fields.push(field_of(alloc, *value)?)?;
     }
     Ok(fields)
 }
 
-fn row_of(
-    alloc: Global,
-    uid: u32,
-    sizes: (u32, u32),
-    values: &Fields,
-) -> Result<CacheRow, NoMemory> {
-    let fields = fields_of(alloc, values)?;
-    let known = Some(Known {
-        physical: sizes.0,
-        virtual_size: sizes.1,
-        fields,
-    });
-    Ok(CacheRow { uid, known })
+fn row_of(alloc: Global, given: &Given) -> Result<CacheRow, NoMemory> {
+    let known = match given.fields {
+        Some(values) => Some(Known {
+            physical: given.sizes.0,
+            virtual_size: given.sizes.1,
+            fields: fields_of(alloc, values)?,
+        }),
+        None => None,
+    };
+    Ok(CacheRow {
+        uid: given.uid,
+        known,
+    })
 }
 
-// Whether the row is of this UID, these sizes and these fields.
-fn is_row(row: &CacheRow, uid: u32, sizes: (u32, u32), values: &Fields) -> bool {
-    let Some(known) = &row.known else {
-        return false;
-    };
-    if row.uid != uid || (known.physical, known.virtual_size) != sizes || known.fields.len() != 5 {
-        return false;
+fn rows_of(alloc: Global, rows: &[Given]) -> Result<List<CacheRow>, NoMemory> {
+    let mut list = List::new(alloc);
+    for given in rows {
+        list.push(row_of(alloc, given)?)?;
     }
-    for (field, value) in known.fields.as_slice().iter().zip(values) {
-        let same = match (field, value) {
-            (Some(field), Some(value)) => field.as_slice() == *value,
-            (None, None) => true,
-            _ => false,
-        };
-        if !same {
-            return false;
+    Ok(list)
+}
+
+fn is_value(field: &Option<Bytes>, value: Option<&[u8]>) -> bool {
+    match (field, value) {
+        (Some(field), Some(value)) => field.as_slice() == value,
+        (None, None) => true,
+        _ => false,
+    }
+}
+
+fn are_fields(fields: &[Option<Bytes>], values: &Fields) -> bool {
+    fields.len() == 5
+        && fields
+            .iter()
+            .zip(values)
+            .all(|(field, value)| is_value(field, *value))
+}
+
+// Whether the row has what was given of a message that can be read.
+fn is_row(row: &CacheRow, given: &Given) -> bool {
+    match (&row.known, given.fields) {
+        (Some(known), Some(values)) => {
+            (row.uid, (known.physical, known.virtual_size)) == (given.uid, given.sizes)
+                && are_fields(known.fields.as_slice(), values)
         }
+        _ => false,
     }
-    true
 }
 
 fn has_five(row: &CacheRow) -> bool
@@ -92,62 +117,114 @@ fn all_have_five(rows: &[CacheRow]) -> bool
     rows.iter().all(|row| has_five(row))
 }
 
-// The file of these rows, of indexid 7 and sequence 9.
-fn file_of(alloc: Global, rows: &List<CacheRow>) -> Result<Bytes, Fail> {
+// The file of these rows, of indexid 7 and sequence 9. Rows that no file has count as want of
+// memory, which no test expects.
+fn written(alloc: Global, rows: &List<CacheRow>) -> Result<Bytes, NoMemory> {
     if !all_have_five(rows.as_slice()) || rows.len() > 8_388_608 {
-        return Err("no file has such rows".into());
+        return Err(NoMemory);
     }
-    Ok(write(alloc, 7, 9, rows)?)
+    write(alloc, 7, 9, rows)
+}
+
+fn file_of(alloc: Global, rows: &[Given]) -> Result<Bytes, NoMemory> {
+    let rows = rows_of(alloc, rows)?;
+    written(alloc, &rows)
+}
+
+fn has_file(alloc: Global, rows: &[Given], wanted: &[u8]) -> Result<bool, NoMemory> {
+    let file = file_of(alloc, rows)?;
+    Ok(file.as_slice() == wanted)
+}
+
+// The indexid, the sequence, the UID and the offset of a row that is asked for.
+type Asked = (u32, u32, u32, u32);
+
+fn is_found(alloc: Global, file: &[u8], asked: Asked) -> Result<bool, NoMemory> {
+    let (indexid, seq, uid, offset) = asked;
+    Ok(find(alloc, file, indexid, seq, uid, offset)?.is_some())
+}
+
+// Whether the row is found as it was given; none, where no row is found.
+fn finds(alloc: Global, file: &[u8], offset: u32, given: &Given) -> Result<Option<bool>, NoMemory> {
+    match find(alloc, file, 7, 9, given.uid, offset)? {
+        Some(row) => Ok(Some(is_row(&row, given))),
+        None => Ok(None),
+    }
+}
+
+// The length of the file of these rows, and whether a row of it is found as it was given.
+fn kept(
+    alloc: Global,
+    rows: &[Given],
+    offset: u32,
+    given: &Given,
+) -> Result<(usize, Option<bool>), NoMemory> {
+    let file = file_of(alloc, rows)?;
+    let found = finds(alloc, file.as_slice(), offset, given)?;
+    Ok((file.len(), found))
+}
+
+const FIRST: Asked = (7, 9, 5, 32);
+
+#[test]
+fn file_without_rows_is_a_header(rt: HostRuntime) {
+    assert_eq!(rt; has_file(rt.alloc(), &[], EMPTY), Ok(true));
+    assert_eq!(rt; is_found(rt.alloc(), EMPTY, FIRST), Ok(false));
 }
 
 #[test]
-fn file_without_rows_is_a_header(rt: HostRuntime) -> Result<(), Fail> {
-    let text = file_of(rt.alloc(), &List::new(rt.alloc()))?;
-    assert_eq!(rt; text.as_slice(), EMPTY);
-    assert!(rt; find(rt.alloc(), EMPTY, 7, 9, 5, 32)?.is_none());
-    Ok(())
-}
-
-#[test]
-fn unreadable_message_has_an_entry_of_zeros(rt: HostRuntime) -> Result<(), Fail> {
-    let mut rows = List::new(rt.alloc());
-    rows.push(CacheRow {
+fn unreadable_message_has_an_entry_of_zeros(rt: HostRuntime) {
+    let row = Given {
         uid: 5,
-        known: None,
-    })?;
-    let text = file_of(rt.alloc(), &rows)?;
-    assert_eq!(rt; text.as_slice(), UNKNOWN);
-    assert!(rt; find(rt.alloc(), UNKNOWN, 7, 9, 5, 32)?.is_none());
-    Ok(())
+        sizes: (0, 0),
+        fields: None,
+    };
+    assert_eq!(rt; has_file(rt.alloc(), &[row], UNKNOWN), Ok(true));
+    assert_eq!(rt; is_found(rt.alloc(), UNKNOWN, FIRST), Ok(false));
 }
 
-#[test]
-fn row_without_subject_both_ways(rt: HostRuntime) -> Result<(), Fail> {
-    let mut rows = List::new(rt.alloc());
-    rows.push(row_of(rt.alloc(), 5, (300, 310), &FIELDS)?)?;
-    let text = file_of(rt.alloc(), &rows)?;
-    assert_eq!(rt; text.as_slice(), KNOWN);
-    let row = find(rt.alloc(), KNOWN, 7, 9, 5, 32)?.ok_or("no row")?;
-    assert!(rt; is_row(&row, 5, (300, 310), &FIELDS));
-    Ok(())
-}
-
-#[test]
-fn other_files_uids_and_offsets_have_no_row(rt: HostRuntime) -> Result<(), Fail> {
-    let asked: [(u32, u32, u32, u32); 8] = [
-        (7, 8, 5, 32),
-        (8, 9, 5, 32),
-        (7, 9, 6, 32),
-        (7, 9, 5, 0),
-        (7, 9, 5, 16),
-        (7, 9, 5, 33),
-        (7, 9, 5, 48),
-        (7, 9, 5, 4_294_967_280),
-    ];
-    for (indexid, seq, uid, offset) in asked {
-        assert!(rt; find(rt.alloc(), KNOWN, indexid, seq, uid, offset)?.is_none());
+fn row_with<'a>(uid: u32, sizes: (u32, u32), fields: &'a Fields<'a>) -> Given<'a> {
+    Given {
+        uid,
+        sizes,
+        fields: Some(fields),
     }
-    Ok(())
+}
+
+#[test]
+fn row_without_subject_both_ways(rt: HostRuntime) {
+    let row = row_with(5, (300, 310), FIELDS);
+    assert_eq!(rt; has_file(rt.alloc(), &[row], KNOWN), Ok(true));
+    assert_eq!(rt; finds(rt.alloc(), KNOWN, 32, &row), Ok(Some(true)));
+}
+
+const OTHERS: [Asked; 8] = [
+    (7, 8, 5, 32),
+    (8, 9, 5, 32),
+    (7, 9, 6, 32),
+    (7, 9, 5, 0),
+    (7, 9, 5, 16),
+    (7, 9, 5, 33),
+    (7, 9, 5, 48),
+    (7, 9, 5, 4_294_967_280),
+];
+
+#[test]
+fn other_files_uids_and_offsets_have_no_row(rt: HostRuntime) {
+    for asked in OTHERS {
+        assert_eq!(rt; is_found(rt.alloc(), KNOWN, asked), Ok(false), "{asked:?}");
+    }
+}
+
+#[test]
+fn cut_file_has_no_row(rt: HostRuntime) {
+    for end in 0..KNOWN.len() {
+        assert_eq!(rt;
+            is_found(rt.alloc(), &KNOWN[..end], FIRST),
+            Ok(false),
+            "{end}"
+        );
+    }
 }
 
 // Whether a row is found in the file with one byte changed.
@@ -156,69 +233,88 @@ fn is_found_with(alloc: Global, at: usize, byte: u8) -> Result<bool, NoMemory> {
     if at < file.len() {
         file[at] = byte;
     }
-    Ok(find(alloc, &file, 7, 9, 5, 32)?.is_some())
+    is_found(alloc, &file, FIRST)
 }
 
-#[test]
-fn damaged_file_has_no_row(rt: HostRuntime) -> Result<(), Fail> {
-    for end in 0..KNOWN.len() {
-        assert!(rt; find(rt.alloc(), &KNOWN[..end], 7, 9, 5, 32)?.is_none());
-    }
+// A place, another byte there, and whether a row is found all the same.
+const DAMAGES: [(usize, u8, bool); 12] = [
     // `dvca`, the version, the number of entries and the length
-    for (at, byte) in [(0, b'D'), (4, 2), (16, 0), (20, 0x49)] {
-        assert!(rt; !is_found_with(rt.alloc(), at, byte)?);
-    }
+    (0, b'D', false),
+    (4, 2, false),
+    (16, 0, false),
+    (20, 0x49, false),
     // the place of the fields: none, one byte on, at the end, behind the end, far behind it
-    for (at, byte) in [(44, 0), (44, 49), (44, 74), (44, 75), (47, 0xff)] {
-        assert!(rt; !is_found_with(rt.alloc(), at, byte)?);
-    }
+    (44, 0, false),
+    (44, 49, false),
+    (44, 74, false),
+    (44, 75, false),
+    (47, 0xff, false),
     // the last field is longer than what is left
-    assert!(rt; !is_found_with(rt.alloc(), 67, 4)?);
+    (67, 4, false),
     // the last field is shorter, and the zero bytes of the header aren't looked at
-    assert!(rt; is_found_with(rt.alloc(), 67, 2)?);
-    assert!(rt; is_found_with(rt.alloc(), 24, 1)?);
-    Ok(())
+    (67, 2, true),
+    (24, 1, true),
+];
+
+#[test]
+fn damaged_file_has_no_row(rt: HostRuntime) {
+    for (at, byte, found) in DAMAGES {
+        assert_eq!(rt;
+            is_found_with(rt.alloc(), at, byte),
+            Ok(found),
+            "{at} {byte}"
+        );
+    }
+}
+
+const LIMIT: u32 = 1 << 31;
+
+const NONE: &Fields<'static> = &[None, None, None, None, None];
+
+fn sizes() -> [Given<'static>; 4] {
+    [
+        row_with(1, (LIMIT, LIMIT), FIELDS),
+        row_with(2, (LIMIT + 1, 1), FIELDS),
+        row_with(3, (1, LIMIT + 1), FIELDS),
+        row_with(4, (1, 2), NONE),
+    ]
+}
+
+// What is kept of the row at this place.
+fn kept_of(alloc: Global, at: usize, offset: u32) -> Result<(usize, Option<bool>), NoMemory> {
+    let rows = sizes();
+    match rows.as_slice().get(at) {
+        Some(row) => kept(alloc, &rows, offset, row),
+        None => Err(NoMemory),
+    }
 }
 
 #[test]
-fn sizes_above_two_gibibytes_are_not_kept(rt: HostRuntime) -> Result<(), Fail> {
-    let limit = 1 << 31;
-    let sizes = [
-        (1, (limit, limit)),
-        (2, (limit + 1, 1)),
-        (3, (1, limit + 1)),
-    ];
-    let mut rows = List::new(rt.alloc());
-    for (uid, pair) in sizes {
-        rows.push(row_of(rt.alloc(), uid, pair, &FIELDS)?)?;
-    }
-    rows.push(row_of(rt.alloc(), 4, (1, 2), &[None; 5])?)?;
-    let text = file_of(rt.alloc(), &rows)?;
-    let b = text.as_slice();
-    assert_eq!(rt; b.len(), 32 + 4 * 16 + 26 + 20);
-    let first = find(rt.alloc(), b, 7, 9, 1, 32)?.ok_or("no row")?;
-    assert!(rt; is_row(&first, 1, (limit, limit), &FIELDS));
-    assert!(rt; find(rt.alloc(), b, 7, 9, 2, 48)?.is_none());
-    assert!(rt; find(rt.alloc(), b, 7, 9, 3, 64)?.is_none());
-    let last = find(rt.alloc(), b, 7, 9, 4, 80)?.ok_or("no row")?;
-    assert!(rt; is_row(&last, 4, (1, 2), &[None; 5]));
-    Ok(())
+fn sizes_above_two_gibibytes_are_not_kept(rt: HostRuntime) {
+    let length = 32 + 4 * 16 + 26 + 20;
+    assert_eq!(rt; kept_of(rt.alloc(), 0, 32), Ok((length, Some(true))));
+    assert_eq!(rt; kept_of(rt.alloc(), 1, 48), Ok((length, None)));
+    assert_eq!(rt; kept_of(rt.alloc(), 2, 64), Ok((length, None)));
+    assert_eq!(rt; kept_of(rt.alloc(), 3, 80), Ok((length, Some(true))));
+}
+
+// The same of a row whose second field has so many bytes.
+fn kept_with(alloc: Global, len: usize) -> Result<(usize, Option<bool>), NoMemory> {
+    let long = vec![in alloc; b'x'; len]?;
+    let fields: Fields = [Some(b"d"), Some(&long), None, None, None];
+    let row = Given {
+        uid: 5,
+        sizes: (1, 1),
+        fields: Some(&fields),
+    };
+    kept(alloc, &[row], 32, &row)
 }
 
 #[test]
-fn more_than_65536_bytes_of_fields_are_not_kept(rt: HostRuntime) -> Result<(), Fail> {
-    for (len, size) in [(65_535, 48 + 20 + 65_536), (65_536, 48)] {
-        let long = vec![in rt.alloc(); b'x'; len]?;
-        let fields: Fields = [Some(b"d"), Some(&long), None, None, None];
-        let mut rows = List::new(rt.alloc());
-        rows.push(row_of(rt.alloc(), 5, (1, 1), &fields)?)?;
-        let text = file_of(rt.alloc(), &rows)?;
-        assert_eq!(rt; text.as_slice().len(), size);
-        let row = find(rt.alloc(), text.as_slice(), 7, 9, 5, 32)?;
-        match row {
-            Some(row) => assert!(rt; size > 48 && is_row(&row, 5, (1, 1), &fields)),
-            None => assert_eq!(rt; size, 48),
-        }
-    }
-    Ok(())
+fn more_than_65536_bytes_of_fields_are_not_kept(rt: HostRuntime) {
+    assert_eq!(rt;
+        kept_with(rt.alloc(), 65_535),
+        Ok((48 + 20 + 65_536, Some(true)))
+    );
+    assert_eq!(rt; kept_with(rt.alloc(), 65_536), Ok((48, None)));
 }

@@ -1,8 +1,7 @@
 use dv_fields::{field_of, physical, virtual_size};
 use dv_model::NoMemory;
 use std::alloc::Global;
-use std::process::Abort;
-use std::test::Fail;
+use std::test::*;
 
 const HELLO: &[u8] = b"Subject: Hello\r\n world\r\n\r\nHi\n";
 
@@ -20,51 +19,75 @@ fn value(alloc: Global, message: &[u8], name: &[u8]) -> Result<Vec<u8>, NoMemory
     }
 }
 
-#[test]
-fn fields_of_mail(rt: HostRuntime) -> Result<(), Fail> {
-    let cases: [(&[u8], &[u8], &[u8]); 22] = [
-        (HELLO, b"subject", b"Hello world"),
-        (HELLO, b"SUBJECT", b"Hello world"),
-        (HELLO, b"Hi", b"(none)"),
-        (HELLO, b"Subjec", b"(none)"),
-        (MIXED, b"from me thu", b"(none)"),
-        (MIXED, b"a", b"1"),
-        (MIXED, b"b", b"2"),
-        (MIXED, b"C", b"(none)"),
-        (MIXED, b"C ", b"4"),
-        (MIXED, b"D", b"(none)"),
-        (FOLDED, b"A", b"one\ttwo \tthree"),
-        (FOLDED, b"Subject", b"(none)"),
-        (FOLDED, b"Sub ject", b"x"),
-        (FOLDED, b"E", b""),
-        (FOLDED, b"F", b"(none)"),
-        (LONE, b"A", b"1\rB: 2\r"),
-        (LONE, b"B", b"(none)"),
-        (LONE, b"C", b"3"),
-        (LONE, b" G", b"0"),
-        (b"\r\nA: 1\n", b"A", b"(none)"),
-        (b"\nA: 1\n", b"A", b"(none)"),
-        (b"", b"", b"(none)"),
-    ];
-    for (message, name, wanted) in cases {
-        let found = value(rt.alloc(), message, name)?;
-        assert_eq!(rt; found.as_slice(), wanted);
-    }
-    Ok(())
+// Whether the message has a field of this value; `(none)` where it has no such field.
+fn has_value(alloc: Global, message: &[u8], name: &[u8], wanted: &[u8]) -> Result<bool, NoMemory> {
+    let value = value(alloc, message, name)?;
+    Ok(value.as_slice() == wanted)
 }
 
+// A message, the name of a field and its value.
+const VALUES: [(&[u8], &[u8], &[u8]); 22] = [
+    (HELLO, b"subject", b"Hello world"),
+    (HELLO, b"SUBJECT", b"Hello world"),
+    (HELLO, b"Hi", b"(none)"),
+    (HELLO, b"Subjec", b"(none)"),
+    (MIXED, b"from me thu", b"(none)"),
+    (MIXED, b"a", b"1"),
+    (MIXED, b"b", b"2"),
+    (MIXED, b"C", b"(none)"),
+    (MIXED, b"C ", b"4"),
+    (MIXED, b"D", b"(none)"),
+    (FOLDED, b"A", b"one\ttwo \tthree"),
+    (FOLDED, b"Subject", b"(none)"),
+    (FOLDED, b"Sub ject", b"x"),
+    (FOLDED, b"E", b""),
+    (FOLDED, b"F", b"(none)"),
+    (LONE, b"A", b"1\rB: 2\r"),
+    (LONE, b"B", b"(none)"),
+    (LONE, b"C", b"3"),
+    (LONE, b" G", b"0"),
+    (b"\r\nA: 1\n", b"A", b"(none)"),
+    (b"\nA: 1\n", b"A", b"(none)"),
+    (b"", b"", b"(none)"),
+];
+
 #[test]
-fn lines_of_998_bytes(rt: HostRuntime) -> Result<(), Fail> {
-    let mut message = b"X-Long: ".to_vec(rt.alloc())?;
-    let long = vec![in rt.alloc(); b'a'; 990]?;
+fn fields_of_mail(rt: HostRuntime) {
+    for (message, name, wanted) in VALUES {
+        assert_eq!(rt;
+            has_value(rt.alloc(), message, name, wanted),
+            Ok(true),
+            "{wanted:?}"
+        );
+    }
+}
+
+// A message with a field that is folded into two lines of 998 bytes, and a subject.
+fn long_lines(alloc: Global) -> Result<Vec<u8>, NoMemory> {
+    let long = vec![in alloc; b'a'; 990]?;
+    let mut message = b"X-Long: ".to_vec(alloc)?;
     message.extend_from_slice(&long)?;
     message.extend_from_slice(b"\r\n ")?;
     message.extend_from_slice(&long)?;
     message.extend_from_slice(b"\r\nSubject: end\r\n\r\n")?;
-    assert_eq!(rt; value(rt.alloc(), &message, b"x-long")?.len(), 1981);
-    let subject = value(rt.alloc(), &message, b"subject")?;
-    assert_eq!(rt; subject.as_slice(), b"end".as_slice());
-    Ok(())
+    Ok(message)
+}
+
+fn long_value(alloc: Global) -> Result<usize, NoMemory> {
+    let message = long_lines(alloc)?;
+    let value = value(alloc, &message, b"x-long")?;
+    Ok(value.len())
+}
+
+fn is_subject_behind(alloc: Global) -> Result<bool, NoMemory> {
+    let message = long_lines(alloc)?;
+    has_value(alloc, &message, b"subject", b"end")
+}
+
+#[test]
+fn lines_of_998_bytes(rt: HostRuntime) {
+    assert_eq!(rt; long_value(rt.alloc()), Ok(1981));
+    assert_eq!(rt; is_subject_behind(rt.alloc()), Ok(true));
 }
 
 #[test]
@@ -80,28 +103,39 @@ fn sizes_of_line_ends(rt: HostRuntime) {
         (b"\r", 1, 1),
     ];
     for (message, bytes, as_sent) in cases {
-        assert_eq!(rt; physical(message), bytes);
-        assert_eq!(rt; virtual_size(message), as_sent);
+        assert_eq!(rt;
+            (physical(message), virtual_size(message)),
+            (bytes, as_sent)
+        );
+    }
+}
+
+// A header of a million lines like this, and a subject.
+fn million(alloc: Global, line: &[u8]) -> Result<Vec<u8>, NoMemory> {
+    let mut message = b"A: 1\r\n".to_vec(alloc)?;
+    for _ in 0..1_000_000 {
+        message.extend_from_slice(line)?;
+    }
+    message.extend_from_slice(b"Subject: end\r\n\r\n")?;
+    Ok(message)
+}
+
+// Its sizes, where its subject is found.
+fn million_sizes(alloc: Global, line: &[u8]) -> Result<Option<(u64, u64)>, NoMemory> {
+    let message = million(alloc, line)?;
+    if has_value(alloc, &message, b"subject", b"end")? {
+        Ok(Some((physical(&message), virtual_size(&message))))
+    } else {
+        Ok(None)
     }
 }
 
 // The longest messages that are taken: a million lines of 32 bytes, each a field or all of one.
 #[test]
-fn header_of_a_million_lines(rt: HostRuntime) -> Result<(), Fail> {
-    let lines: [&[u8]; 2] = [
-        b"X-Some-Field: abcdefghijklmnop\r\n",
-        b" abcdefghijklmnopqrstuvwxyz123\r\n",
-    ];
-    for line in lines {
-        let mut message = b"A: 1\r\n".to_vec(rt.alloc())?;
-        for _ in 0..1_000_000 {
-            message.extend_from_slice(line)?;
-        }
-        message.extend_from_slice(b"Subject: end\r\n\r\n")?;
-        let subject = value(rt.alloc(), &message, b"subject")?;
-        assert_eq!(rt; subject.as_slice(), b"end".as_slice());
-        assert_eq!(rt; physical(&message), 32_000_022);
-        assert_eq!(rt; virtual_size(&message), 32_000_022);
-    }
-    Ok(())
+fn header_of_a_million_lines(rt: HostRuntime) {
+    let sizes = Some((32_000_022, 32_000_022));
+    let field = b"X-Some-Field: abcdefghijklmnop\r\n";
+    assert_eq!(rt; million_sizes(rt.alloc(), field), Ok(sizes));
+    let folded = b" abcdefghijklmnopqrstuvwxyz123\r\n";
+    assert_eq!(rt; million_sizes(rt.alloc(), folded), Ok(sizes));
 }

@@ -1,4 +1,4 @@
-//! Tests of what is read and written as bytes: numbers, records, tables, fields, message and cache files.
+//! Tests of what is read and written as bytes: numbers, records, fields, message and cache files.
 #![tactic(auto)]
 
 #[cfg(test)]
@@ -6,14 +6,8 @@ mod cache;
 #[cfg(test)]
 mod dbox;
 #[cfg(test)]
-mod ext;
-#[cfg(test)]
 mod fields;
 #[cfg(test)]
-mod keywords;
-#[cfg(test)]
 mod num;
-#[cfg(test)]
-mod ranges;
 #[cfg(test)]
 mod records;

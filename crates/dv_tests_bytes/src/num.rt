@@ -12,20 +12,26 @@ const SIZES: [(u32, [u8; 4]); 7] = [
     (1073741820, [0xff, 0xff, 0xff, 0xff]),
 ];
 
+fn code_of(size: u32) -> Option<[u8; 4]> {
+    if size < 1 << 30 && size % 4 == 0 {
+        Some(size_code(size))
+    } else {
+        None
+    }
+}
+
 #[test]
 fn sizes_both_ways(rt: HostRuntime) {
     for (size, code) in SIZES {
-        assert!(rt; size < 1 << 30 && size % 4 == 0);
-        assert_eq!(rt; size_code(size), code);
-        assert_eq!(rt; size_value(code), Some(size));
+        assert_eq!(rt; (code_of(size), size_value(code)), (Some(code), Some(size)));
     }
     assert_eq!(rt; size_value([0x80, 0x80, 0x00, 0x84]), None);
 }
 
+const BYTES: [u8; 9] = [0xff, 1, 2, 3, 4, 5, 6, 7, 8];
+
 #[test]
 fn fields_are_little_endian(rt: HostRuntime) {
-    let bytes = [0xff, 1, 2, 3, 4, 5, 6, 7, 8];
-    assert_eq!(rt; u16_at(&bytes, 1), 0x0201);
-    assert_eq!(rt; u32_at(&bytes, 1), 0x0403_0201);
-    assert_eq!(rt; u64_at(&bytes, 1), 0x0807_0605_0403_0201);
+    let numbers = (u16_at(&BYTES, 1), u32_at(&BYTES, 1), u64_at(&BYTES, 1));
+    assert_eq!(rt; numbers, (0x0201, 0x0403_0201, 0x0807_0605_0403_0201));
 }

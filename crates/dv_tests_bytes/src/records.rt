@@ -1,100 +1,168 @@
+ghost use Rattle.dv_model.specs.Spelling.{IsRecord};
+
 mod numbers;
 mod worked;
 
-use dv_model::List;
-use dv_records::{DecodeEnd, RecordFault, check, decode, encode, is_name};
+use dv_model::{Body, Bytes, List, NoMemory, Record};
+use dv_records::{DecodeEnd, RecordFault, check, decode, encode};
 use numbers::numbers_of;
 use std::alloc::Global;
 use std::test::*;
-use worked::{EXPUNGE, WORKED};
+use worked::{EXPUNGE, WORKED, Worked};
 
-#[test]
-fn worked_records_both_ways(rt: HostRuntime) -> Result<(), Fail> {
-    for (bytes, top, numbers) in WORKED {
-        let mut text = List::from_slice(rt.alloc(), &[0x80, 0x80])?;
-        text.extend(bytes)?;
-        text.extend(&[0x80, 0x80, 0x80])?;
-        let read = decode(rt.alloc(), text.as_slice(), 2);
-        let (record, behind) = read.ok().ok_or("the bytes are a record")?;
-        assert_eq!(rt; behind, 2 + bytes.len());
-        assert_eq!(rt; check(text.as_slice(), 2), Ok(2 + bytes.len()));
-        assert_eq!(rt; record.top, top);
-        assert_eq!(rt; numbers_of(rt.alloc(), &record.body)?.as_slice(), numbers);
-        let mut written = List::from_slice(rt.alloc(), &[1, 2, 3])?;
-        let done = encode(rt.alloc(), &record, &mut written);
-        assert!(rt; done.is_ok());
-        assert_eq!(rt; &written.as_slice()[3..], bytes);
+// These bytes with two bytes before them and three behind.
+fn framed(alloc: Global, bytes: &[u8]) -> Result<Bytes, NoMemory> {
+    let mut text = List::from_slice(alloc, &[0x80, 0x80])?;
+    text.extend(bytes)?;
+    text.extend(&[0x80, 0x80, 0x80])?;
+    Ok(text)
+}
+
+fn has_numbers(alloc: Global, body: &Body, wanted: &[u32]) -> Result<bool, NoMemory> {
+    let numbers = numbers_of(alloc, body)?;
+    Ok(numbers.as_slice() == wanted)
+}
+
+// Whether these bytes are written of the record, behind three others.
+fn is_written(alloc: Global, record: &Record, wanted: &[u8]) -> Result<bool, NoMemory>
+    requires { IsRecord record.now }
+{
+    let mut written = List::from_slice(alloc, &[1, 2, 3])?;
+    encode(alloc, record, &mut written)?;
+    let (_, behind) = written.as_slice().split_at(written.len().min(3));
+    Ok(behind == wanted)
+}
+
+// Whether the text of a record stands at this place, up to the end that is wanted, and the text
+// that is wanted is written of it.
+fn goes_both_ways(
+    alloc: Global,
+    text: &[u8],
+    at: usize,
+    end: usize,
+    wanted: &[u8],
+) -> Result<bool, DecodeEnd> {
+    if at > text.len() {
+        return Ok(false);
     }
-    Ok(())
+    let (record, behind) = decode(alloc, text, at)?;
+    let is_same = is_written(alloc, &record, wanted)?;
+    Ok(is_same && behind == end && check(text, at) == Ok(end))
+}
+
+// Whether a record with these highest bits and these numbers stands at this place.
+fn says(
+    alloc: Global,
+    text: &[u8],
+    at: usize,
+    top: u8,
+    numbers: &[u32],
+) -> Result<bool, DecodeEnd> {
+    if at > text.len() {
+        return Ok(false);
+    }
+    let (record, _) = decode(alloc, text, at)?;
+    Ok(record.top == top && has_numbers(alloc, &record.body, numbers)?)
+}
+
+fn is_worked(alloc: Global, worked: &Worked) -> Result<bool, DecodeEnd> {
+    let (bytes, top, numbers) = *worked;
+    let text = framed(alloc, bytes)?;
+    let text = text.as_slice();
+    let behind = bytes.len().saturating_add(2);
+    Ok(goes_both_ways(alloc, text, 2, behind, bytes)? && says(alloc, text, 2, top, numbers)?)
+}
+
+// The place of the first record that is read or written in another way.
+fn first_not_worked(alloc: Global) -> Result<Option<usize>, DecodeEnd> {
+    for (at, worked) in WORKED.iter().enumerate() {
+        if !is_worked(alloc, worked)? {
+            return Ok(Some(at));
+        }
+    }
+    Ok(None)
 }
 
 #[test]
-fn expunge_with_guids_both_ways(rt: HostRuntime) -> Result<(), Fail> {
-    let read = decode(rt.alloc(), &EXPUNGE, 0);
-    let (record, behind) = read.ok().ok_or("the bytes are a record")?;
-    assert_eq!(rt; behind, 108);
-    assert_eq!(rt; check(&EXPUNGE, 0), Ok(108));
-    let numbers = numbers_of(rt.alloc(), &record.body)?;
-    assert_eq!(rt; numbers.len(), 86);
-    assert_eq!(rt; &numbers[..6], [0xed90, 5, 0, 0, 3, 0xe8].as_slice());
-    assert_eq!(rt; &numbers[69..74], [9, 0, 0, 3, 0xe8].as_slice());
-    let mut written = List::new(rt.alloc());
-    assert!(rt; encode(rt.alloc(), &record, &mut written).is_ok());
-    assert_eq!(rt; written.as_slice(), EXPUNGE.as_slice());
-    Ok(())
+fn worked_records_both_ways(rt: HostRuntime) {
+    assert_eq!(rt; first_not_worked(rt.alloc()), Ok(None));
+}
+
+// How many numbers the expunge has, where they begin so and the fifth row so.
+fn numbers_of_expunge(alloc: Global) -> Result<Option<usize>, DecodeEnd> {
+    let (record, _) = decode(alloc, &EXPUNGE, 0)?;
+    let numbers = numbers_of(alloc, &record.body)?;
+    match numbers.as_slice().split_at_checked(69) {
+        Some((front, rest))
+            if front.starts_with(&[0xed90, 5, 0, 0, 3, 0xe8])
+                && rest.starts_with(&[9, 0, 0, 3, 0xe8]) => { Ok(Some(numbers.len())) }
+        _ => Ok(None),
+    }
+}
+
+#[test]
+fn expunge_with_guids_both_ways(rt: HostRuntime) {
+    assert_eq!(rt;
+        goes_both_ways(rt.alloc(), &EXPUNGE, 0, 108, &EXPUNGE),
+        Ok(true)
+    );
+    assert_eq!(rt; numbers_of_expunge(rt.alloc()), Ok(Some(86)));
 }
 
 // Padding of any kind and a short reset, and what is written of them.
 const OTHERS: [(&[u8], &[u8]); 5] = [
     (
-        &[0x80, 0x80, 0x80, 0x84, 2, 0, 0, 0, 1, 0, 0, 0, 8, 7, 7, 7],
-        &[0x80, 0x80, 0x80, 0x84, 2, 0, 0, 0, 1, 0, 0, 0, 8, 0, 0, 0],
+        b"\x80\x80\x80\x84\x02\0\0\0\x01\0\0\0\x08\x07\x07\x07",
+        b"\x80\x80\x80\x84\x02\0\0\0\x01\0\0\0\x08\0\0\0",
     ),
     // the flag that raises a modification sequence is padding
     (
-        &[
-            0x80, 0x80, 0x80, 0x85, 4, 0, 0, 0, 1, 0, 0, 0, 1, 0, 0, 0, 8, 1, 1, 9,
-        ],
-        &[
-            0x80, 0x80, 0x80, 0x85, 4, 0, 0, 0, 1, 0, 0, 0, 1, 0, 0, 0, 8, 1, 0, 0,
-        ],
+        b"\x80\x80\x80\x85\x04\0\0\0\x01\0\0\0\x01\0\0\0\x08\x01\x01\x09",
+        b"\x80\x80\x80\x85\x04\0\0\0\x01\0\0\0\x01\0\0\0\x08\x01\0\0",
     ),
     (
-        &[
-            0x80, 0x80, 0x80, 0x84, 0x20, 0, 0, 0, 5, 0, 1, 0, 3, 9, 9, 9,
-        ],
-        &[
-            0x80, 0x80, 0x80, 0x84, 0x20, 0, 0, 0, 5, 0, 1, 0, 3, 0, 0, 0,
-        ],
+        b"\x80\x80\x80\x84\x20\0\0\0\x05\0\x01\0\x03\x09\x09\x09",
+        b"\x80\x80\x80\x84\x20\0\0\0\x05\0\x01\0\x03\0\0\0",
     ),
     (
-        &[
-            0x80, 0x80, 0x80, 0x84, 0, 4, 0, 0, 2, 9, 1, 0, 0x6b, 9, 9, 9,
-        ],
-        &[
-            0x80, 0x80, 0x80, 0x84, 0, 4, 0, 0, 2, 0, 1, 0, 0x6b, 0, 0, 0,
-        ],
+        b"\x80\x80\x80\x84\0\x04\0\0\x02\x09\x01\0k\x09\x09\x09",
+        b"\x80\x80\x80\x84\0\x04\0\0\x02\0\x01\0k\0\0\0",
     ),
     (
-        &[0x80, 0x80, 0x80, 0x83, 0x80, 0, 0, 0, 7, 0, 0, 0],
-        &[
-            0x80, 0x80, 0x80, 0x84, 0x80, 0, 0, 0, 7, 0, 0, 0, 0, 0, 0, 0,
-        ],
+        b"\x80\x80\x80\x83\x80\0\0\0\x07\0\0\0",
+        b"\x80\x80\x80\x84\x80\0\0\0\x07\0\0\0\0\0\0\0",
     ),
 ];
 
-#[test]
-fn other_spellings_are_read(rt: HostRuntime) -> Result<(), Fail> {
-    for (bytes, canonical) in OTHERS {
-        let read = decode(rt.alloc(), bytes, 0);
-        let (record, behind) = read.ok().ok_or("the bytes are a record")?;
-        assert_eq!(rt; behind, bytes.len());
-        assert_eq!(rt; check(bytes, 0), Ok(bytes.len()));
-        let mut written = List::new(rt.alloc());
-        assert!(rt; encode(rt.alloc(), &record, &mut written).is_ok());
-        assert_eq!(rt; written.as_slice(), canonical);
+// The place of the first spelling that isn't read or written so.
+fn first_other_spelling(alloc: Global) -> Result<Option<usize>, DecodeEnd> {
+    for (at, (bytes, canonical)) in OTHERS.iter().enumerate() {
+        if !goes_both_ways(alloc, bytes, 0, bytes.len(), canonical)? {
+            return Ok(Some(at));
+        }
     }
-    Ok(())
+    Ok(None)
+}
+
+#[test]
+fn other_spellings_are_read(rt: HostRuntime) {
+    assert_eq!(rt; first_other_spelling(rt.alloc()), Ok(None));
+}
+
+// Whether the first bytes are no record, because of this fault.
+fn is_refused(alloc: Global, bytes: &[u8], fault: RecordFault) -> bool {
+    let read = decode(alloc, bytes, 0);
+    read.err() == Some(DecodeEnd::Fault(fault)) && check(bytes, 0) == Err(fault)
+}
+
+fn refuses_prefixes(alloc: Global, bytes: &[u8]) -> bool {
+    for n in 0..bytes.len() {
+        let fault = if n < 4 { CLOSED } else { SIZE };
+        if !is_refused(alloc, &bytes[..n], fault) {
+            return false;
+        }
+    }
+    true
 }
 
 #[test]
@@ -103,17 +171,6 @@ fn prefixes_are_no_records(rt: HostRuntime) {
         assert!(rt; refuses_prefixes(rt.alloc(), bytes), "{bytes:?}");
     }
     assert!(rt; refuses_prefixes(rt.alloc(), &EXPUNGE));
-}
-
-fn refuses_prefixes(alloc: Global, bytes: &[u8]) -> bool {
-    for n in 0..bytes.len() {
-        let fault = if n < 4 { CLOSED } else { SIZE };
-        let read = decode(alloc, &bytes[..n], 0);
-        if read.err() != Some(DecodeEnd::Fault(fault)) || check(&bytes[..n], 0) != Err(fault) {
-            return false;
-        }
-    }
-    true
 }
 
 const CLOSED: RecordFault = RecordFault::Closed;
@@ -126,154 +183,113 @@ const PAYLOAD: RecordFault = RecordFault::BadPayload;
 
 // What no record is.
 const HOSTILE: [(&[u8], RecordFault); 36] = [
-    (&[], CLOSED),
-    (&[0x80, 0x80, 0x80], CLOSED),
-    (&[0, 0, 0, 0], CLOSED),
-    (&[0x81, 0x80, 0x80, 0x80, 2, 0, 0, 0], CLOSED),
-    (&[0x80, 0x80, 0, 0x82, 2, 0, 0, 0], CLOSED),
-    (&[0x80, 0x80, 0x80, 2, 2, 0, 0, 0], CLOSED),
-    (&[0x80, 0x80, 0x80, 0x80, 2, 0, 0, 0], SIZE),
-    (&[0x80, 0x80, 0x80, 0x81, 2, 0, 0, 0], SIZE),
-    (&[0x80, 0x80, 0x80, 0x82, 2, 0, 0], SIZE),
-    (&[0x80, 0xff, 0xff, 0xff, 1, 0, 0, 0], SIZE),
-    (&[0x80, 0x80, 0x80, 0x82, 1, 0, 0, 0x10], GUARD),
-    (&[0x80, 0x80, 0x80, 0x83, 1, 0, 0, 0x10, 5, 5, 5, 5], GUARD),
-    (&[0x80, 0x80, 0x80, 0x82, 0, 0x20, 0, 0], GUARD),
+    (b"", CLOSED),
+    (b"\x80\x80\x80", CLOSED),
+    (b"\0\0\0\0", CLOSED),
+    (b"\x81\x80\x80\x80\x02\0\0\0", CLOSED),
+    (b"\x80\x80\0\x82\x02\0\0\0", CLOSED),
+    (b"\x80\x80\x80\x02\x02\0\0\0", CLOSED),
+    (b"\x80\x80\x80\x80\x02\0\0\0", SIZE),
+    (b"\x80\x80\x80\x81\x02\0\0\0", SIZE),
+    (b"\x80\x80\x80\x82\x02\0\0", SIZE),
+    (b"\x80\xff\xff\xff\x01\0\0\0", SIZE),
+    (b"\x80\x80\x80\x82\x01\0\0\x10", GUARD),
+    (b"\x80\x80\x80\x83\x01\0\0\x10\x05\x05\x05\x05", GUARD),
+    (b"\x80\x80\x80\x82\0\x20\0\0", GUARD),
+    (b"\x80\x80\x80\x83\x91\xcd\0\0\x01\0\0\0", PAYLOAD),
+    (b"\x80\x80\x80\x84\x91\xcd\0\0\0\0\0\0\x09\0\0\0", PAYLOAD),
+    (b"\x80\x80\x80\x84\x91\xcd\0\0\x02\0\0\0\x01\0\0\0", PAYLOAD),
+    (b"\x80\x80\x80\x83\x02\0\0\0\x01\0\0\0", PAYLOAD),
+    (b"\x80\x80\x80\x84\x02\0\0\0\0\0\0\0\0\0\0\0", PAYLOAD),
     (
-        &[0x80, 0x80, 0x80, 0x83, 0x91, 0xcd, 0, 0, 1, 0, 0, 0],
+        b"\x80\x80\x80\x84\x02\0\0\0\xff\xff\xff\xff\0\0\0\0",
         PAYLOAD,
     ),
+    (b"\x80\x80\x80\x84\x04\0\0\0\x01\0\0\0\x01\0\0\0", PAYLOAD),
     (
-        &[
-            0x80, 0x80, 0x80, 0x84, 0x91, 0xcd, 0, 0, 0, 0, 0, 0, 9, 0, 0, 0,
-        ],
+        b"\x80\x80\x80\x85\x04\0\0\0\0\0\0\0\x01\0\0\0\x01\0\0\0",
         PAYLOAD,
     ),
+    (b"\x80\x80\x80\x82\x20\0\0\0", PAYLOAD),
+    (b"\x80\x80\x80\x83\x20\0\0\0\x01\0\x01\0", PAYLOAD),
+    (b"\x80\x80\x80\x82\x40\0\0\0", PAYLOAD),
+    (b"\x80\x80\x80\x84\x40\0\0\0\x01\0\0\0\x01\0\0\0", PAYLOAD),
+    (b"\x80\x80\x80\x82\x80\0\0\0", PAYLOAD),
     (
-        &[
-            0x80, 0x80, 0x80, 0x84, 0x91, 0xcd, 0, 0, 2, 0, 0, 0, 1, 0, 0, 0,
-        ],
+        b"\x80\x80\x80\x85\x80\0\0\0\x01\0\0\0\0\0\0\0\0\0\0\0",
         PAYLOAD,
     ),
-    (&[0x80, 0x80, 0x80, 0x83, 2, 0, 0, 0, 1, 0, 0, 0], PAYLOAD),
+    (b"\x80\x80\x80\x82\0\x01\0\0", PAYLOAD),
+    (b"\x80\x80\x80\x82\0\x04\0\0", PAYLOAD),
+    (b"\x80\x80\x80\x84\0\x04\0\0\x03\0\x01\0k\0\0\0", PAYLOAD),
+    (b"\x80\x80\x80\x83\0\x04\0\0\0\0\0\0", PAYLOAD),
+    (b"\x80\x80\x80\x84\0\x04\0\0\0\0\x01\0\x25\0\0\0", PAYLOAD),
+    (b"\x80\x80\x80\x84\0\x04\0\0\0\0\x01\0\x7f\0\0\0", PAYLOAD),
     (
-        &[0x80, 0x80, 0x80, 0x84, 2, 0, 0, 0, 0, 0, 0, 0, 0, 0, 0, 0],
+        b"\x80\x80\x80\x85\0\x04\0\0\0\0\x01\0k\0\0\0\x01\0\0\0",
         PAYLOAD,
     ),
-    (
-        &[
-            0x80, 0x80, 0x80, 0x84, 2, 0, 0, 0, 0xff, 0xff, 0xff, 0xff, 0, 0, 0, 0,
-        ],
-        PAYLOAD,
-    ),
-    (
-        &[0x80, 0x80, 0x80, 0x84, 4, 0, 0, 0, 1, 0, 0, 0, 1, 0, 0, 0],
-        PAYLOAD,
-    ),
-    (
-        &[
-            0x80, 0x80, 0x80, 0x85, 4, 0, 0, 0, 0, 0, 0, 0, 1, 0, 0, 0, 1, 0, 0, 0,
-        ],
-        PAYLOAD,
-    ),
-    (&[0x80, 0x80, 0x80, 0x82, 0x20, 0, 0, 0], PAYLOAD),
-    (
-        &[0x80, 0x80, 0x80, 0x83, 0x20, 0, 0, 0, 1, 0, 1, 0],
-        PAYLOAD,
-    ),
-    (&[0x80, 0x80, 0x80, 0x82, 0x40, 0, 0, 0], PAYLOAD),
-    (
-        &[
-            0x80, 0x80, 0x80, 0x84, 0x40, 0, 0, 0, 1, 0, 0, 0, 1, 0, 0, 0,
-        ],
-        PAYLOAD,
-    ),
-    (&[0x80, 0x80, 0x80, 0x82, 0x80, 0, 0, 0], PAYLOAD),
-    (
-        &[
-            0x80, 0x80, 0x80, 0x85, 0x80, 0, 0, 0, 1, 0, 0, 0, 0, 0, 0, 0, 0, 0, 0, 0,
-        ],
-        PAYLOAD,
-    ),
-    (&[0x80, 0x80, 0x80, 0x82, 0, 1, 0, 0], PAYLOAD),
-    (&[0x80, 0x80, 0x80, 0x82, 0, 4, 0, 0], PAYLOAD),
-    (
-        &[
-            0x80, 0x80, 0x80, 0x84, 0, 4, 0, 0, 3, 0, 1, 0, 0x6b, 0, 0, 0,
-        ],
-        PAYLOAD,
-    ),
-    (&[0x80, 0x80, 0x80, 0x83, 0, 4, 0, 0, 0, 0, 0, 0], PAYLOAD),
-    (
-        &[
-            0x80, 0x80, 0x80, 0x84, 0, 4, 0, 0, 0, 0, 1, 0, 0x25, 0, 0, 0,
-        ],
-        PAYLOAD,
-    ),
-    (
-        &[
-            0x80, 0x80, 0x80, 0x84, 0, 4, 0, 0, 0, 0, 1, 0, 0x7f, 0, 0, 0,
-        ],
-        PAYLOAD,
-    ),
-    (
-        &[
-            0x80, 0x80, 0x80, 0x85, 0, 4, 0, 0, 0, 0, 1, 0, 0x6b, 0, 0, 0, 1, 0, 0, 0,
-        ],
-        PAYLOAD,
-    ),
-    (&[0x80, 0x80, 0x80, 0x83, 0, 8, 0, 0, 1, 0, 0, 0], PAYLOAD),
-    (
-        &[0x80, 0x80, 0x80, 0x83, 0x90, 0xed, 0, 0, 1, 0, 0, 0],
-        PAYLOAD,
-    ),
+    (b"\x80\x80\x80\x83\0\x08\0\0\x01\0\0\0", PAYLOAD),
+    (b"\x80\x80\x80\x83\x90\xed\0\0\x01\0\0\0", PAYLOAD),
 ];
 
 #[test]
 fn hostile_bytes_are_refused(rt: HostRuntime) {
-    for (place, (bytes, fault)) in HOSTILE.iter().enumerate() {
-        let read = decode(rt.alloc(), bytes, 0);
-        assert_eq!(rt; read.err(), Some(DecodeEnd::Fault(*fault)), "{place}");
-        assert_eq!(rt; check(bytes, 0), Err(*fault), "{place}");
+    for (bytes, fault) in HOSTILE {
+        assert!(rt; is_refused(rt.alloc(), bytes, fault), "{bytes:?}");
     }
 }
 
-#[test]
-fn keyword_names_end_at_255_bytes(rt: HostRuntime) -> Result<(), Fail> {
-    // 12 bytes in front of the name, and 268 in all
-    for (len, is_name) in [(255, true), (256, false)] {
-        let mut text = List::from_slice(rt.alloc(), &[0x80, 0x80, 0x80, 0xc3, 0, 4, 0, 0, 0, 0])?;
-        text.extend(&u16::to_le_bytes(len))?;
-        for _ in 0..256 {
-            text.push(b'k')?;
-        }
-        let read = decode(rt.alloc(), text.as_slice(), 0);
-        assert_eq!(rt; read.is_ok(), is_name);
-        assert_eq!(rt; check(text.as_slice(), 0).is_ok(), is_name);
+// A record of 268 bytes that says that its keyword has so many bytes, 12 of them in front.
+fn keyword_of(alloc: Global, len: u16) -> Result<Bytes, NoMemory> {
+    let mut text = List::from_slice(alloc, &[0x80, 0x80, 0x80, 0xc3, 0, 4, 0, 0, 0, 0])?;
+    text.extend(&u16::to_le_bytes(len))?;
+    for _ in 0..256 {
+        text.push(b'k')?;
     }
-    Ok(())
+    Ok(text)
 }
 
-/// Whether the text is that of a record, and the one that is written of it.
-fn goes_both_ways(alloc: Global, text: &[u8]) -> Result<bool, Fail> {
-    let read = decode(alloc, text, 0);
-    let (record, behind) = read.ok().ok_or("the bytes are a record")?;
-    let mut written = List::new(alloc);
-    let done = encode(alloc, &record, &mut written);
-    Ok(done.is_ok() && behind == text.len() && written.as_slice() == text)
+// Whether the record is read, and found.
+fn is_keyword(alloc: Global, len: u16) -> Result<(bool, bool), NoMemory> {
+    let text = keyword_of(alloc, len)?;
+    let read = decode(alloc, text.as_slice(), 0);
+    Ok((read.is_ok(), check(text.as_slice(), 0).is_ok()))
 }
 
-// The longest record, and an append of as many rows as one is written with at most.
 #[test]
-fn long_records_both_ways(rt: HostRuntime) -> Result<(), Fail> {
-    let mut longest = List::from_slice(rt.alloc(), &[0x80, 0xff, 0xff, 0xff, 0, 2, 0, 0])?;
-    longest.extend(&vec![in rt.alloc(); 7; 8_388_596]?)?;
-    assert!(rt; goes_both_ways(rt.alloc(), longest.as_slice())?);
-    let mut append = List::from_slice(rt.alloc(), &[0x80, 0x88, 0x80, 0x82, 2, 0, 0, 0x10])?;
+fn keyword_names_end_at_255_bytes(rt: HostRuntime) {
+    assert_eq!(rt; is_keyword(rt.alloc(), 255), Ok((true, true)));
+    assert_eq!(rt; is_keyword(rt.alloc(), 256), Ok((false, false)));
+}
+
+// The longest record.
+fn longest(alloc: Global) -> Result<Bytes, NoMemory> {
+    let bytes = vec![in alloc; 7; 8_388_596]?;
+    let mut text = List::from_slice(alloc, &[0x80, 0xff, 0xff, 0xff, 0, 2, 0, 0])?;
+    text.extend(&bytes)?;
+    Ok(text)
+}
+
+// An append of as many rows as one is written with at most.
+fn longest_append(alloc: Global) -> Result<Bytes, NoMemory> {
+    let mut text = List::from_slice(alloc, &[0x80, 0x88, 0x80, 0x82, 2, 0, 0, 0x10])?;
     for uid in 1..=65_536_u32 {
-        append.extend(&uid.to_le_bytes())?;
-        append.extend(&[8, 0, 0, 0])?;
+        text.extend(&uid.to_le_bytes())?;
+        text.extend(&[8, 0, 0, 0])?;
     }
-    assert!(rt; goes_both_ways(rt.alloc(), append.as_slice())?);
-    Ok(())
+    Ok(text)
+}
+
+fn is_kept(alloc: Global, text: Result<Bytes, NoMemory>) -> Result<bool, DecodeEnd> {
+    let text = text?;
+    let bytes = text.as_slice();
+    goes_both_ways(alloc, bytes, 0, bytes.len(), bytes)
+}
+
+#[test]
+fn long_records_both_ways(rt: HostRuntime) {
+    let alloc = rt.alloc();
+    assert_eq!(rt; is_kept(alloc, longest(alloc)), Ok(true));
+    assert_eq!(rt; is_kept(alloc, longest_append(alloc)), Ok(true));
 }

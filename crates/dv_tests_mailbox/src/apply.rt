@@ -1,4 +1,5 @@
 use dv_apply::{ApplyFault, Live};
+use dv_model::{NoMemory, Row};
 use dv_records::decode;
 use dv_touched::Touched;
 use std::alloc::Global;
@@ -11,8 +12,11 @@ type Step = (
     &'static [u8],
     Result<(), ApplyFault>,
     (u32, u32, u64, u32, u32),
-    &'static [(u32, u8, &'static [u32], u64)],
+    &'static [Seen],
 );
+
+// A row's UID, flags, places of keywords and modification sequence.
+type Seen = (u32, u8, &'static [u32], u64);
 
 const STEPS: [Step; 10] = [
     // UID 1, and UID 2 with Seen
@@ -107,35 +111,51 @@ fn counts(live: &Live) -> (u32, u32, u64, u32, u32) {
     )
 }
 
-fn has_rows(live: &Live, rows: &[(u32, u8, &[u32], u64)]) -> bool {
-    for k in 0..live.count() {
-        let row = live.row(k);
-        if k as usize >= rows.len() {
+fn is_seen(row: &Row, e: &Seen) -> bool {
+    (row.uid, row.flags, row.modseq) == (e.0, e.1, e.3) && row.keywords.as_slice() == e.2
+}
+
+// Whether the row at this place is as expected, and found there.
+fn has_row(live: &Live, k: u32, e: &Seen) -> bool {
+    k < live.count() && is_seen(live.row(k), e) && live.position(e.0) == Some(k)
+}
+
+fn has_rows(live: &Live, rows: &[Seen]) -> bool {
+    let mut k = 0;
+    for row in rows {
+        if !has_row(live, k, row) {
             return false;
         }
-        let expected = rows[k as usize];
-        let keywords = row.keywords.as_slice();
-        if row.uid != expected.0 || row.flags != expected.1 || keywords != expected.2 {
-            return false;
-        }
-        if row.modseq != expected.3 || live.position(row.uid) != Some(k) {
-            return false;
+        k = k.saturating_add(1);
+    }
+    k == live.count()
+}
+
+fn is_right(alloc: Global, live: &mut Live, step: &Step) -> bool {
+    let (bytes, answer, expected, rows) = *step;
+    apply(alloc, live, bytes) == answer && counts(live) == expected && has_rows(live, rows)
+}
+
+// The place of the first step that is answered, or leaves the mailbox, in another way.
+fn first_wrong(alloc: Global, live: &mut Live) -> Option<usize> {
+    for (at, step) in STEPS.iter().enumerate() {
+        if !is_right(alloc, live, step) {
+            return Some(at);
         }
     }
-    true
+    None
+}
+
+// The same, and the number of names and the UIDVALIDITY afterwards.
+fn stepped(alloc: Global) -> (Option<usize>, u32, u32) {
+    let mut live = Live::empty(alloc, 1000);
+    let first = first_wrong(alloc, &mut live);
+    (first, live.names().count(), live.uid_validity())
 }
 
 #[test]
-fn records_are_applied_in_turn(rt: HostRuntime) -> Result<(), Fail> {
-    let mut live = Live::empty(rt.alloc(), 1000);
-    for (bytes, answer, expected, rows) in STEPS {
-        assert_eq!(rt; apply(rt.alloc(), &mut live, bytes), answer);
-        assert_eq!(rt; counts(&live), expected);
-        assert!(rt; has_rows(&live, rows));
-    }
-    assert_eq!(rt; live.names().count(), 2);
-    assert_eq!(rt; live.uid_validity(), 1000);
-    Ok(())
+fn records_are_applied_in_turn(rt: HostRuntime) {
+    assert_eq!(rt; stepped(rt.alloc()), (None, 2, 1000));
 }
 
 // UID 1, and UID 2 with Seen.
@@ -181,11 +201,7 @@ fn has_part(live: &Live, bytes: &[u8]) -> bool {
 }
 
 // A record, the first extension's bytes of the first row behind it, and the rows.
-type Further = (
-    &'static [u8],
-    &'static [u8],
-    &'static [(u32, u8, &'static [u32], u64)],
-);
+type Further = (&'static [u8], &'static [u8], &'static [Seen]);
 
 const FURTHER: [Further; 10] = [
     (TWO, b"", &[(1, 0, &[], 2), (2, 8, &[], 2)]),
@@ -200,55 +216,104 @@ const FURTHER: [Further; 10] = [
     (NAMED, b"\0\0\0\0", &[(2, 8, &[], 10)]),
 ];
 
+fn is_further(alloc: Global, live: &mut Live, further: &Further) -> bool {
+    let (bytes, part, rows) = *further;
+    apply(alloc, live, bytes) == Ok(()) && has_part(live, part) && has_rows(live, rows)
+}
+
+fn first_other(alloc: Global, live: &mut Live) -> Option<usize> {
+    for (at, further) in FURTHER.iter().enumerate() {
+        if !is_further(alloc, live, further) {
+            return Some(at);
+        }
+    }
+    None
+}
+
+// The place of the first record that leaves another mailbox.
+fn further_records(alloc: Global) -> Option<usize> {
+    let mut live = Live::empty(alloc, 1000);
+    first_other(alloc, &mut live)
+}
+
 #[test]
-fn records_of_extensions_and_removals_are_applied(rt: HostRuntime) -> Result<(), Fail> {
-    let mut live = Live::empty(rt.alloc(), 1000);
-    for (bytes, part, rows) in FURTHER {
-        assert_eq!(rt; apply(rt.alloc(), &mut live, bytes), Ok(()));
-        assert!(rt; has_part(&live, part));
-        assert!(rt; has_rows(&live, rows));
+fn records_of_extensions_and_removals_are_applied(rt: HostRuntime) {
+    assert_eq!(rt; further_records(rt.alloc()), None);
+}
+
+fn apply_all(alloc: Global, live: &mut Live, records: &[&[u8]]) -> Result<(), ApplyFault> {
+    for bytes in records {
+        apply(alloc, live, bytes)?;
     }
     Ok(())
 }
 
-#[test]
-fn a_header_that_grows_leaves_the_rows(rt: HostRuntime) -> Result<(), Fail> {
-    let mut live = Live::empty(rt.alloc(), 1000);
-    for bytes in [TWO, INTRO, UPDATE, LONGER] {
-        assert_eq!(rt; apply(rt.alloc(), &mut live, bytes), Ok(()));
+// Whether the mailbox has one extension, with this header.
+fn has_header(live: &Live, header: &[u8]) -> bool {
+    match live.extensions().list().as_slice() {
+        [extension] => extension.header.as_slice() == header,
+        _ => false,
     }
-    let extensions = live.extensions().list().as_slice();
-    assert!(rt; extensions.len() == 1);
-    assert_eq!(rt; extensions[0].header.as_slice(), [0; 8].as_slice());
-    assert!(rt; has_part(&live, b"\x07\x08"));
-    Ok(())
+}
+
+// Whether the header grew, and the first row stayed.
+fn grown(alloc: Global) -> Result<(bool, bool), ApplyFault> {
+    let mut live = Live::empty(alloc, 1000);
+    apply_all(alloc, &mut live, &[TWO, INTRO, UPDATE, LONGER])?;
+    Ok((has_header(&live, &[0; 8]), has_part(&live, b"\x07\x08")))
 }
 
 #[test]
-fn a_copied_mailbox_is_kept_apart(rt: HostRuntime) -> Result<(), Fail> {
-    let mut live = Live::empty(rt.alloc(), 1000);
-    assert_eq!(rt; live.reserve(3), Ok(()));
-    assert_eq!(rt; apply(rt.alloc(), &mut live, TWO), Ok(()));
-    let mailbox = live.mailbox(rt.alloc())?;
-    let mut other = Live::of(rt.alloc(), mailbox)?;
-    assert_eq!(rt; apply(rt.alloc(), &mut other, OLD), Ok(()));
-    assert!(rt; has_rows(&other, &[(1, 0, &[], 2), (2, 8, &[0], 3)]));
-    assert_eq!(rt; counts(&live), (2, 3, 2, 1, 0));
-    Ok(())
+fn a_header_that_grows_leaves_the_rows(rt: HostRuntime) {
+    assert_eq!(rt; grown(rt.alloc()), Ok((true, true)));
+}
+
+const FIRST: [Seen; 2] = [(1, 0, &[], 2), (2, 8, &[], 2)];
+
+const CHANGED: [Seen; 2] = [(1, 0, &[], 2), (2, 8, &[0], 3)];
+
+fn other_of(alloc: Global, live: &Live) -> Result<Live, NoMemory> {
+    let mailbox = live.mailbox(alloc)?;
+    Live::of(alloc, mailbox)
+}
+
+// Whether the other mailbox changes by a record.
+fn changes(alloc: Global, live: &mut Live) -> bool {
+    apply(alloc, live, OLD) == Ok(()) && has_rows(live, &CHANGED)
+}
+
+// Whether a mailbox with room for three rows takes two, the other changes, and it stays.
+fn apart(alloc: Global) -> Result<[bool; 3], NoMemory> {
+    let mut live = Live::empty(alloc, 1000);
+    let is_made = live.reserve(3).is_ok() && apply(alloc, &mut live, TWO) == Ok(());
+    let mut other = other_of(alloc, &live)?;
+    let is_changed = changes(alloc, &mut other);
+    Ok([is_made, is_changed, counts(&live) == (2, 3, 2, 1, 0)])
 }
 
 #[test]
-fn a_copy_changes_by_itself(rt: HostRuntime) -> Result<(), Fail> {
-    let mut live = Live::empty(rt.alloc(), 1000);
-    assert_eq!(rt; apply(rt.alloc(), &mut live, TWO), Ok(()));
-    let mut copy = live.copy(rt.alloc())?;
-    assert_eq!(rt; apply(rt.alloc(), &mut copy, OLD), Ok(()));
-    assert!(rt; has_rows(&copy, &[(1, 0, &[], 2), (2, 8, &[0], 3)]));
-    assert_eq!(rt; copy.names().count(), 1);
-    assert!(rt; has_rows(&live, &[(1, 0, &[], 2), (2, 8, &[], 2)]));
-    assert_eq!(rt; live.names().count(), 0);
-    assert_eq!(rt; copy.uid_validity(), 1000);
-    Ok(())
+fn a_copied_mailbox_is_kept_apart(rt: HostRuntime) {
+    assert_eq!(rt; apart(rt.alloc()), Ok([true; 3]));
+}
+
+// Whether a copy changes, and the mailbox stays; and the numbers of names and the copy's
+// UIDVALIDITY.
+fn copied(alloc: Global) -> Result<([bool; 3], [u32; 3]), NoMemory> {
+    let mut live = Live::empty(alloc, 1000);
+    let is_made = apply(alloc, &mut live, TWO) == Ok(());
+    let mut copy = live.copy(alloc)?;
+    let steps = [is_made, changes(alloc, &mut copy), has_rows(&live, &FIRST)];
+    let numbers = [
+        copy.names().count(),
+        live.names().count(),
+        copy.uid_validity(),
+    ];
+    Ok((steps, numbers))
+}
+
+#[test]
+fn a_copy_changes_by_itself(rt: HostRuntime) {
+    assert_eq!(rt; copied(rt.alloc()), Ok(([true; 3], [1, 0, 1000])));
 }
 
 // UID 2 gets Seen.
@@ -272,16 +337,31 @@ fn touches(alloc: Global, live: &mut Live, bytes: &[u8], touched: &mut Touched) 
     }
 }
 
-#[test]
-fn touched_uids_are_gathered(rt: HostRuntime) -> Result<(), Fail> {
-    let mut live = Live::empty(rt.alloc(), 1000);
-    let mut touched = Touched::empty(rt.alloc());
-    assert_eq!(rt; apply(rt.alloc(), &mut live, TWO), Ok(()));
-    for (bytes, uids) in TOUCHES {
-        assert!(rt; touches(rt.alloc(), &mut live, bytes, &mut touched));
-        assert_eq!(rt; touched.uids(), uids);
+fn are_touched(touched: &Touched, uids: &[u32]) -> bool {
+    touched.uids() == uids
+}
+
+fn first_untouched(alloc: Global, live: &mut Live, touched: &mut Touched) -> Option<usize> {
+    for (at, (bytes, uids)) in TOUCHES.iter().enumerate() {
+        let is_applied = touches(alloc, live, bytes, touched);
+        if !is_applied || !are_touched(touched, uids) {
+            return Some(at);
+        }
     }
-    Ok(())
+    None
+}
+
+// The place of the first record behind which other UIDs are touched.
+fn touched_in_turn(alloc: Global) -> Result<Option<usize>, ApplyFault> {
+    let mut live = Live::empty(alloc, 1000);
+    apply(alloc, &mut live, TWO)?;
+    let mut touched = Touched::empty(alloc);
+    Ok(first_untouched(alloc, &mut live, &mut touched))
+}
+
+#[test]
+fn touched_uids_are_gathered(rt: HostRuntime) {
+    assert_eq!(rt; touched_in_turn(rt.alloc()), Ok(None));
 }
 
 fn prepares(alloc: Global, live: &mut Live, bytes: &[u8]) -> Result<(), ApplyFault> {
@@ -294,16 +374,23 @@ fn prepares(alloc: Global, live: &mut Live, bytes: &[u8]) -> Result<(), ApplyFau
     }
 }
 
+// What preparing two rows once more answers, and then another one; and the counts behind.
+fn prepared(
+    alloc: Global,
+) -> Result<([Result<(), ApplyFault>; 2], (u32, u32, u64, u32, u32)), ApplyFault> {
+    let mut live = Live::empty(alloc, 1000);
+    apply(alloc, &mut live, TWO)?;
+    let again = prepares(alloc, &mut live, TWO);
+    let answers = [again, prepares(alloc, &mut live, THREE)];
+    Ok((answers, counts(&live)))
+}
+
 #[test]
-fn a_refused_row_is_named_before_the_mailbox_changes(rt: HostRuntime) -> Result<(), Fail> {
-    let mut live = Live::empty(rt.alloc(), 1000);
-    assert_eq!(rt; apply(rt.alloc(), &mut live, TWO), Ok(()));
+fn a_refused_row_is_named_before_the_mailbox_changes(rt: HostRuntime) {
     let refused = ApplyFault::BadAppend {
         uid: 1,
         next_uid: 3,
     };
-    assert_eq!(rt; prepares(rt.alloc(), &mut live, TWO), Err(refused));
-    assert_eq!(rt; prepares(rt.alloc(), &mut live, THREE), Ok(()));
-    assert_eq!(rt; counts(&live), (2, 3, 2, 1, 0));
-    Ok(())
+    let answers = [Err(refused), Ok(())];
+    assert_eq!(rt; prepared(rt.alloc()), Ok((answers, (2, 3, 2, 1, 0))));
 }

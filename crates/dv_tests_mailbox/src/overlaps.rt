@@ -31,40 +31,47 @@ fn three(alloc: Global) -> Result<Rows, NoMemory> {
 // Each row's UID, flags and modification sequence.
 fn are(rows: &Rows, expected: &[(u32, u8, u64)]) -> bool {
     let rows = rows.as_slice();
-    if rows.len() != expected.len() {
-        return false;
-    }
-    for (at, row) in rows.iter().enumerate() {
-        if (row.uid, row.flags, row.modseq) != expected[at] {
-            return false;
-        }
-    }
-    true
+    rows.len() == expected.len()
+        && rows
+            .iter()
+            .zip(expected)
+            .all(|(row, e)| (row.uid, row.flags, row.modseq) == *e)
 }
 
-#[test]
-fn rows_in_several_ranges_change_as_these_say_in_turn(rt: HostRuntime) -> Result<(), Fail> {
-    let mut rows = three(rt.alloc())?;
+// Whether flags change as they should, and then rows leave.
+fn changed(alloc: Global) -> Result<(bool, bool), NoMemory> {
+    let mut rows = three(alloc)?;
     let changes = [
         change(1, u32::MAX, 8, 0),
         change(2, 2, 4, 8),
         change(3, 1, 1, 0),
     ];
-    change_flags(rt.alloc(), &mut rows, &changes, 7);
-    assert!(rt; are(&rows, &[(1, 8, 7), (2, 4, 7), (3, 8, 7)]));
-    expunge(rt.alloc(), &mut rows, &[pair(2, 3), pair(3, 9)]);
-    assert!(rt; are(&rows, &[(1, 8, 7)]));
-    Ok(())
+    change_flags(alloc, &mut rows, &changes, 7);
+    let is_changed = are(&rows, &[(1, 8, 7), (2, 4, 7), (3, 8, 7)]);
+    expunge(alloc, &mut rows, &[pair(2, 3), pair(3, 9)]);
+    Ok((is_changed, are(&rows, &[(1, 8, 7)])))
 }
 
 #[test]
-fn rows_in_several_ranges_are_named_once(rt: HostRuntime) -> Result<(), Fail> {
-    let rows = three(rt.alloc())?;
-    let mut uids = Vec::new(rt.alloc());
-    name_pairs(rt.alloc(), &rows, &[pair(2, 9), pair(1, 2)], &mut uids)?;
-    assert_eq!(rt; uids.as_slice(), [1, 2, 3].as_slice());
+fn rows_in_several_ranges_change_as_these_say_in_turn(rt: HostRuntime) {
+    assert_eq!(rt; changed(rt.alloc()), Ok((true, true)));
+}
+
+fn name_all(alloc: Global, rows: &Rows, uids: &mut Vec<u32>) -> Result<(), NoMemory> {
+    name_pairs(alloc, rows, &[pair(2, 9), pair(1, 2)], uids)?;
     let changes = [change(3, 3, 8, 0), change(2, 3, 0, 1)];
-    name_changed(rt.alloc(), &rows, &changes, &mut uids)?;
-    assert_eq!(rt; uids.as_slice(), [1, 2, 3, 2, 3].as_slice());
-    Ok(())
+    name_changed(alloc, rows, &changes, uids)
+}
+
+// Whether the UIDs of the rows in pairs are named, and behind them those in changes.
+fn are_named(alloc: Global) -> Result<bool, NoMemory> {
+    let rows = three(alloc)?;
+    let mut uids = Vec::new(alloc);
+    name_all(alloc, &rows, &mut uids)?;
+    Ok(uids.as_slice() == [1, 2, 3, 2, 3].as_slice())
+}
+
+#[test]
+fn rows_in_several_ranges_are_named_once(rt: HostRuntime) {
+    assert_eq!(rt; are_named(rt.alloc()), Ok(true));
 }

@@ -1,13 +1,17 @@
 use dv_gen::{draw, script};
-use dv_model::{Command, End, How, Item};
-use dv_script::{parse, print_script};
-use std::process::Abort;
-use std::test::Fail;
+use dv_model::{Command, End, How, Item, NoMemory};
+use dv_script::{Line, ScriptEnd, parse, print_script};
+use std::alloc::Global;
+use std::test::*;
+
+fn first_draw(seed: u64) -> u32 {
+    let mut state = seed;
+    draw(&mut state)
+}
 
 #[test]
 fn first_draw_of_seed_seven(rt: HostRuntime) {
-    let mut state = 7;
-    assert_eq!(rt; draw(&mut state), 1059165278);
+    assert_eq!(rt; first_draw(7), 1059165278);
 }
 
 fn ends_of(end: End) -> u32 {
@@ -50,31 +54,90 @@ fn fetched(command: &Command) -> Option<(u32, u32)> {
 
 const SESSIONS: [&[u8]; 6] = [b"s1", b"s2", b"s3", b"s1", b"s2", b"s3"];
 
-#[test]
-fn sessions_take_turns(rt: HostRuntime) -> Result<(), Fail> {
-    let lines = script(rt.alloc(), 7, 3, 3)?;
-    assert_eq!(rt; lines.len(), 6);
-    for (line, name) in lines.as_slice().iter().zip(SESSIONS) {
-        assert_eq!(rt; line.session.as_slice(), name);
-    }
-    Ok(())
+fn has_sessions(lines: &[Line], names: &[&[u8]]) -> bool {
+    lines.len() == names.len()
+        && lines
+            .iter()
+            .zip(names)
+            .all(|(line, name)| line.session.as_slice() == *name)
+}
+
+fn takes_turns(alloc: Global) -> Result<bool, NoMemory> {
+    let lines = script(alloc, 7, 3, 3)?;
+    Ok(has_sessions(lines.as_slice(), &SESSIONS))
 }
 
 #[test]
-fn a_noop_is_the_first_command_of_seed_seven(rt: HostRuntime) -> Result<(), Fail> {
-    let lines = script(rt.alloc(), 7, 9, 3)?;
-    assert_eq!(rt; lines.len(), 12);
-    assert!(rt; matches!(lines.get(0).command, Command::Select));
-    assert!(rt; matches!(lines.get(2).command, Command::Select));
-    assert!(rt; matches!(lines.get(3).command, Command::Noop));
-    assert!(rt; matches!(lines.get(4).command, Command::Expunge));
-    assert_eq!(rt; appended(&lines.get(5).command), Some(73));
-    assert_eq!(rt; appended(&lines.get(6).command), Some(19));
-    assert_eq!(rt; appended(&lines.get(7).command), Some(64));
-    assert_eq!(rt; appended(&lines.get(9).command), Some(80));
-    assert_eq!(rt; fetched(&lines.get(10).command), Some((3, 12)));
-    assert_eq!(rt; fetched(&lines.get(11).command), Some((4, 13)));
-    Ok(())
+fn sessions_take_turns(rt: HostRuntime) {
+    assert_eq!(rt; takes_turns(rt.alloc()), Ok(true));
+}
+
+// What a command is, as far as these tests look.
+#[derive(Clone, Copy, PartialEq)]
+enum Brief {
+    Select,
+    Noop,
+    Expunge,
+    // so many bytes
+    Append(usize),
+    // from one UID to another
+    Fetch(u32, u32),
+    Another,
+}
+
+fn brief_of(command: &Command) -> Brief {
+    match command {
+        Command::Select => Brief::Select,
+        Command::Noop => Brief::Noop,
+        Command::Expunge => Brief::Expunge,
+        Command::Append { .. } => match appended(command) {
+            Some(bytes) => Brief::Append(bytes),
+            None => Brief::Another,
+        },
+        Command::Fetch { .. } => match fetched(command) {
+            Some((first, last)) => Brief::Fetch(first, last),
+            None => Brief::Another,
+        },
+        _ => Brief::Another,
+    }
+}
+
+const COMMANDS: [Brief; 12] = [
+    Brief::Select,
+    Brief::Select,
+    Brief::Select,
+    Brief::Noop,
+    Brief::Expunge,
+    Brief::Append(73),
+    Brief::Append(19),
+    Brief::Append(64),
+    Brief::Another,
+    Brief::Append(80),
+    Brief::Fetch(3, 12),
+    Brief::Fetch(4, 13),
+];
+
+// The place of the first command that isn't as expected, of as many.
+fn first_other(lines: &[Line]) -> Option<usize> {
+    if lines.len() != COMMANDS.len() {
+        return Some(lines.len());
+    }
+    for (at, (line, expected)) in lines.iter().zip(COMMANDS).enumerate() {
+        if brief_of(&line.command) != expected {
+            return Some(at);
+        }
+    }
+    None
+}
+
+fn first_of_seven(alloc: Global) -> Result<Option<usize>, NoMemory> {
+    let lines = script(alloc, 7, 9, 3)?;
+    Ok(first_other(lines.as_slice()))
+}
+
+#[test]
+fn a_noop_is_the_first_command_of_seed_seven(rt: HostRuntime) {
+    assert_eq!(rt; first_of_seven(rt.alloc()), Ok(None));
 }
 
 // The text's FNV-1a hash of 64 bits.
@@ -86,14 +149,21 @@ fn hash_of(text: &[u8]) -> u64 {
     hash
 }
 
+// The length and the hash of a text, and how many lines are read of it.
+fn numbers_of(alloc: Global, text: &[u8]) -> Result<(usize, u64, usize), ScriptEnd> {
+    let lines = parse(alloc, text)?;
+    Ok((text.len(), hash_of(text), lines.len()))
+}
+
+fn hundred(alloc: Global) -> Result<(usize, u64, usize), ScriptEnd> {
+    let lines = script(alloc, 7, 100, 3)?;
+    let text = print_script(alloc, &lines)?;
+    numbers_of(alloc, text.as_slice())
+}
+
 #[test]
-fn the_first_hundred_commands_of_seed_seven_have_this_text(rt: HostRuntime) -> Result<(), Fail> {
-    let lines = script(rt.alloc(), 7, 100, 3)?;
-    let text = print_script(rt.alloc(), &lines)?;
-    assert_eq!(rt; text.len(), 4324);
-    assert_eq!(rt; hash_of(text.as_slice()), 0xccb9_3ee9_669b_5079);
-    assert_eq!(rt; parse(rt.alloc(), text.as_slice())?.len(), 103);
-    Ok(())
+fn the_first_hundred_commands_of_seed_seven_have_this_text(rt: HostRuntime) {
+    assert_eq!(rt; hundred(rt.alloc()), Ok((4324, 0xccb9_3ee9_669b_5079, 103)));
 }
 
 // What a STORE without a condition takes: its range, the flags, and its one keyword or none.
@@ -124,15 +194,57 @@ fn stored(command: &Command, wanted: How) -> Option<(u32, u32, u8, &[u8])> {
     }
 }
 
+// What is stored.
+struct Expected {
+    how: How,
+    range: (u32, u32),
+    flags: u8,
+    keyword: &'static [u8],
+}
+
+fn is_stored(command: &Command, e: &Expected) -> bool {
+    match stored(command, e.how) {
+        Some((first, last, flags, name)) => {
+            ((first, last), flags) == (e.range, e.flags) && name == e.keyword
+        }
+        None => false,
+    }
+}
+
+// Whether a script has so many lines, and this STORE at a place.
+fn has_store(lines: &[Line], count: usize, at: usize, e: &Expected) -> bool {
+    match lines.get(at) {
+        Some(line) => lines.len() == count && is_stored(&line.command, e),
+        None => false,
+    }
+}
+
+const FLAG: Expected = Expected {
+    how: How::Remove,
+    range: (5, 14),
+    flags: 8,
+    keyword: b"",
+};
+
+fn stores_a_flag(alloc: Global) -> Result<bool, NoMemory> {
+    let lines = script(alloc, 7, 9, 3)?;
+    Ok(has_store(lines.as_slice(), 12, 8, &FLAG))
+}
+
+const KEYWORD: Expected = Expected {
+    how: How::Add,
+    range: (1, 10),
+    flags: 0,
+    keyword: b"k5",
+};
+
+fn stores_a_keyword(alloc: Global) -> Result<bool, NoMemory> {
+    let lines = script(alloc, 14, 1, 1)?;
+    Ok(has_store(lines.as_slice(), 2, 1, &KEYWORD))
+}
+
 #[test]
-fn a_flag_or_a_keyword_is_stored(rt: HostRuntime) -> Result<(), Fail> {
-    let lines = script(rt.alloc(), 7, 9, 3)?;
-    assert_eq!(rt; lines.len(), 12);
-    let flag = stored(&lines.get(8).command, How::Remove);
-    assert_eq!(rt; flag, Some((5, 14, 8, b"".as_slice())));
-    let lines = script(rt.alloc(), 14, 1, 1)?;
-    assert_eq!(rt; lines.len(), 2);
-    let keyword = stored(&lines.get(1).command, How::Add);
-    assert_eq!(rt; keyword, Some((1, 10, 0, b"k5".as_slice())));
-    Ok(())
+fn a_flag_or_a_keyword_is_stored(rt: HostRuntime) {
+    assert_eq!(rt; stores_a_flag(rt.alloc()), Ok(true));
+    assert_eq!(rt; stores_a_keyword(rt.alloc()), Ok(true));
 }

@@ -1,9 +1,9 @@
-use dv_model::{Reply, Value};
+use dv_model::{Bytes, List, Reply, Value};
 use dv_replies::parse_reply;
 use dv_script::reply_text;
 use dv_sets::ParseEnd;
-use std::process::Abort;
-use std::test::Fail;
+use std::alloc::Global;
+use std::test::*;
 
 // Each is one reply, and all that may follow is another.
 const GOOD: [&[u8]; 21] = [
@@ -30,44 +30,67 @@ const GOOD: [&[u8]; 21] = [
     b"a BAD NO MESSAGE 0\n",
 ];
 
+// Whether the text of the reply that begins the line is the line.
+fn is_printed_again(alloc: Global, line: &[u8]) -> Result<bool, ParseEnd> {
+    let (session, reply, size) = parse_reply(alloc, line)?;
+    let again = reply_text(alloc, session.as_slice(), &reply)?;
+    Ok(size == line.len() && again.as_slice() == line)
+}
+
 #[test]
-fn each_line_is_read_and_printed_again(rt: HostRuntime) -> Result<(), Fail> {
+fn each_line_is_read_and_printed_again(rt: HostRuntime) {
     for line in GOOD {
-        let (session, reply, size) = parse_reply(rt.alloc(), line)?;
-        assert_eq!(rt; size, line.len());
-        let again = reply_text(rt.alloc(), session.as_slice(), &reply)?;
-        assert_eq!(rt; again.as_slice(), line);
+        assert_eq!(rt; is_printed_again(rt.alloc(), line), Ok(true), "{line:?}");
     }
-    Ok(())
+}
+
+// The size of a reply that another follows, where it is the expunge of 12 that session s1 is told.
+fn size_of_expunge(alloc: Global, text: &[u8]) -> Result<Option<usize>, ParseEnd> {
+    let (session, reply, size) = parse_reply(alloc, text)?;
+    if session.as_slice() == b"s1".as_slice() && matches!(reply, Reply::Expunge(12)) {
+        Ok(Some(size))
+    } else {
+        Ok(None)
+    }
 }
 
 #[test]
-fn what_follows_is_not_looked_at(rt: HostRuntime) -> Result<(), Fail> {
-    let (session, reply, size) = parse_reply(rt.alloc(), b"s1 * 12 EXPUNGE\nX\n")?;
-    assert_eq!(rt; session.as_slice(), b"s1".as_slice());
-    assert!(rt; matches!(reply, Reply::Expunge(12)));
-    assert_eq!(rt; size, 16);
-    Ok(())
+fn what_follows_is_not_looked_at(rt: HostRuntime) {
+    assert_eq!(rt;
+        size_of_expunge(rt.alloc(), b"s1 * 12 EXPUNGE\nX\n"),
+        Ok(Some(16))
+    );
 }
 
-#[test]
-fn values_are_those_that_stand_there(rt: HostRuntime) -> Result<(), Fail> {
-    let text = b"a * 1 FETCH (UID 7 FLAGS (\\Flagged \\Seen k) BODY[] {3}\n) \n)\n";
-    let (_, reply, _) = parse_reply(rt.alloc(), text)?;
+fn are_values(keywords: &List<Bytes>, bytes: &Bytes) -> bool {
+    keywords.len() == 1 && bytes.as_slice() == b") \n".as_slice()
+}
+
+// Whether the reply is a FETCH of UID 7 with two flags, a keyword and a body.
+fn is_fetch(reply: &Reply) -> bool {
     let Reply::Fetch {
         number: 1,
         uid: 7,
         values,
-    } = &reply
+    } = reply
     else {
-        return Err("a FETCH")?;
+        return false;
     };
     let [Value::Flags(10, keywords), Value::Body(bytes)] = values.as_slice() else {
-        return Err("flags and body")?;
+        return false;
     };
-    assert_eq!(rt; keywords.len(), 1);
-    assert_eq!(rt; bytes.as_slice(), b") \n".as_slice());
-    Ok(())
+    are_values(keywords, bytes)
+}
+
+fn reads_fetch(alloc: Global, text: &[u8]) -> Result<bool, ParseEnd> {
+    let (_, reply, _) = parse_reply(alloc, text)?;
+    Ok(is_fetch(&reply))
+}
+
+#[test]
+fn values_are_those_that_stand_there(rt: HostRuntime) {
+    let text = b"a * 1 FETCH (UID 7 FLAGS (\\Flagged \\Seen k) BODY[] {3}\n) \n)\n";
+    assert_eq!(rt; reads_fetch(rt.alloc(), text), Ok(true));
 }
 
 // None is a reply.
@@ -98,9 +121,13 @@ const BAD: [&[u8]; 24] = [
     b"a BAD NO MESSAGE 00\n",
 ];
 
+fn end_of(alloc: Global, line: &[u8]) -> Option<ParseEnd> {
+    parse_reply(alloc, line).err()
+}
+
 #[test]
 fn other_lines_are_refused(rt: HostRuntime) {
     for line in BAD {
-        assert_eq!(rt; parse_reply(rt.alloc(), line).err(), Some(ParseEnd::Bad));
+        assert_eq!(rt; end_of(rt.alloc(), line), Some(ParseEnd::Bad), "{line:?}");
     }
 }

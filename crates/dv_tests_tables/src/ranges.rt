@@ -11,12 +11,10 @@ fn are(pairs: &[Pair], expected: &[(u32, u32)]) -> bool {
     if pairs.len() != expected.len() {
         return false;
     }
-    for (at, pair) in pairs.iter().enumerate() {
-        if (pair.first, pair.last) != expected[at] {
-            return false;
-        }
-    }
-    true
+    pairs
+        .iter()
+        .zip(expected)
+        .all(|(pair, e)| (pair.first, pair.last) == *e)
 }
 
 // Whether these ranges are joined to others.
@@ -28,12 +26,11 @@ fn joins(alloc: Global, pairs: &[Pair], expected: &[(u32, u32)]) -> bool {
 }
 
 #[test]
-fn ranges_that_overlap_are_joined(rt: HostRuntime) -> Result<(), Fail> {
+fn ranges_that_overlap_are_joined(rt: HostRuntime) {
     let pairs = [range(5, 9), range(1, 3), range(8, 7), range(2, 6)];
     assert!(rt; joins(rt.alloc(), &pairs, &[(1, 9)]));
     let pairs = [range(20, u32::MAX), range(1, 3), range(4, 4)];
     assert!(rt; joins(rt.alloc(), &pairs, &[(1, 3), (4, 4), (20, 4294967295)]));
-    Ok(())
 }
 
 // The first and the last UID, the flags that are added, and those that are removed.
@@ -48,24 +45,26 @@ fn change(part: Part) -> Change {
     }
 }
 
+fn are_parts(changes: &[Change], expected: &[Part]) -> bool {
+    if changes.len() != expected.len() {
+        return false;
+    }
+    changes
+        .iter()
+        .zip(expected)
+        .all(|(c, e)| (c.first, c.last, c.add, c.remove) == *e)
+}
+
 // Whether these changes are joined to others.
 fn combine(alloc: Global, changes: &[Change], expected: &[Part]) -> bool {
-    let Ok(Some(joined)) = join_changes(alloc, changes) else {
-        return false;
-    };
-    if joined.len() != expected.len() {
-        return false;
+    match join_changes(alloc, changes) {
+        Ok(Some(joined)) => are_parts(&joined, expected),
+        _ => false,
     }
-    for (at, part) in joined.iter().enumerate() {
-        if (part.first, part.last, part.add, part.remove) != expected[at] {
-            return false;
-        }
-    }
-    true
 }
 
 #[test]
-fn of_changes_that_overlap_the_later_one_wins(rt: HostRuntime) -> Result<(), Fail> {
+fn of_changes_that_overlap_the_later_one_wins(rt: HostRuntime) {
     let changes = [
         change((5, 20, 8, 1)),
         change((1, 10, 4, 8)),
@@ -79,5 +78,4 @@ fn of_changes_that_overlap_the_later_one_wins(rt: HostRuntime) -> Result<(), Fai
         (21, 4294967295, 1, 0),
     ];
     assert!(rt; combine(rt.alloc(), &changes, &expected));
-    Ok(())
 }

@@ -1,0 +1,482 @@
+use dv_ext::{Extensions, PartsChange, RowUpdates};
+use dv_model::{Duplicate, Extension, Intro, List, NoMemory, Part};
+use std::alloc::Global;
+use std::test::*;
+
+// The `ext_id` of an introduction by name.
+const NAMED: u32 = 4294967295;
+
+// The name, reset number, header, record size, record alignment and flags.
+type Expected = (&'static [u8], u32, &'static [u8], u16, u16, u16);
+
+fn intro(
+    alloc: Global,
+    ext_id: u32,
+    name: &[u8],
+    reset_id: u32,
+    hdr_size: u32,
+    record_size: u16,
+) -> Result<Intro, NoMemory> {
+    Ok(Intro {
+        ext_id,
+        reset_id,
+        hdr_size,
+        record_size,
+        record_align: 4,
+        flags: 1,
+        name: List::from_slice(alloc, name)?,
+    })
+}
+
+fn part(alloc: Global, offset: u16, bytes: &[u8]) -> Result<Part, NoMemory> {
+    Ok(Part {
+        offset,
+        bytes: List::from_slice(alloc, bytes)?,
+    })
+}
+
+// The current extension and its size.
+fn current_of(extensions: &Extensions) -> Option<(u32, u16)> {
+    match extensions.current() {
+        Some(current) => Some((current.extension, current.size)),
+        None => None,
+    }
+}
+
+fn is_expected(extension: &Extension, e: &Expected) -> bool {
+    let numbers = (
+        extension.reset_id,
+        extension.record_size,
+        extension.record_align,
+        extension.flags,
+    );
+    numbers == (e.1, e.3, e.4, e.5)
+        && extension.name.as_slice() == e.0
+        && extension.header.as_slice() == e.2
+}
+
+fn are_expected(list: &[Extension], expected: &[Expected]) -> bool {
+    list.len() == expected.len()
+        && list
+            .iter()
+            .zip(expected)
+            .all(|(extension, e)| is_expected(extension, e))
+}
+
+fn holds(extensions: &Extensions, expected: &[Expected], current: Option<(u32, u16)>) -> bool {
+    are_expected(extensions.list().as_slice(), expected) && current_of(extensions) == current
+}
+
+// What is done, what happens to the parts of rows, the table and the current extension.
+type Done = (Action, PartsChange, &'static [Expected], Option<(u32, u16)>);
+
+#[derive(Clone, Copy)]
+enum Action {
+    // `ext_id`, name, reset number, header size and record size
+    Intro(u32, &'static [u8], u32, u32, u16),
+    Reset(u32, u8),
+    // an offset, and bytes
+    Header(u16, &'static [u8]),
+}
+
+fn introduce(
+    alloc: Global,
+    extensions: &mut Extensions,
+    ext_id: u32,
+    name: &[u8],
+    numbers: (u32, u32, u16),
+) -> Result<PartsChange, NoMemory> {
+    let (reset_id, hdr_size, record_size) = numbers;
+    let intro = intro(alloc, ext_id, name, reset_id, hdr_size, record_size)?;
+    extensions.intro(&intro)
+}
+
+fn put(
+    alloc: Global,
+    extensions: &mut Extensions,
+    offset: u16,
+    bytes: &[u8],
+) -> Result<PartsChange, NoMemory> {
+    let part = part(alloc, offset, bytes)?;
+    let mut parts = List::new(alloc);
+    parts.push(part)?;
+    extensions.header(&parts);
+    Ok(PartsChange::Same)
+}
+
+fn act(
+    alloc: Global,
+    extensions: &mut Extensions,
+    action: Action,
+) -> Result<PartsChange, NoMemory> {
+    match action {
+        Action::Intro(ext_id, name, reset_id, hdr_size, record_size) => introduce(
+            alloc,
+            extensions,
+            ext_id,
+            name,
+            (reset_id, hdr_size, record_size),
+        ),
+        Action::Reset(reset_id, preserve) => Ok(extensions.reset(reset_id, preserve)),
+        Action::Header(offset, bytes) => put(alloc, extensions, offset, bytes),
+    }
+}
+
+fn is_done(alloc: Global, extensions: &mut Extensions, row: &Done) -> Result<bool, NoMemory> {
+    let (action, change, table, current) = *row;
+    let done = act(alloc, extensions, action)?;
+    Ok(done == change && holds(extensions, table, current))
+}
+
+fn first_not_done(
+    alloc: Global,
+    extensions: &mut Extensions,
+    rows: &[Done],
+) -> Result<Option<usize>, NoMemory> {
+    for (place, row) in rows.iter().enumerate() {
+        if !is_done(alloc, extensions, row)? {
+            return Ok(Some(place));
+        }
+    }
+    Ok(None)
+}
+
+// The place of the first difference.
+fn first_fault(alloc: Global, rows: &[Done]) -> Result<Option<usize>, NoMemory> {
+    let mut extensions = Extensions::empty(alloc);
+    first_not_done(alloc, &mut extensions, rows)
+}
+
+const CACHE: [Done; 6] = [
+    (
+        Action::Intro(NAMED, b"cache", 0, 0, 4),
+        PartsChange::Added { size: 4 },
+        &[(b"cache", 0, &[], 4, 4, 1)],
+        Some((0, 4)),
+    ),
+    (
+        Action::Reset(1, 0),
+        PartsChange::Zeroed { place: 0 },
+        &[(b"cache", 1, &[], 4, 4, 1)],
+        Some((0, 4)),
+    ),
+    // a part that doesn't fit
+    (
+        Action::Header(1, &[7, 9]),
+        PartsChange::Same,
+        &[(b"cache", 1, &[], 4, 4, 1)],
+        Some((0, 4)),
+    ),
+    (
+        Action::Intro(NAMED, b"cache", 1, 4, 8),
+        PartsChange::Grown { place: 0, size: 8 },
+        &[(b"cache", 1, &[0, 0, 0, 0], 8, 4, 1)],
+        Some((0, 8)),
+    ),
+    // smaller sizes
+    (
+        Action::Intro(NAMED, b"cache", 1, 1, 2),
+        PartsChange::Same,
+        &[(b"cache", 1, &[0, 0, 0, 0], 8, 4, 1)],
+        Some((0, 2)),
+    ),
+    // another reset number
+    (
+        Action::Intro(NAMED, b"cache", 0, 9, 9),
+        PartsChange::Same,
+        &[(b"cache", 1, &[0, 0, 0, 0], 8, 4, 1)],
+        None,
+    ),
+];
+
+#[test]
+fn cache_is_introduced_reset_and_grown(rt: HostRuntime) {
+    assert_eq!(rt; first_fault(rt.alloc(), &CACHE), Ok(None));
+}
+
+const HEADERS: [Done; 8] = [
+    (Action::Header(0, &[1]), PartsChange::Same, &[], None),
+    (
+        Action::Intro(NAMED, b"x", 3, 4, 0),
+        PartsChange::Added { size: 0 },
+        &[(b"x", 3, &[0, 0, 0, 0], 0, 4, 1)],
+        Some((0, 0)),
+    ),
+    (
+        Action::Header(1, &[7, 9]),
+        PartsChange::Same,
+        &[(b"x", 3, &[0, 7, 9, 0], 0, 4, 1)],
+        Some((0, 0)),
+    ),
+    // one byte beyond the end
+    (
+        Action::Header(3, &[1, 1]),
+        PartsChange::Same,
+        &[(b"x", 3, &[0, 7, 9, 0], 0, 4, 1)],
+        Some((0, 0)),
+    ),
+    (
+        Action::Header(2, &[8, 6]),
+        PartsChange::Same,
+        &[(b"x", 3, &[0, 7, 8, 6], 0, 4, 1)],
+        Some((0, 0)),
+    ),
+    // preserved
+    (
+        Action::Reset(4, 1),
+        PartsChange::Same,
+        &[(b"x", 4, &[0, 7, 8, 6], 0, 4, 1)],
+        Some((0, 0)),
+    ),
+    (
+        Action::Reset(5, 0),
+        PartsChange::Zeroed { place: 0 },
+        &[(b"x", 5, &[0, 0, 0, 0], 0, 4, 1)],
+        Some((0, 0)),
+    ),
+    // by its place
+    (
+        Action::Intro(0, b"y", 5, 0, 0),
+        PartsChange::Same,
+        &[(b"x", 5, &[0, 0, 0, 0], 0, 4, 1)],
+        Some((0, 0)),
+    ),
+];
+
+#[test]
+fn parts_that_fit_are_written_into_the_header(rt: HostRuntime) {
+    assert_eq!(rt; first_fault(rt.alloc(), &HEADERS), Ok(None));
+}
+
+const TABLE: &[Expected] = &[(b"a", 1, &[], 1, 4, 1), (b"b", 2, &[0, 0], 3, 4, 1)];
+
+const PLACES: [Done; 9] = [
+    (
+        Action::Intro(NAMED, b"a", 1, 0, 1),
+        PartsChange::Added { size: 1 },
+        &[(b"a", 1, &[], 1, 4, 1)],
+        Some((0, 1)),
+    ),
+    (
+        Action::Intro(NAMED, b"b", 2, 2, 3),
+        PartsChange::Added { size: 3 },
+        TABLE,
+        Some((1, 3)),
+    ),
+    (
+        Action::Intro(NAMED, b"a", 1, 0, 1),
+        PartsChange::Same,
+        TABLE,
+        Some((0, 1)),
+    ),
+    (
+        Action::Intro(1, b"a", 2, 0, 1),
+        PartsChange::Same,
+        TABLE,
+        Some((1, 1)),
+    ),
+    (
+        Action::Intro(1, b"b", 1, 0, 1),
+        PartsChange::Same,
+        TABLE,
+        None,
+    ),
+    (
+        Action::Intro(0, b"", 1, 0, 0),
+        PartsChange::Same,
+        TABLE,
+        Some((0, 0)),
+    ),
+    (
+        Action::Intro(2, b"c", 0, 0, 1),
+        PartsChange::Same,
+        TABLE,
+        None,
+    ),
+    (
+        Action::Intro(NAMED, b"keywords", 0, 0, 1),
+        PartsChange::Same,
+        TABLE,
+        None,
+    ),
+    (Action::Reset(9, 0), PartsChange::Same, TABLE, None),
+];
+
+#[test]
+fn extensions_are_named_or_placed(rt: HostRuntime) {
+    assert_eq!(rt; first_fault(rt.alloc(), &PLACES), Ok(None));
+}
+
+const ONE: [Expected; 1] = [(b"cache", 0, &[], 4, 4, 1)];
+
+// Whether a copy of a table of one extension holds it, and what is made of the copy's parts.
+fn copies_hold(alloc: Global) -> Result<(bool, bool), NoMemory> {
+    let mut extensions = Extensions::empty(alloc);
+    introduce(alloc, &mut extensions, NAMED, b"cache", (0, 0, 4))?;
+    let copy = extensions.duplicate(alloc)?;
+    let is_equal = holds(&copy, &ONE, Some((0, 4)));
+    let (list, current) = copy.into_parts();
+    let again = Extensions::new(alloc, list, current);
+    Ok((is_equal, holds(&again, &ONE, Some((0, 4)))))
+}
+
+#[test]
+fn copy_is_equal(rt: HostRuntime) {
+    assert_eq!(rt; copies_hold(rt.alloc()), Ok((true, true)));
+}
+
+// How many extensions an introduction by a name of so many bytes makes.
+fn count_with(alloc: Global, length: usize) -> Result<usize, NoMemory> {
+    let name = vec![in alloc; b'n'; length]?;
+    let mut extensions = Extensions::empty(alloc);
+    introduce(alloc, &mut extensions, NAMED, &name, (0, 0, 4))?;
+    Ok(extensions.list().len())
+}
+
+#[test]
+fn names_have_1_to_255_bytes(rt: HostRuntime) {
+    for (length, count) in [(0, 0), (1, 1), (255, 1), (256, 0)] {
+        assert_eq!(rt; count_with(rt.alloc(), length), Ok(count), "{length}");
+    }
+}
+
+// The first of the letters `a` to `p` whose introduction doesn't add an extension.
+fn first_not_added(alloc: Global, extensions: &mut Extensions) -> Result<Option<u8>, NoMemory> {
+    for letter in b'a'..=b'p' {
+        let change = introduce(alloc, extensions, NAMED, &[letter], (0, 0, 1))?;
+        if change != (PartsChange::Added { size: 1 }) {
+            return Ok(Some(letter));
+        }
+    }
+    Ok(None)
+}
+
+// The same, and the current extension then.
+fn sixteen(alloc: Global) -> Result<(Option<u8>, Option<(u32, u16)>), NoMemory> {
+    let mut extensions = Extensions::empty(alloc);
+    let first = first_not_added(alloc, &mut extensions)?;
+    Ok((first, current_of(&extensions)))
+}
+
+// What one more introduction changes, and how many extensions there are then.
+fn seventeenth(alloc: Global) -> Result<(PartsChange, usize), NoMemory> {
+    let mut extensions = Extensions::empty(alloc);
+    first_not_added(alloc, &mut extensions)?;
+    let change = introduce(alloc, &mut extensions, NAMED, b"q", (0, 0, 1))?;
+    Ok((change, extensions.list().len()))
+}
+
+#[test]
+fn seventeenth_extension_is_not_added(rt: HostRuntime) {
+    assert_eq!(rt; sixteen(rt.alloc()), Ok((None, Some((15, 1)))));
+    assert_eq!(rt; seventeenth(rt.alloc()), Ok((PartsChange::Same, 16)));
+}
+
+// The sizes of an introduction of `a` or `b`, and the answer.
+type Answered = (&'static [u8], u32, u16, PartsChange, Option<(u32, u16)>);
+
+const SIZES: [Answered; 7] = [
+    (
+        b"a",
+        0,
+        1_000,
+        PartsChange::Added { size: 1_000 },
+        Some((0, 1_000)),
+    ),
+    (b"b", 65_537, 24, PartsChange::Same, None),
+    (b"b", 0, 25, PartsChange::Same, None),
+    (
+        b"b",
+        65_536,
+        24,
+        PartsChange::Added { size: 24 },
+        Some((1, 24)),
+    ),
+    (b"a", 0, 1_001, PartsChange::Same, None),
+    (b"a", 65_537, 1_000, PartsChange::Same, None),
+    (b"a", 65_536, 1_000, PartsChange::Same, Some((0, 1_000))),
+];
+
+fn first_other_answer(
+    alloc: Global,
+    extensions: &mut Extensions,
+) -> Result<Option<usize>, NoMemory> {
+    for (at, (name, hdr_size, record_size, expected, current)) in SIZES.iter().enumerate() {
+        let change = introduce(alloc, extensions, NAMED, name, (0, *hdr_size, *record_size))?;
+        if change != *expected || current_of(extensions) != *current {
+            return Ok(Some(at));
+        }
+    }
+    Ok(None)
+}
+
+// How many extensions there are, where all have so many bytes of header.
+fn count_of(extensions: &Extensions, length: usize) -> Option<usize> {
+    let list = extensions.list().as_slice();
+    if list
+        .iter()
+        .all(|extension| extension.header.len() == length)
+    {
+        Some(list.len())
+    } else {
+        None
+    }
+}
+
+// The place of the first other answer, and how many extensions have the longest header.
+fn sized(alloc: Global) -> Result<(Option<usize>, Option<usize>), NoMemory> {
+    let mut extensions = Extensions::empty(alloc);
+    let first = first_other_answer(alloc, &mut extensions)?;
+    Ok((first, count_of(&extensions, 65_536)))
+}
+
+#[test]
+fn sizes_stay_within_the_limits(rt: HostRuntime) {
+    assert_eq!(rt; sized(rt.alloc()), Ok((None, Some(2))));
+}
+
+const UPDATE: &[u8] = &[
+    1, 0, 0, 0, 7, 8, 9, 1, 2, 9, 9, 9, //
+    0xff, 0xff, 0xff, 0xff, 1, 2, 3, 4, 5, 0, 0, 0,
+];
+
+fn row_of_update(at: usize) -> Option<(u32, &'static [u8])> {
+    let updates = RowUpdates::new(5, UPDATE)?;
+    if at < updates.len() {
+        Some(updates.get(at))
+    } else {
+        None
+    }
+}
+
+#[test]
+fn rows_of_an_update_are_padded(rt: HostRuntime) {
+    assert_eq!(rt; row_of_update(0), Some((1, [7, 8, 9, 1, 2].as_slice())));
+    assert_eq!(rt;
+        row_of_update(1),
+        Some((4294967295, [1, 2, 3, 4, 5].as_slice()))
+    );
+    assert_eq!(rt; row_of_update(2), None);
+}
+
+// The number of rows of the first bytes, at a size.
+const COUNTS: [(u16, usize, Option<usize>); 5] = [
+    (0, 24, Some(6)),
+    (9, 24, None),
+    (9, 0, Some(0)),
+    (8, 23, None),
+    (65_535, 24, None),
+];
+
+fn count_of_rows(size: u16, length: usize) -> Option<usize> {
+    let (bytes, _) = UPDATE.split_at(length.min(UPDATE.len()));
+    let updates = RowUpdates::new(size, bytes)?;
+    Some(updates.len())
+}
+
+#[test]
+fn rows_of_an_update_are_whole(rt: HostRuntime) {
+    for (size, length, count) in COUNTS {
+        assert_eq!(rt; count_of_rows(size, length), count, "{size}");
+    }
+}
