@@ -1,0 +1,91 @@
+-- Sessions that are served follow a play. The records take the members of a shelf's and a clock's
+-- types.
+use Rattle.std.specs.Prelude.{◌≡◌, ◌⊎◌, ◌+◌, ◌<◌, ◌++◌, ℕ, true, List, [], ◌∷◌, All, get_or, length, ⊤, ⊥}
+use Rattle.dv_model.specs.declared.types.Mailbox.{Mailbox}
+use Rattle.dv_model.specs.Journals.{Log}
+use Rattle.dv_model.specs.Sessions.{State}
+use Rattle.dv_model.specs.Transcripts.{Line}
+use Rattle.dv_shelf.specs.Clocks.{behind}
+use Rattle.dv_shelf.specs.Crashes.{LeavesOnly}
+use Rattle.dv_shelf.specs.Folders.{Folder}
+use Rattle.dv_rotation.specs.Texts.{place_of}
+use Rattle.dv_keeping.specs.Debts.{Debt}
+use Rattle.dv_answer.specs.Following.{Follower, IsAbreast}
+use Rattle.dv_playing.specs.Laws.{IsAttempt, MayPlay, MayWrite}
+use Rattle.dv_playing.specs.Playing.{Attempt, Outcome, Play, Served, step}
+use Rattle.dv_store.specs.Rest.{IsAtRest}
+use Rattle.dv_serial.specs.Places.{IsOwedBehind, MayGive, StandsAt, play_of}
+use Rattle.dv_serial.specs.Servings.{Serving}
+
+-- each session, from number 1 on, has its state, and is abreast of the mailbox
+pub record AreSeated (m : Mailbox) (state_of : ℕ → State) (seats : List Follower) : Type 0 where
+  pub abreast : All (IsAbreast m) seats
+  pub states : (k : ℕ) (f : Follower) → k < length seats
+      → (get_or seats k f).state ≡ state_of (k + 1)
+
+-- as many sessions, with the same states
+pub record HasStates (before now : List Follower) : Type 0 where
+  pub count : length now ≡ length before
+  pub states : (k : ℕ) (f : Follower) → k < length before
+      → (get_or now k f).state ≡ (get_or before k f).state
+
+-- the lines with one more, and what came of it
+abbrev pub with_line : List Attempt → Line → Outcome → List Attempt
+with_line attempts line outcome = attempts ++ record { line = line; outcome = outcome } ∷ []
+
+-- a line that wasn't answered: it left the log as it was, or it is a write that was served
+pub record MayBeLeft (clock : ℕ → ℕ) (base : ℕ) (play : Play) (a : Attempt) : Type 0 where
+  pub attempt : IsAttempt base a
+  pub log : ((step clock play a).play.log ≡ play.log)
+      ⊎ ((a.outcome ≡ Served) × MayWrite play a.line)
+
+-- what the first line that wasn't answered came to, where it came to anything
+abbrev pub IsLeft : (ℕ → ℕ) → ℕ → Play → Line → List Attempt → Type 0
+IsLeft clock base play line [] = ⊤
+IsLeft clock base play line (a ∷ []) = (a.line ≡ line) × MayBeLeft clock base play a
+IsLeft clock base play line attempts = ⊥
+
+module _ {S C : Type 0} where
+  -- the journal, the mailbox and the places are where the play stands
+  pub record IsAt (play : Play) (serving : Serving S C) : Type 0 where
+    pub rotates : play.log.rotates ≡ true
+    pub journal : play.log.entries ≡ serving.journal
+    pub mailbox : play.mailbox ≡ serving.store.chain.live.mailbox
+    pub mark : play.mark ≡ serving.mark
+    pub place : StandsAt play.begun play.mark (place_of serving.store.chain) serving.store.owed
+
+  -- so it is behind these lines, and the store is at rest with the play's log and what is owed
+  pub record Keeps (files : S → Folder) (may_leave : S → Folder → Type 0) (clock : ℕ → ℕ)
+      (start : Log) (attempts : List Attempt) (serving : Serving S C) : Type 0 where
+    pub at : IsAt (play_of clock start attempts) serving
+    pub debt : Debt
+    pub owed : IsOwedBehind clock start attempts (place_of serving.store.chain) debt
+    pub rests : IsAtRest files may_leave (play_of clock start attempts).log debt serving.store
+
+  -- The lines were played, no more of them failed than the count of faults rose by, and clock and
+  -- sessions are where the play has them.
+  pub record Follows (files : S → Folder) (may_leave : S → Folder → Type 0) (upcoming : C → ℕ → ℕ)
+      (clock : ℕ → ℕ) (start : Log) (base faults : ℕ) (attempts : List Attempt)
+      (serving : Serving S C) : Type 0 where
+    pub may : MayPlay clock start base faults attempts
+    pub keeps : Keeps files may_leave clock start attempts serving
+    pub readings : upcoming serving.store.clock ≡ behind clock (play_of clock start attempts).used
+    pub seats : AreSeated serving.store.chain.live.mailbox (play_of clock start attempts).states
+        serving.seats
+
+  -- What is left keeps the log behind these lines, and a crash at any moment since leaves the log
+  -- behind some of them, or with the group of one that the disk failed.
+  pub record Leaves (files : S → Folder) (may_leave : S → Folder → Type 0) (moment : S → ℕ)
+      (left_since : S → ℕ → Folder → Type 0) (clock : ℕ → ℕ) (start : Log)
+      (attempts : List Attempt) (old new : Serving S C) : Type 0 where
+    pub keeps : Keeps files may_leave clock start attempts new
+    pub since : LeavesOnly moment left_since old.store.shelf new.store.shelf
+        (MayGive clock start attempts)
+
+  -- where a line wasn't answered: behind the lines so far, or behind that one too
+  pub record EndsAt (files : S → Folder) (may_leave : S → Folder → Type 0) (moment : S → ℕ)
+      (left_since : S → ℕ → Folder → Type 0) (clock : ℕ → ℕ) (start : Log) (base : ℕ)
+      (attempts : List Attempt) (line : Line) (old new : Serving S C) : Type 0 where
+    pub left : List Attempt
+    pub is : IsLeft clock base (play_of clock start attempts) line left
+    pub leaves : Leaves files may_leave moment left_since clock start (attempts ++ left) old new

@@ -1,0 +1,74 @@
+-- What becomes of the lines of a script, one after another.
+use Rattle.std.specs.Prelude.{◌≡◌, ◌⊎◌, ◌≤◌, ◌++◌, ℕ, List, [], ◌∷◌, drop, length, Result, Ok, Err, ⊤, ⊥}
+use Rattle.dv_model.specs.declared.types.Reply.{Reply}
+use Rattle.dv_model.specs.Counts.{Rose}
+use Rattle.dv_model.specs.Journals.{Log}
+use Rattle.dv_model.specs.Transcripts as transcripts
+use Rattle.dv_shelf.specs.Clocks.{behind}
+use Rattle.dv_shelf.specs.Folders.{Folder}
+use Rattle.dv_shelf.specs.Streams.{Appends, AppendsFront}
+use Rattle.dv_script.specs.declared.types.Line.{Line}
+use Rattle.dv_playing.specs.Laws.{MayPlay, lines_of}
+use Rattle.dv_playing.specs.Playing.{Attempt, begin, replies_to, step}
+use Rattle.dv_serial.specs.declared.lines.LineEnd.{LineEnd}
+use Rattle.dv_serial.specs.declared.lines.LineEnd.TheVariants as line_end
+use Rattle.dv_serial.specs.Following.{IsLeft, Leaves}
+use Rattle.dv_serial.specs.Places.{play_of}
+use Rattle.dv_serial.specs.Scripts.{answer_text, numbered, replies_text}
+use Rattle.dv_serial.specs.Servings.{Serving}
+
+-- The text that was being written where the output failed: the replies to the line that it wasn't
+-- written for.
+abbrev pub IsTried : (ℕ → ℕ) → Log → List Attempt → List Attempt → List Line → List ℕ → Type 0
+IsTried clock start answered (a ∷ []) (line ∷ rest) text =
+    text ≡ answer_text line (step clock (play_of clock start answered) a).replies
+IsTried clock start answered left lines text = ⊥
+
+-- the bytes written: the text of the answered lines, and where the output failed a front of the
+-- next line's
+abbrev pub Writes : (ℕ → ℕ) → Log → List Attempt → List Attempt → List Line
+    → Result (Unit {0}) LineEnd → List ℕ → List ℕ → Type 0
+Writes clock start answered left lines (Err (line_end.Sink faults)) old new =
+    (text : List ℕ)
+    × IsTried clock start answered left (drop (length answered) lines) text
+    × AppendsFront (old ++ replies_text lines (replies_to clock (begin start) answered)) new text
+Writes clock start answered left lines result old new =
+    Appends old new (replies_text lines (replies_to clock (begin start) answered))
+
+-- where all lines were answered, none is left; else the first of the rest is
+abbrev pub EndsWith : (ℕ → ℕ) → ℕ → Log → List Attempt → List Attempt → List transcripts.Line
+    → Result (Unit {0}) LineEnd → Type 0
+EndsWith clock base start answered left rest (Ok done) = (rest ≡ []) × (left ≡ [])
+EndsWith clock base start answered left [] (Err e) = left ≡ []
+EndsWith clock base start answered left (line ∷ rest) (Err e) =
+    IsLeft clock base (play_of clock start answered) line left
+
+-- the clock's readings behind the answered lines, where none was left unanswered
+abbrev pub HasRead : (ℕ → ℕ) → ℕ → (ℕ → ℕ) → Result (Unit {0}) LineEnd → Type 0
+HasRead clock used upcoming (Ok done) = upcoming ≡ behind clock used
+HasRead clock used upcoming (Err e) = ⊤
+
+module _ {S C : Type 0} where
+  -- The first lines were answered, each as a step of one play, and the text of their replies
+  -- written. The first of the others may have left its group, or be one that the disk failed. What
+  -- is left keeps the play's log behind these lines; so does what a crash leaves, behind some of
+  -- them.
+  pub record Runs (files : S → Folder) (may_leave : S → Folder → Type 0) (moment : S → ℕ)
+      (left_since : S → ℕ → Folder → Type 0) (upcoming : C → ℕ → ℕ) (clock : ℕ → ℕ) (start : Log)
+      (base faults : ℕ) (lines : List Line) (result : Result (Unit {0}) LineEnd)
+      (told : Type 0) (taken taken_now : List ℕ) (old new : Serving S C) : Type 0 where
+    pub answered : List Attempt
+    pub left : List Attempt
+    pub rest : List transcripts.Line
+    pub lines : numbered lines ≡ lines_of answered ++ rest
+    pub may : MayPlay clock start base faults answered
+    pub ends : EndsWith clock base start answered left rest result
+    pub leaves : Leaves files may_leave moment left_since clock start (answered ++ left) old new
+    pub readings : HasRead clock (play_of clock start answered).used (upcoming new.store.clock)
+        result
+    pub output : told → Writes clock start answered left lines result taken taken_now
+
+-- an error has its cause: memory, or an output whose count of faults rose and is told
+abbrev pub IsCaused : ℕ → ℕ → Result (Unit {0}) LineEnd → Type 0
+IsCaused before now (Err (line_end.Sink faults)) = Rose before now × (faults ≡ now)
+IsCaused before now result = ⊤

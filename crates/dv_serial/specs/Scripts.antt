@@ -1,0 +1,50 @@
+-- The lines of a script by the numbers of their sessions, and the text that answers them.
+use Rattle.std.specs.Prelude.{ℕ, ◌+◌, List, [], ◌∷◌, ◌++◌, map, flat_map, count_by, bytes_eq, if◌then◌else◌}
+use Rattle.dv_model.specs.declared.types.Reply.{Reply}
+use Rattle.dv_model.specs.Texts.{line_text}
+use Rattle.dv_model.specs.Transcripts as transcripts
+use Rattle.dv_formats.specs.Scripts.{NamedLine, sessions_of}
+use Rattle.dv_script.specs.declared.types.Line.{Line}
+use Rattle.dv_script.specs.Sources.{all_named}
+use Rattle.dv_serial.specs.declared.numbers.Turn.{Turn}
+
+-- sessions are numbered from 1 on, in the order of their first lines
+abbrev pub number_among : List (List ℕ) → List ℕ → ℕ
+number_among [] name = 1
+number_among (first ∷ names) name =
+    if bytes_eq name first then 1 else 1 + number_among names name
+
+-- a line by its session's number
+abbrev pub numbered_by : List (List ℕ) → NamedLine → transcripts.Line
+numbered_by names line = (number_among names line.0, line.1)
+
+-- all lines of a script so
+abbrev pub numbered : List Line → List transcripts.Line
+numbered lines = map (numbered_by (sessions_of (all_named lines))) (all_named lines)
+
+-- a line's session, and which of that session's commands it is, behind these lines
+abbrev pub turn_behind : List (List ℕ) → List NamedLine → NamedLine → Turn
+turn_behind names before line = record {
+  session = number_among names line.0;
+  command = 1 + count_by (λ l. bytes_eq l.0 line.0) before;
+}
+
+-- the turns of some lines behind others, and of all
+abbrev pub turns_behind : List (List ℕ) → List NamedLine → List NamedLine → List Turn
+turns_behind names before [] = []
+turns_behind names before (line ∷ lines) =
+    turn_behind names before line ∷ turns_behind names (before ++ line ∷ []) lines
+
+abbrev pub turns_of : List NamedLine → List Turn
+turns_of lines = turns_behind (sessions_of lines) [] lines
+
+-- the lines that answer one line of the script
+abbrev pub answer_text : Line → List Reply → List ℕ
+answer_text line replies = flat_map (line_text line.session) replies
+
+-- the text of the replies, a line of the script after another
+abbrev pub replies_text : List Line → List (List Reply) → List ℕ
+replies_text lines [] = []
+replies_text [] (replies ∷ rest) = []
+replies_text (line ∷ lines) (replies ∷ rest) =
+    answer_text line replies ++ replies_text lines rest

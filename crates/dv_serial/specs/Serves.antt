@@ -1,0 +1,77 @@
+-- What becomes of one line.
+use Rattle.std.specs.Prelude.{◌≡◌, ◌≤◌, ◌++◌, ℕ, List, [], ◌∷◌, get_or, length, slice_set, Result, Ok, Err}
+use Rattle.dv_model.specs.declared.types.Command.{Command}
+use Rattle.dv_model.specs.declared.types.Reply.{Reply}
+use Rattle.dv_model.specs.Journals.{Log}
+use Rattle.dv_model.specs.Sessions.{IsCommand}
+use Rattle.dv_model.specs.Transcripts.{Line, unavailable_count}
+use Rattle.dv_model.specs.Counts.{RoseBy}
+use Rattle.dv_shelf.specs.Crashes.{LeavesOnly}
+use Rattle.dv_shelf.specs.Folders.{Folder}
+use Rattle.dv_groups.specs.Groups.{HasFewKeywords}
+use Rattle.dv_responses.specs.Depth.{IsShallow}
+use Rattle.dv_answer.specs.Following.{Follower, new_follower}
+use Rattle.dv_store.specs.Rest.{IsLookedAt}
+use Rattle.dv_playing.specs.Playing.{Attempt, Outcome, step}
+use Rattle.dv_serial.specs.Following.{EndsAt, Follows, with_line}
+use Rattle.dv_serial.specs.Places.{MayGive, play_of}
+use Rattle.dv_serial.specs.Servings.{Serving}
+
+-- a command that may be served: of its type, with few keywords, and a key that isn't nested deep
+pub record IsServable (c : Command) : Type 0 where
+  pub command : IsCommand c
+  pub few : HasFewKeywords c
+  pub shallow : IsShallow c
+
+-- there is a session of this number
+abbrev pub IsSeat : {X : Type 0} → ℕ → List X → Type 0
+IsSeat number seats = (1 ≤ number) × (number ≤ length seats)
+
+-- the session at a place, counted from 0
+abbrev pub seat_at : List Follower → ℕ → Follower
+seat_at seats at = get_or seats at new_follower
+
+-- the count of faults never falls, and rose where the disk's failure is told
+abbrev pub HasFailures : ℕ → ℕ → {E : Type 0} → Result (List Reply) E → Type 0
+HasFailures before now (Ok replies) =
+    (before ≤ now) × RoseBy (unavailable_count (replies ∷ [])) before now
+HasFailures before now (Err e) = before ≤ now
+
+module _ {S C : Type 0} where
+  -- only the folder's reads and what is read of the cache file change
+  pub record OnlyLooksAt (old new : Serving S C) : Type 0 where
+    pub store : IsLookedAt old.store new.store
+    pub mark : new.mark ≡ old.mark
+    pub seats : new.seats ≡ old.seats
+    pub journal : new.journal ≡ old.journal
+
+  -- with this session at a place
+  abbrev pub with_seat : ℕ → Follower → Serving S C → Serving S C
+  with_seat at f serving = record serving { seats = slice_set serving.seats at f }
+
+  -- The line is one step of the play, with what came of it, and has the replies of that. A crash at
+  -- any moment leaves the log behind some of the lines, or with the group of one that the disk
+  -- failed.
+  pub record IsServed (files : S → Folder) (may_leave : S → Folder → Type 0) (moment : S → ℕ)
+      (left_since : S → ℕ → Folder → Type 0) (upcoming : C → ℕ → ℕ) (clock : ℕ → ℕ) (start : Log)
+      (base faults : ℕ) (attempts : List Attempt) (line : Line) (replies : List Reply)
+      (old new : Serving S C) : Type 0 where
+    pub outcome : Outcome
+    pub answers : (step clock (play_of clock start attempts)
+        (record { line = line; outcome = outcome })).replies ≡ replies
+    pub follows : Follows files may_leave upcoming clock start base faults
+        (with_line attempts line outcome) new
+    pub since : LeavesOnly moment left_since old.store.shelf new.store.shelf
+        (MayGive clock start (with_line attempts line outcome))
+
+  -- it is served, or memory ended it
+  abbrev pub Serves : (S → Folder) → (S → Folder → Type 0) → (S → ℕ) → (S → ℕ → Folder → Type 0)
+      → (C → ℕ → ℕ) → (ℕ → ℕ) → Log → ℕ → ℕ → List Attempt → Line → {E : Type 0}
+      → Result (List Reply) E → Serving S C → Serving S C → Type 0
+  Serves files may_leave moment left_since upcoming clock start base faults attempts line
+      (Ok replies) old new =
+      IsServed files may_leave moment left_since upcoming clock start base faults attempts line
+      replies old new
+  Serves files may_leave moment left_since upcoming clock start base faults attempts line
+      (Err e) old new =
+      EndsAt files may_leave moment left_since clock start base attempts line old new

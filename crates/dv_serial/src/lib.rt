@@ -1,0 +1,15 @@
+//! The sessions of a script over one mailbox folder, served one command after another.
+#![tactic(auto)]
+
+mod lines;
+mod numbers;
+mod reading;
+mod seats;
+mod serial;
+mod serving;
+mod told;
+
+pub use lines::LineEnd;
+pub use numbers::{Numbered, Turn, number_lines};
+pub use seats::new_seats;
+pub use serial::Serial;

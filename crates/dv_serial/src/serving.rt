@@ -1,0 +1,124 @@
+//! One line is served.
+
+ghost use Rattle.std.specs.Prelude.{◌≡◌, ◌+◌, ◌<◌, ℕ, List, None, length, true, false};
+ghost use Rattle.dv_model.specs.Journals.{Log};
+ghost use Rattle.dv_model.specs.Sessions.{is_write};
+ghost use Rattle.dv_shelf.specs.Crashes.{LeavesOnly};
+ghost use Rattle.dv_answer.specs.Refusing.{own_refusal};
+ghost use Rattle.dv_plans.specs.Faults.{HasStoreCause};
+ghost use Rattle.dv_playing.specs.Playing.{Attempt};
+ghost use Rattle.dv_serial.specs.Following.{Follows};
+ghost use Rattle.dv_serial.specs.Places.{play_of};
+ghost use Rattle.dv_serial.specs.Serves.{HasFailures, IsSeat, IsServable, Serves, seat_at};
+ghost use Rattle.dv_serial.specs.Writes.{Commits};
+
+use crate::Serial;
+use crate::seats::tell_all;
+use crate::told::{fault_line, one_line};
+use dv_model::{Command, Entry, List, NoMemory, Reply};
+use dv_plans::StoreFault;
+use dv_responses::{is_write, meet};
+use dv_search::Mail;
+use dv_shelf::{Clock, Shelf};
+use dv_store::Receipt;
+use dv_touched::Touched;
+
+impl<S: Shelf, C: Clock> Serial<S, C> {
+    /// Writes what the command of a session changes, where it changes anything, and gives the UIDs
+    /// of which the sessions are to be told. The room of the journal is taken before.
+    fn commit(&mut self, at: usize, number: u32, c: &Command) -> Result<Touched, StoreFault>
+        requires at { (at < length self.old.seats) }
+        requires line { IsServable c.now }
+        requires write { is_write c.now ≡ true }
+        requires allowed { own_refusal (seat_at self.old.seats at).state c.now ≡ None }
+        // The group is one entry more, or nothing is written; what is owed then; and what a crash
+        // leaves at any moment.
+        ensures commits { S.tells → C.tells → (clock : ℕ → ℕ) (start : Log) (base : ℕ)
+            (attempts : List Attempt) → Follows S.files S.may_leave C.upcoming clock start base
+            (S.fault_count self.old.store.shelf) attempts self.old → number ≡ at + 1 →
+            Commits S.files S.may_leave S.moment S.left_since C.upcoming clock start attempts
+            (number, c.now) self.old result self.new }
+        // The sessions stay; a fault of the disk has its cause.
+        ensures seats { self.new.seats ≡ self.old.seats }
+        ensures cause { HasStoreCause (S.fault_count self.old.store.shelf)
+            (S.fault_count self.new.store.shelf) result }
+    {
+        self.journal.reserve(1)?;
+        let receipt = self.store.commit_command(c, self.seats[at].view())?;
+        let Receipt {
+            mark,
+            group,
+            touched,
+            ..
+        } = receipt;
+        // A UIDNEXT is known of a valid mailbox alone.
+        let _next = self.store.live().next_uid();
+        if !group.records.is_empty() {
+            self.mark = mark;
+            self.journal
+                .push(Entry {
+                    author: number,
+                    group,
+                })
+                .unwrap();
+        }
+        Ok(touched)
+    }
+
+    /// Serves a write that the session doesn't refuse.
+    fn serve_write(&mut self, at: usize, number: u32, c: &Command) -> Result<List<Reply>, NoMemory>
+        requires at { at < length self.old.seats }
+        requires line { IsServable c.now }
+        requires write { is_write c.now ≡ true }
+        requires allowed { own_refusal (seat_at self.old.seats at).state c.now ≡ None }
+        // It is one line more of the play, with its replies, and what a crash leaves.
+        ensures serves { S.tells → C.tells → (clock : ℕ → ℕ) (start : Log) (base : ℕ)
+            (attempts : List Attempt) → Follows S.files S.may_leave C.upcoming clock start base
+            (S.fault_count self.old.store.shelf) attempts self.old → number ≡ at + 1 →
+            Serves S.files S.may_leave S.moment S.left_since C.upcoming clock start base
+            (S.fault_count self.new.store.shelf) attempts (number, c.now) result self.old self.new }
+        ensures seats { length self.new.seats ≡ length self.old.seats }
+        ensures cause { HasFailures (S.fault_count self.old.store.shelf)
+            (S.fault_count self.new.store.shelf) result }
+    {
+        let met = meet(self.alloc, c, self.seats[at].view(), self.store.live())?;
+        match self.commit(at, number, c) {
+            Ok(touched) => {
+                tell_all(self.seats.as_mut_slice(), &touched)?;
+                let none = Mail::new(self.alloc);
+                self.answer(at, c, &none, met)
+            }
+            Err(fault) => fault_line(self.alloc, fault),
+        }
+    }
+
+    /// Answers a command of the session of this number by the session rules, at the end of the log:
+    /// refused by one line, answered by the disk's failure, or done. What it wrote is an entry of
+    /// the journal, of which all sessions are told. `NoMemory` is the only error; it ends the run:
+    /// where it comes behind a write, the journal has the entry.
+    pub fn serve(&mut self, number: u32, c: &Command) -> Result<List<Reply>, NoMemory>
+        requires seat { IsSeat number self.old.seats }
+        requires line { IsServable c.now }
+        // It is one line more of the play, with its replies; a crash at any moment leaves the log
+        // behind some of the lines, or with the group of one that the disk failed.
+        ensures serves { S.tells → C.tells → (clock : ℕ → ℕ) (start : Log) (base : ℕ)
+            (attempts : List Attempt) → Follows S.files S.may_leave C.upcoming clock start base
+            (S.fault_count self.old.store.shelf) attempts self.old →
+            Serves S.files S.may_leave S.moment S.left_since C.upcoming clock start base
+            (S.fault_count self.new.store.shelf) attempts (number, c.now) result self.old self.new }
+        // There are as many sessions; the disk's failure is told only where it failed.
+        ensures seats { length self.new.seats ≡ length self.old.seats }
+        ensures cause { HasFailures (S.fault_count self.old.store.shelf)
+            (S.fault_count self.new.store.shelf) result }
+    {
+        let at = number as usize - 1;
+        if let Some(refusal) = self.seats[at].refuse(c) {
+            return one_line(self.alloc, refusal);
+        }
+        if is_write(c) {
+            self.serve_write(at, number, c)
+        } else {
+            self.serve_read(at, c)
+        }
+    }
+}
