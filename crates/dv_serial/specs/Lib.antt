@@ -6,3 +6,4 @@ pub mod Lines
 pub mod Writes
 pub mod Scripts
 pub mod Runs
+pub mod Numbering

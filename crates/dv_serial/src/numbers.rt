@@ -1,11 +1,13 @@
 //! The sessions of a script by number.
 
-ghost use Rattle.std.specs.Prelude.{◌≡◌, ◌≤◌, ◌^◌, IfOk, length};
-ghost use Rattle.dv_formats.specs.Scripts.{sessions_of};
+ghost use Rattle.std.specs.Prelude.{◌≡◌, ◌++◌, ◌∷◌, [], ◌≤◌, ◌<◌, ◌^◌, ℕ, List, IfOk, bytes_eq, length, position};
+ghost use Rattle.dv_model.specs.declared.types.Command.{Command};
+ghost use Rattle.dv_formats.specs.Scripts.{NamedLine, sessions_of};
 ghost use Rattle.dv_script.specs.Sources.{all_named};
-ghost use Rattle.dv_serial.specs.Scripts.{turns_of};
+ghost use Rattle.dv_serial.specs.Scripts.{turn_behind, turns_of};
+ghost use Rattle.dv_serial.specs.Numbering.{AreSeen, commands_in};
 
-use dv_model::{Bytes, List, NoMemory};
+use dv_model::{List, NoMemory};
 use dv_script::Line;
 use std::alloc::Global;
 
@@ -25,9 +27,44 @@ pub struct Numbered {
 }
 
 /// A session's name, and how many commands it gave so far.
+#[derive(Drop)]
 struct Seen<'a> {
     name: &'a [u8],
     commands: u32,
+}
+
+/// The place of the session of this name.
+fn place_of(seen: &[Seen], name: &[u8]) -> Option<usize>
+    ensures { result ≡ position (λ s. bytes_eq name.now s.name.now) seen.now }
+{
+    seen.iter().position(|s| name == s.name)
+}
+
+/// The turn of the next line, which the session of this name gives.
+fn next_turn<'a>(seen: &mut Vec<Seen<'a>>, name: &'a [u8]) -> Result<Turn, NoMemory>
+    requires sessions { length seen.old.items < 2 ^ 26 }
+    requires commands { commands_in seen.old.items name.now < 2 ^ 26 }
+    ensures turn { (before : List NamedLine) (c : Command) → AreSeen before seen.old.items →
+        IfOk result (λ turn. turn ≡ turn_behind (sessions_of before) before (name.now, c)) }
+    ensures seen { (before : List NamedLine) (c : Command) → AreSeen before seen.old.items →
+        IfOk result (λ turn. AreSeen (before ++ (name.now, c) ∷ []) seen.new.items) }
+{
+    match place_of(seen, name) {
+        Some(at) => {
+            seen[at].commands += 1;
+            Ok(Turn {
+                session: at as u32 + 1,
+                command: seen[at].commands,
+            })
+        }
+        None => {
+            seen.push(Seen { name, commands: 1 })?;
+            Ok(Turn {
+                session: seen.len() as u32,
+                command: 1,
+            })
+        }
+    }
 }
 
 /// Numbers the lines of a script by their sessions. `NoMemory` is the only error.
