@@ -1,5 +1,5 @@
 -- The turns of a script's lines, one line more at a time, and the sessions that they name.
-use Rattle.std.proofs.Common.{◌≡◌, ℕ, suc, ◌+◌, ◌<◌, ◌≤◌, Bool, true, false, cond, List, [], ◌∷◌, ◌++◌, length, get_or, take, drop, map, fold, All, refl, sym, ◌∙◌, ap, subst, arith, append_assoc, length-append}
+use Rattle.std.proofs.Common.{◌≡◌, ℕ, suc, ◌+◌, ◌<◌, ◌≤◌, Bool, true, false, cond, List, [], ◌∷◌, ◌++◌, length, get_or, take, drop, map, fold, All, refl, sym, ◌∙◌, ap, subst, arith, append_assoc, length-append, length-take}
 use Rattle.std.specs.Prelude.{◌||◌, count_by}
 use Rattle.std.specs.List.{list_any}
 use Rattle.std.specs.Str.{bytes_eq}
@@ -174,3 +174,11 @@ pub seen_commands : (before : List NamedLine) (seen : List Seen) (name : List �
     → commands_in seen name ≤ length before
 seen_commands before seen name so_far =
     omega (arith, so_far.commands name, count_by-le-length (λ (l : NamedLine). bytes_eq l.0 name) before)
+
+-- the first lines of a script
+pub named_length : (lines : List Line) (i : ℕ)
+    → (length (all_named (take i lines)) ≤ i) × (length (all_named (take i lines)) ≤ length lines)
+named_length lines i =
+    let same = length-map (take i lines) named in
+    let long = length-take i lines in
+    (omega (arith, same, long), omega (arith, same, long))
