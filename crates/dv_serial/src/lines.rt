@@ -70,8 +70,8 @@ impl<S: Shelf, C: Clock> Serial<S, C> {
             Follows S.files S.may_leave C.upcoming clock start base
             (S.fault_count self.old.store.shelf) [] self.old →
             Runs S.files S.may_leave S.moment S.left_since C.upcoming clock start base
-            (S.fault_count self.new.store.shelf) lines.now result O.tells (O.taken out.old)
-            (O.taken out.new) self.old self.new }
+            (S.fault_count self.new.store.shelf) (all_named lines.now) result O.tells
+            (O.taken out.old) (O.taken out.new) self.old self.new }
         // The counts of faults never fall, and an output that failed has its cause.
         ensures later { (S.fault_count self.old.store.shelf ≤ S.fault_count self.new.store.shelf)
             × (O.fault_count out.old ≤ O.fault_count out.new) }
