@@ -9,7 +9,7 @@ ghost use Rattle.dv_plans.specs.Faults.{HasStoreCause};
 ghost use Rattle.dv_playing.specs.Playing.{Attempt};
 ghost use Rattle.dv_serial.specs.Following.{Follows};
 ghost use Rattle.dv_serial.specs.Places.{play_of};
-ghost use Rattle.dv_serial.specs.Serves.{HasFailures, IsSeat, IsServable, Serves, seat_at};
+ghost use Rattle.dv_serial.specs.Serves.{HasFailures, IsSeat, IsServable, Serves, TakesUpTo, seat_at};
 ghost use Rattle.dv_serial.specs.Writes.{Commits};
 
 use crate::Serial;
@@ -40,6 +40,8 @@ impl<S: Shelf, C: Clock> Serial<S, C> {
             (number, c.now) self.old result self.new }
         // The sessions stay; a fault of the disk has its cause.
         ensures seats { self.new.seats ≡ self.old.seats }
+        ensures readings { C.tells → TakesUpTo 2 (C.upcoming self.old.store.clock)
+            (C.upcoming self.new.store.clock) }
         ensures cause { HasStoreCause (S.fault_count self.old.store.shelf)
             (S.fault_count self.new.store.shelf) result }
     {
@@ -78,6 +80,8 @@ impl<S: Shelf, C: Clock> Serial<S, C> {
             Serves S.files S.may_leave S.moment S.left_since C.upcoming clock start base
             (S.fault_count self.new.store.shelf) attempts (number, c.now) result self.old self.new }
         ensures seats { length self.new.seats ≡ length self.old.seats }
+        ensures readings { C.tells → TakesUpTo 2 (C.upcoming self.old.store.clock)
+            (C.upcoming self.new.store.clock) }
         ensures cause { HasFailures (S.fault_count self.old.store.shelf)
             (S.fault_count self.new.store.shelf) result }
     {
@@ -108,6 +112,8 @@ impl<S: Shelf, C: Clock> Serial<S, C> {
             (S.fault_count self.new.store.shelf) attempts (number, c.now) result self.old self.new }
         // There are as many sessions; the disk's failure is told only where it failed.
         ensures seats { length self.new.seats ≡ length self.old.seats }
+        ensures readings { C.tells → TakesUpTo 2 (C.upcoming self.old.store.clock)
+            (C.upcoming self.new.store.clock) }
         ensures cause { HasFailures (S.fault_count self.old.store.shelf)
             (S.fault_count self.new.store.shelf) result }
     {
