@@ -6,6 +6,7 @@ use Rattle.dv_model.specs.Journals.{Log}
 use Rattle.dv_model.specs.Sessions.{IsCommand}
 use Rattle.dv_model.specs.Transcripts.{Line, unavailable_count}
 use Rattle.dv_model.specs.Counts.{RoseBy}
+use Rattle.dv_shelf.specs.Clocks.{behind}
 use Rattle.dv_shelf.specs.Crashes.{LeavesOnly}
 use Rattle.dv_shelf.specs.Folders.{Folder}
 use Rattle.dv_groups.specs.Groups.{HasFewKeywords}
@@ -30,6 +31,10 @@ IsSeat number seats = (1 ≤ number) × (number ≤ length seats)
 -- the session at a place, counted from 0
 abbrev pub seat_at : List Follower → ℕ → Follower
 seat_at seats at = get_or seats at new_follower
+
+-- so many readings of the clock were taken at most
+abbrev pub TakesUpTo : ℕ → (ℕ → ℕ) → (ℕ → ℕ) → Type 0
+TakesUpTo most old new = (n : ℕ) × (n ≤ most) × (new ≡ behind old n)
 
 -- the count of faults never falls, and rose where the disk's failure is told
 abbrev pub HasFailures : ℕ → ℕ → {E : Type 0} → Result (List Reply) E → Type 0

@@ -12,7 +12,7 @@ ghost use Rattle.dv_playing.specs.Playing.{Attempt};
 ghost use Rattle.dv_store.specs.Rest.{IsAtRest};
 ghost use Rattle.dv_serial.specs.Following.{Follows};
 ghost use Rattle.dv_serial.specs.Places.{play_of};
-ghost use Rattle.dv_serial.specs.Serves.{AreAbreast, HasFailures, IsSeat, IsServable, Serves, seat_at};
+ghost use Rattle.dv_serial.specs.Serves.{AreAbreast, HasFailures, IsSeat, IsServable, Serves, TakesUpTo, seat_at};
 ghost use Rattle.dv_serial.specs.Writes.{Commits};
 
 use crate::Serial;
@@ -47,6 +47,8 @@ impl<S: Shelf, C: Clock> Serial<S, C> {
             self.new.store.chain.live.mailbox) }
         ensures stays { OnErr result
             (self.new.store.chain.live.mailbox ≡ self.old.store.chain.live.mailbox) }
+        ensures readings { C.tells → TakesUpTo 2 (C.upcoming self.old.store.clock)
+            (C.upcoming self.new.store.clock) }
         ensures cause { HasStoreCause (S.fault_count self.old.store.shelf)
             (S.fault_count self.new.store.shelf) result }
     {
@@ -88,6 +90,8 @@ impl<S: Shelf, C: Clock> Serial<S, C> {
         // The sessions keep up with the mailbox; the disk's failure is told only where it failed.
         ensures seats { length self.new.seats ≡ length self.old.seats }
         ensures abreast { OnOk result (AreAbreast self.new) }
+        ensures readings { C.tells → TakesUpTo 2 (C.upcoming self.old.store.clock)
+            (C.upcoming self.new.store.clock) }
         ensures cause { HasFailures (S.fault_count self.old.store.shelf)
             (S.fault_count self.new.store.shelf) result }
     {
@@ -120,6 +124,8 @@ impl<S: Shelf, C: Clock> Serial<S, C> {
         // There are as many sessions, which keep up with the mailbox.
         ensures seats { length self.new.seats ≡ length self.old.seats }
         ensures abreast { OnOk result (AreAbreast self.new) }
+        ensures readings { C.tells → TakesUpTo 2 (C.upcoming self.old.store.clock)
+            (C.upcoming self.new.store.clock) }
         // The disk's failure is told only where it failed.
         ensures later { S.fault_count self.old.store.shelf ≤ S.fault_count self.new.store.shelf }
         ensures cause { S.tells → (log : Log) (debt : Debt) →
