@@ -7,7 +7,7 @@ use Rattle.dv_model.specs.Transcripts as transcripts
 use Rattle.dv_shelf.specs.Clocks.{behind}
 use Rattle.dv_shelf.specs.Folders.{Folder}
 use Rattle.dv_shelf.specs.Streams.{Appends, AppendsFront}
-use Rattle.dv_script.specs.declared.types.Line.{Line}
+use Rattle.dv_formats.specs.Scripts.{NamedLine}
 use Rattle.dv_playing.specs.Laws.{MayPlay, lines_of}
 use Rattle.dv_playing.specs.Playing.{Attempt, begin, replies_to, step}
 use Rattle.dv_serial.specs.declared.lines.LineEnd.{LineEnd}
@@ -19,14 +19,14 @@ use Rattle.dv_serial.specs.Servings.{Serving}
 
 -- The text that was being written where the output failed: the replies to the line that it wasn't
 -- written for.
-abbrev pub IsTried : (ℕ → ℕ) → Log → List Attempt → List Attempt → List Line → List ℕ → Type 0
+abbrev pub IsTried : (ℕ → ℕ) → Log → List Attempt → List Attempt → List NamedLine → List ℕ → Type 0
 IsTried clock start answered (a ∷ []) (line ∷ rest) text =
     text ≡ answer_text line (step clock (play_of clock start answered) a).replies
 IsTried clock start answered left lines text = ⊥
 
 -- the bytes written: the text of the answered lines, and where the output failed a front of the
 -- next line's
-abbrev pub Writes : (ℕ → ℕ) → Log → List Attempt → List Attempt → List Line
+abbrev pub Writes : (ℕ → ℕ) → Log → List Attempt → List Attempt → List NamedLine
     → Result (Unit {0}) LineEnd → List ℕ → List ℕ → Type 0
 Writes clock start answered left lines (Err (line_end.Sink faults)) old new =
     (text : List ℕ)
@@ -55,7 +55,7 @@ module _ {S C : Type 0} where
   -- them.
   pub record Runs (files : S → Folder) (may_leave : S → Folder → Type 0) (moment : S → ℕ)
       (left_since : S → ℕ → Folder → Type 0) (upcoming : C → ℕ → ℕ) (clock : ℕ → ℕ) (start : Log)
-      (base faults : ℕ) (lines : List Line) (result : Result (Unit {0}) LineEnd)
+      (base faults : ℕ) (lines : List NamedLine) (result : Result (Unit {0}) LineEnd)
       (told : Type 0) (taken taken_now : List ℕ) (old new : Serving S C) : Type 0 where
     pub answered : List Attempt
     pub left : List Attempt

@@ -4,8 +4,6 @@ use Rattle.dv_model.specs.declared.types.Reply.{Reply}
 use Rattle.dv_model.specs.Texts.{line_text}
 use Rattle.dv_model.specs.Transcripts as transcripts
 use Rattle.dv_formats.specs.Scripts.{NamedLine, sessions_of}
-use Rattle.dv_script.specs.declared.types.Line.{Line}
-use Rattle.dv_script.specs.Sources.{all_named}
 use Rattle.dv_serial.specs.declared.numbers.Turn.{Turn}
 
 -- sessions are numbered from 1 on, in the order of their first lines
@@ -19,8 +17,8 @@ abbrev pub numbered_by : List (List ℕ) → NamedLine → transcripts.Line
 numbered_by names line = (number_among names line.0, line.1)
 
 -- all lines of a script so
-abbrev pub numbered : List Line → List transcripts.Line
-numbered lines = map (numbered_by (sessions_of (all_named lines))) (all_named lines)
+abbrev pub numbered : List NamedLine → List transcripts.Line
+numbered lines = map (numbered_by (sessions_of lines)) lines
 
 -- a line's session, and which of that session's commands it is, behind these lines
 abbrev pub turn_behind : List (List ℕ) → List NamedLine → NamedLine → Turn
@@ -39,11 +37,11 @@ abbrev pub turns_of : List NamedLine → List Turn
 turns_of lines = turns_behind (sessions_of lines) [] lines
 
 -- the lines that answer one line of the script
-abbrev pub answer_text : Line → List Reply → List ℕ
-answer_text line replies = flat_map (line_text line.session) replies
+abbrev pub answer_text : NamedLine → List Reply → List ℕ
+answer_text line replies = flat_map (line_text line.0) replies
 
 -- the text of the replies, a line of the script after another
-abbrev pub replies_text : List Line → List (List Reply) → List ℕ
+abbrev pub replies_text : List NamedLine → List (List Reply) → List ℕ
 replies_text lines [] = []
 replies_text [] (replies ∷ rest) = []
 replies_text (line ∷ lines) (replies ∷ rest) =

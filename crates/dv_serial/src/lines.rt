@@ -1,6 +1,6 @@
 //! The lines of a script, served one after another.
 
-ghost use Rattle.std.specs.Prelude.{◌≡◌, ◌≤◌, ℕ, All, List, [], length};
+ghost use Rattle.std.specs.Prelude.{◌≡◌, ◌*◌, ◌≤◌, ℕ, All, List, [], length};
 ghost use Rattle.dv_model.specs.Journals.{Log};
 ghost use Rattle.dv_formats.specs.Scripts.{sessions_of};
 ghost use Rattle.dv_script.specs.Sources.{all_named};
@@ -8,7 +8,7 @@ ghost use Rattle.dv_playing.specs.Playing.{Attempt};
 ghost use Rattle.dv_serial.specs.Following.{Follows};
 ghost use Rattle.dv_serial.specs.Runs.{IsCaused, Runs};
 ghost use Rattle.dv_serial.specs.Scripts.{turns_of};
-ghost use Rattle.dv_serial.specs.Serves.{IsServable};
+ghost use Rattle.dv_serial.specs.Serves.{IsServable, TakesUpTo};
 
 use crate::Serial;
 use crate::numbers::Turn;
@@ -70,11 +70,13 @@ impl<S: Shelf, C: Clock> Serial<S, C> {
             Follows S.files S.may_leave C.upcoming clock start base
             (S.fault_count self.old.store.shelf) [] self.old →
             Runs S.files S.may_leave S.moment S.left_since C.upcoming clock start base
-            (S.fault_count self.new.store.shelf) lines.now result O.tells (O.taken out.old)
-            (O.taken out.new) self.old self.new }
+            (S.fault_count self.new.store.shelf) (all_named lines.now) result O.tells
+            (O.taken out.old) (O.taken out.new) self.old self.new }
         // The counts of faults never fall, and an output that failed has its cause.
         ensures later { (S.fault_count self.old.store.shelf ≤ S.fault_count self.new.store.shelf)
             × (O.fault_count out.old ≤ O.fault_count out.new) }
+        ensures readings { C.tells → TakesUpTo (2 * length lines.now)
+            (C.upcoming self.old.store.clock) (C.upcoming self.new.store.clock) }
         ensures cause { IsCaused (O.fault_count out.old) (O.fault_count out.new) result }
     {
         for (line, turn) in lines.iter().zip(turns) {
