@@ -64,7 +64,7 @@ counts_none lines available = ap (λ (b : Bool). 0 + cond b 1 0) available
 
 -- ---- a refusal is none
 
-by_some : (o : Option Reply) (x line : Reply) → is_unavailable x ≡ false → o ≡ Some x → o ≡ Some line → is_unavailable line ≡ false
+pub by_some : (o : Option Reply) (x line : Reply) → is_unavailable x ≡ false → o ≡ Some x → o ≡ Some line → is_unavailable line ≡ false
 by_some o x line is e f = let same : x ≡ line = cc in ap is_unavailable (sym same) ∙ is
 
 limits : (a b c d : Bool) (n k : ℕ) (line : Reply)
