@@ -1,7 +1,7 @@
 -- What a crash leaves at any moment of a write: the log behind some of the lines, or that with the
 -- group of one that the disk failed.
 use Rattle.std.proofs.Common.{◌≡◌, ◌⊎◌, inl, inr, ⊎_elim, ℕ, ◌+◌, ◌-◌, Bool, true, false, ◌||◌, List, [], ◌∷◌, ◌++◌, append-nil, append_assoc, length, Option, Some, None, refl, sym, ◌∙◌, ap, subst, arith}
-use Rattle.std.specs.Prelude.{IsSome, if◌then◌else◌, is_none}
+use Rattle.std.specs.Prelude.{IsSome, if◌then◌else◌}
 use Rattle.std.proofs.lemmas.List.{length-append}
 use Rattle.dv_model.specs.declared.types.Group.{Group}
 use Rattle.dv_model.specs.declared.types.Mailbox.{Mailbox}
@@ -28,11 +28,11 @@ use Rattle.dv_keeping.proofs.Resting.{rests_give}
 use Rattle.dv_plans.specs.Begins.{turns}
 use Rattle.dv_writes.specs.Writes.{IsAfter, Write, group_by, log_with}
 use Rattle.dv_playing.specs.Laws.{MayWrite}
-use Rattle.dv_playing.specs.Playing.{Attempt, Failed, Outcome, Play, Rotation, Served, behind_failure, begin, fared, group_here, is_empty, refused_here, step, stepped_by, told, with_group_here}
+use Rattle.dv_playing.specs.Playing.{Attempt, Failed, Outcome, Play, Rotation, Served, behind_failure, begin, fared, group_here, is_empty, refused_here, stepped_by, told, with_group_here}
 use Rattle.dv_playing.proofs.Plays.{goes_on}
 use Rattle.dv_store.specs.Commits.{MayGiveCommit, end_with}
-use Rattle.dv_serial.specs.Following.{IsAt, Keeps, with_line}
-use Rattle.dv_serial.specs.Places.{GivesBehind, GivesNext, GivesPlay, GivesWith, IsFailedWrite, IsLastFailed, IsOwedBehind, IsPendingOf, MayGive, StandsAt, begin_at, next_file, play_of, text_here}
+use Rattle.dv_serial.specs.Following.{Keeps, with_line}
+use Rattle.dv_serial.specs.Places.{GivesBehind, GivesNext, GivesPlay, GivesWith, IsFailedWrite, IsLastFailed, IsOwedBehind, IsPendingOf, MayGive, StandsAt, begin_at, next_file, play_of}
 use Rattle.dv_serial.specs.Servings.{Serving}
 use Rattle.dv_serial.proofs.Matching.{IsWriteAt, after_here, mailbox_behind, mark_with}
 
