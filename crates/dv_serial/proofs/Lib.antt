@@ -1,1 +1,4 @@
 pub mod Places
+pub mod Matching
+pub mod Crashing
+pub mod Failing
