@@ -53,6 +53,8 @@ impl<S: Shelf, C: Clock> Serial<S, C> {
             (S.fault_count self.new.store.shelf) result }
     {
         self.journal.reserve(1)?;
+        // A UIDNEXT is known of a valid mailbox alone.
+        let _before = self.store.live().next_uid();
         let receipt = self.store.commit_command(c, self.seats[at].view())?;
         let Receipt {
             mark,
@@ -60,7 +62,6 @@ impl<S: Shelf, C: Clock> Serial<S, C> {
             touched,
             ..
         } = receipt;
-        // A UIDNEXT is known of a valid mailbox alone.
         let _next = self.store.live().next_uid();
         if !group.records.is_empty() {
             self.mark = mark;
