@@ -62,6 +62,9 @@ one_more all last = sum_by-append (λ (lines : List Reply). cond (list_any is_un
 pub counts_none : (lines : List Reply) → AreAvailable lines → unavailable_count (lines ∷ []) ≡ 0
 counts_none lines available = ap (λ (b : Bool). 0 + cond b 1 0) available
 
+pub one_available : (line : Reply) → is_unavailable line ≡ false → AreAvailable (line ∷ [])
+one_available line available = ap (λ (b : Bool). b || false) available
+
 -- ---- a refusal is none
 
 pub by_some : (o : Option Reply) (x line : Reply) → is_unavailable x ≡ false → o ≡ Some x → o ≡ Some line → is_unavailable line ≡ false

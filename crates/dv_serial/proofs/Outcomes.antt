@@ -1,7 +1,6 @@
 -- What became of a line is a step of the play that the serving follows.
 use Rattle.std.proofs.Common.{◌≡◌, ◌⊎◌, inl, inr, ℕ, ◌+◌, ◌<◌, ◌≤◌, Bool, true, false, List, [], ◌∷◌, ◌++◌, length, Option, Some, None, Result, Ok, Err, refl, sym, ◌∙◌, ap, subst}
 use Rattle.std.specs.Prelude.{IfOk, OnErr}
-use Rattle.std.specs.List.{list_any}
 use Rattle.std.proofs.lemmas.List.{append-nil}
 use Rattle.dv_model.specs.declared.types.Mailbox.{Mailbox}
 use Rattle.dv_model.specs.declared.types.Mark.{Mark}
@@ -30,7 +29,7 @@ use Rattle.dv_serial.specs.Places.{IsOwedBehind, StandsAt, play_of}
 use Rattle.dv_serial.specs.Serves.{IsServed, OnlyLooksAt, Serves, seat_at, with_seat}
 use Rattle.dv_serial.specs.Servings.{Serving}
 use Rattle.dv_serial.specs.Writes.{Commits, StandsAs}
-use Rattle.dv_serial.proofs.Counting.{AreAvailable, answer_available, counts_none, rose_none, rose_since}
+use Rattle.dv_serial.proofs.Counting.{AreAvailable, answer_available, counts_none, one_available, rose_none, rose_since}
 use Rattle.dv_serial.proofs.Crashing.{looks_may, more_may, stays_may}
 use Rattle.dv_serial.proofs.Failing.{owed_longer}
 use Rattle.dv_serial.proofs.Going.{WritesNothing, at_on, refused_stays, same_writes_nothing}
@@ -190,7 +189,7 @@ module _ {S C : Type 0} (files : S → Folder) (may_leave : S → Folder → Typ
           may_on clock start base attempts before faults (attempt line Served) follows.may (record { line = good; count = tt })
           (subst (λ (n : ℕ). RoseBy n before faults) (sym (ap (λ (s : Step). unavailable_count (s.replies ∷ [])) steps ∙ counts_none replies available)) (rose_none before faults later))
 
-      seated_same : (new : Serving S C) → new.seats ≡ old.seats → new.store.chain.live.mailbox ≡ old.store.chain.live.mailbox → AreSeated new.store.chain.live.mailbox here.states new.seats
+      pub seated_same : (new : Serving S C) → new.seats ≡ old.seats → new.store.chain.live.mailbox ≡ old.store.chain.live.mailbox → AreSeated new.store.chain.live.mailbox here.states new.seats
       seated_same new seats mailbox =
           subst (λ (m : Mailbox). AreSeated m here.states new.seats) (sym mailbox)
           (subst (λ (fs : List Follower). AreSeated old.store.chain.live.mailbox here.states fs) (sym seats) follows.seats)
@@ -200,7 +199,7 @@ module _ {S C : Type 0} (files : S → Folder) (may_leave : S → Folder → Typ
           → StandsAs files may_leave moment left_since upcoming clock start attempts here old new → IsServed files may_leave moment left_since upcoming clock start base faults attempts line replies old new
       refused_serves r new replies refused seats mailbox lines is =
           let steps = refused_step clock here line Served r refused in
-          let available : AreAvailable (r ∷ []) = ap (λ (b : Bool). list_any (λ (x : Bool). x) (b ∷ [])) (refused_available here line r refused) in
+          let available : AreAvailable (r ∷ []) = one_available r (refused_available here line r refused) in
           let stays = refused_stays clock start attempts (attempt line Served) r refused in
           subst (λ (rs : List Reply). IsServed files may_leave moment left_since upcoming clock start base faults attempts line rs old new) (sym lines)
           (served_on faults line Served here here.states (r ∷ []) old new steps (may_quietly (r ∷ []) here steps available) (seated_same new seats mailbox)
