@@ -1,7 +1,6 @@
 -- What comes of a write that the disk failed.
-use Rattle.std.proofs.Common.{◌≡◌, ℕ, ◌≤◌, Bool, false, true, List, [], ◌∷◌, length, nat_eq, None, Err, refl, ◌∙◌, ap, subst, arith}
+use Rattle.std.proofs.Common.{◌≡◌, ℕ, false, true, List, None, Err, ◌∙◌, subst}
 use Rattle.dv_model.specs.declared.types.Group.{Group}
-use Rattle.dv_model.specs.declared.types.Record.{Record}
 use Rattle.dv_model.specs.Journals.{Log}
 use Rattle.dv_model.specs.Sessions.{State as SessionState, is_write}
 use Rattle.dv_model.specs.Transcripts.{Line}
@@ -12,7 +11,7 @@ use Rattle.dv_plans.specs.Begins.{readings_of}
 use Rattle.dv_plans.specs.Limits.{IsWritten}
 use Rattle.dv_plans.specs.Overs.{group_over, limit_over}
 use Rattle.dv_playing.specs.Laws.{IsLine, MayWrite}
-use Rattle.dv_playing.specs.Playing.{Attempt, Play, group_here, is_empty, refused_here}
+use Rattle.dv_playing.specs.Playing.{Attempt, Play, group_here, is_empty}
 use Rattle.dv_store.specs.Commits.{Commits, CommitsQuietly, TakesReadings, write_of}
 use Rattle.dv_serial.specs.Following.{Follows}
 use Rattle.dv_serial.specs.Places.{play_of}
@@ -21,10 +20,6 @@ use Rattle.dv_serial.specs.Writes.{IsFailedBy}
 use Rattle.dv_serial.proofs.Committing as committing
 use Rattle.dv_serial.proofs.Failing.{failed_by}
 use Rattle.dv_serial.proofs.Places.{clock_here, group_met}
-
-some_records : (records : List Record) → 1 ≤ length records → nat_eq (length records) 0 ≡ false
-some_records [] some = absurd (omega (arith, some))
-some_records (r ∷ rs) some = refl
 
 module _ {S C : Type 0} (files : S → Folder) (may_leave : S → Folder → Type 0) (moment : S → ℕ) (left_since : S → ℕ → Folder → Type 0) (upcoming : C → ℕ → ℕ) (clock : ℕ → ℕ) (start : Log) (base faults : ℕ) (attempts : List Attempt)
     (old : Serving S C) (follows : Follows files may_leave upcoming clock start base faults attempts old) (line : Line) (x : SessionState) (same : (play_of clock start attempts).states line.0 ≡ x)
@@ -42,7 +37,7 @@ module _ {S C : Type 0} (files : S → Folder) (may_leave : S → Folder → Typ
   some : is_empty (group_here here line) ≡ false
   some =
       let meets = committing.meets files may_leave moment left_since upcoming clock start base faults attempts old follows line x same good write own in
-      subst (λ (g : Group). is_empty g ≡ false) (group_met here line x.view old.store meets) (some_records (group_over line.1 x.view old.store.chain here.log.guid).records written.1)
+      subst (λ (g : Group). is_empty g ≡ false) (group_met here line x.view old.store meets) (committing.not_empty (group_over line.1 x.view old.store.chain here.log.guid) written.1)
 
   pub may : MayWrite here line
   may = record {
