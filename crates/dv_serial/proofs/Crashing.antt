@@ -14,7 +14,7 @@ use Rattle.dv_model.specs.Spelling.{group_text}
 use Rattle.dv_model.specs.Transcripts.{Line, touches_disk}
 use Rattle.dv_shelf.specs.Crashes.{LeavesOnly}
 use Rattle.dv_shelf.specs.Folders.{Folder}
-use Rattle.dv_shelf.proofs.Moments.{weaker}
+use Rattle.dv_shelf.proofs.Moments.{started, weaker}
 use Rattle.dv_logfile.specs.Layout.{closing}
 use Rattle.dv_chain.specs.declared.chain.Chain.{Chain}
 use Rattle.dv_chain.specs.Rest.{next_mark}
@@ -189,6 +189,12 @@ module _ {S C : Type 0} (files : S → Folder) (may_leave : S → Folder → Typ
       → LeavesOnly moment left_since serving.store.shelf new (MayGive clock start attempts)
   looks_may moment left_since new since =
       weaker moment left_since serving.store.shelf new (may_leave serving.store.shelf) (MayGive clock start attempts) since (λ c left. behind_may clock start attempts c (keeps_behind c left))
+
+  -- or isn't called
+  pub stays_may : (moment : S → ℕ) (left_since : S → ℕ → Folder → Type 0) → ((c : Folder) → left_since serving.store.shelf (moment serving.store.shelf) c → may_leave serving.store.shelf c)
+      → LeavesOnly moment left_since serving.store.shelf serving.store.shelf (MayGive clock start attempts)
+  stays_may moment left_since now =
+      started moment left_since serving.store.shelf (MayGive clock start attempts) (λ c left. behind_may clock start attempts c (keeps_behind c (now c left)))
 
 -- with one line more, or more of them
 pub more_may : {S : Type 0} (moment : S → ℕ) (left_since : S → ℕ → Folder → Type 0) (old new : S) (clock : ℕ → ℕ) (start : Log) (attempts more : List Attempt) → LeavesOnly moment left_since old new (MayGive clock start attempts)

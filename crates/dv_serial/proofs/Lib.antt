@@ -6,3 +6,4 @@ pub mod Going
 pub mod Allowed
 pub mod Committing
 pub mod Led
+pub mod Failed

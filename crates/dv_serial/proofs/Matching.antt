@@ -6,17 +6,14 @@ use Rattle.dv_model.specs.declared.types.Mailbox.{Mailbox}
 use Rattle.dv_model.specs.Effects.{applied}
 use Rattle.dv_model.specs.Journals.{mark_behind}
 use Rattle.dv_model.specs.Transcripts.{Line}
-use Rattle.dv_model.specs.Views.{View}
-use Rattle.dv_shelf.specs.Clocks.{behind}
 use Rattle.dv_chain.specs.declared.chain.Chain.{Chain}
 use Rattle.dv_rotation.specs.declared.texts.Turn.{Turn}
 use Rattle.dv_plans.specs.Begins.{turns}
 use Rattle.dv_writes.specs.Writes.{IsAfter, Write, group_by, log_with}
 use Rattle.dv_playing.specs.Playing.{Play, begins_file, group_here, is_empty, with_group_here}
-use Rattle.dv_store.specs.Commits.{begin_of, end_with, write_of}
-use Rattle.dv_store.specs.States.{State}
+use Rattle.dv_store.specs.Commits.{begin_of, end_with}
 use Rattle.dv_serial.specs.Places.{begin_at}
-use Rattle.dv_serial.proofs.Places.{Meets, begin_here, group_by_met, log_met, mark_met, turns_here, with_group}
+use Rattle.dv_serial.proofs.Places.{with_group}
 
 -- the write of a line, over a chain that is where the play stands
 pub record IsWriteAt (clock : ℕ → ℕ) (play : Play) (line : Line) (write : Write)
@@ -29,18 +26,6 @@ pub record IsWriteAt (clock : ℕ → ℕ) (play : Play) (line : Line) (write : 
       → log_with play.log write chain.live.mailbox ≡ (with_group_here clock play line).log
   pub mark : is_empty (group_here play line) ≡ false
       → end_with owed chain (group_here play line).records ≡ (with_group_here clock play line).mark
-
--- a store that meets the line
-pub write_at : {S C : Type 0} (clock upcoming : ℕ → ℕ) (play : Play) (line : Line) (view : View) (store : State S C) → Meets play line view store → upcoming ≡ behind clock play.used
-    → IsWriteAt clock play line (write_of line.0 line.1 view store upcoming) store.owed store.chain
-write_at clock upcoming play line view store meets readings = record {
-  mailbox = meets.mailbox;
-  turning = turns_here play store.owed store.chain meets.rotates meets.place;
-  begin = begin_here play store.owed store.chain meets.rotates meets.place;
-  group = group_by_met play line view store meets upcoming;
-  log = log_met play line view store meets upcoming clock readings;
-  mark = mark_met play line view store meets upcoming clock readings;
-}
 
 -- the mailbox with the write's group is the play's
 pub after_here : (clock : ℕ → ℕ) (play : Play) (line : Line) (write : Write) (owed : Option Turn) (chain : Chain) → IsWriteAt clock play line write owed chain → (after : Mailbox) → IsAfter play.log write chain.live.mailbox after
