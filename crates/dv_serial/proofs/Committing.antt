@@ -2,6 +2,7 @@
 -- limit refuses it, or memory ends it.
 use Rattle.std.proofs.Common.{◌≡◌, ◌⊎◌, inl, inr, ⊎_elim, ℕ, ◌+◌, ◌≤◌, ◌<◌, Bool, true, false, List, [], ◌∷◌, ◌++◌, length, nat_eq, Option, Some, None, Result, Ok, Err, refl, sym, ◌∙◌, ap, subst, arith}
 use Rattle.std.specs.Prelude.{if◌then◌else◌}
+use Rattle.std.proofs.lemmas.Bool.Decides.{nat_tests}
 use Rattle.dv_model.specs.declared.types.Entry.{Entry}
 use Rattle.dv_model.specs.declared.types.Group.{Group}
 use Rattle.dv_model.specs.declared.types.Mailbox.{Mailbox}
@@ -49,7 +50,7 @@ not_empty g more = by_records g.records more
   where
     by_records : (rs : List Record) → 1 ≤ length rs → nat_eq (length rs) 0 ≡ false
     by_records [] more = absurd (omega (arith, more))
-    by_records (r ∷ rs) more = refl
+    by_records (r ∷ rs) more = grind (arith, nat_tests)
 
 takes_some : (n : ℕ) (old new : ℕ → ℕ) (rs : List Record) → 1 ≤ length rs → TakesFor n old new rs → new ≡ behind old n
 takes_some n old new [] more takes = absurd (omega (arith, more))
@@ -113,16 +114,16 @@ module _ {S C : Type 0} (files : S → Folder) (may_leave : S → Folder → Typ
       may : MayWrite here line
       may = record { good = good; write = write; allowed = allowed; some = some }
 
-      abbrev then : Play
-      then = with_group_here clock here line
+      abbrev after_it : Play
+      after_it = with_group_here clock here line
 
-      is_then : then ≡ written_here clock here line
+      is_then : after_it ≡ written_here clock here line
       is_then = with_group clock here line some
 
-      mark_is : then.mark ≡ receipt.mark
+      mark_is : after_it.mark ≡ receipt.mark
       mark_is = sym (value.ok.mark ∙ ap (λ (g : Group). end_with old.store.owed old.store.chain g.records) group_is ∙ write_here.mark some)
 
-      at_written : IsAt then new
+      at_written : IsAt after_it new
       at_written = record {
         rotates = ap (λ (p : Play). p.log.rotates) is_then ∙ follows.keeps.at.rotates;
         journal = ap (λ (p : Play). p.log.entries) is_then
@@ -132,11 +133,11 @@ module _ {S C : Type 0} (files : S → Folder) (may_leave : S → Folder → Typ
         mailbox = mailbox_met here line x.view old.store meets readings clock follows.readings some new.store.chain.live.mailbox
             (ap (λ (g : Group). applied old.store.chain.live.mailbox g.records) (sym group_is) ∙ value.ok.gives);
         mark = mark_is ∙ sym mark;
-        place = subst (λ (b : Bool). StandsAt b then.mark (place_of new.store.chain) new.store.owed) (sym (ap (λ (p : Play). p.begun) is_then))
+        place = subst (λ (b : Bool). StandsAt b after_it.mark (place_of new.store.chain) new.store.owed) (sym (ap (λ (p : Play). p.begun) is_then))
             (sym value.ok.place ∙ sym mark_is, (value.paid more).turn);
       }
 
-      stands_written : StandsAs files may_leave moment left_since upcoming clock start (with_line attempts line Served) then old new
+      stands_written : StandsAs files may_leave moment left_since upcoming clock start (with_line attempts line Served) after_it old new
       stands_written = record {
         at = at_written;
         debt = Nothing;
