@@ -1,7 +1,7 @@
 -- What a crash leaves at any moment of a write: the log behind some of the lines, or that with the
 -- group of one that the disk failed.
-use Rattle.std.proofs.Common.{◌≡◌, ◌⊎◌, inl, inr, ⊎_elim, ℕ, ◌+◌, ◌-◌, Bool, true, false, ◌&&◌, List, [], ◌∷◌, ◌++◌, append-nil, append_assoc, length, Option, Some, None, refl, sym, ◌∙◌, ap, subst, arith}
-use Rattle.std.specs.Prelude.{IsSome, if◌then◌else◌, is_none}
+use Rattle.std.proofs.Common.{◌≡◌, ◌⊎◌, inl, inr, ⊎_elim, ℕ, ◌+◌, ◌-◌, Bool, true, false, ◌||◌, List, [], ◌∷◌, ◌++◌, append-nil, append_assoc, length, Option, Some, None, refl, sym, ◌∙◌, ap, subst, arith}
+use Rattle.std.specs.Prelude.{IsSome, if◌then◌else◌}
 use Rattle.std.proofs.lemmas.List.{length-append}
 use Rattle.dv_model.specs.declared.types.Group.{Group}
 use Rattle.dv_model.specs.declared.types.Mailbox.{Mailbox}
@@ -28,11 +28,11 @@ use Rattle.dv_keeping.proofs.Resting.{rests_give}
 use Rattle.dv_plans.specs.Begins.{turns}
 use Rattle.dv_writes.specs.Writes.{IsAfter, Write, group_by, log_with}
 use Rattle.dv_playing.specs.Laws.{MayWrite}
-use Rattle.dv_playing.specs.Playing.{Attempt, Failed, Outcome, Play, Rotation, Served, behind_failure, begin, fared, group_here, is_empty, refused_here, step, stepped_by, told, with_group_here}
+use Rattle.dv_playing.specs.Playing.{Attempt, Failed, Outcome, Play, Rotation, Served, behind_failure, begin, fared, group_here, is_empty, refused_here, stepped_by, told, with_group_here}
 use Rattle.dv_playing.proofs.Plays.{goes_on}
 use Rattle.dv_store.specs.Commits.{MayGiveCommit, end_with}
-use Rattle.dv_serial.specs.Following.{IsAt, Keeps, with_line}
-use Rattle.dv_serial.specs.Places.{GivesBehind, GivesNext, GivesPlay, GivesWith, IsFailedWrite, IsLastFailed, IsOwedBehind, IsPendingOf, MayGive, StandsAt, begin_at, next_file, play_of, text_here}
+use Rattle.dv_serial.specs.Following.{Keeps, with_line}
+use Rattle.dv_serial.specs.Places.{GivesBehind, GivesNext, GivesPlay, GivesWith, IsFailedWrite, IsLastFailed, IsOwedBehind, IsPendingOf, MayGive, StandsAt, begin_at, next_file, play_of}
 use Rattle.dv_serial.specs.Servings.{Serving}
 use Rattle.dv_serial.proofs.Matching.{IsWriteAt, after_here, mailbox_behind, mark_with}
 
@@ -96,7 +96,7 @@ group_gives : (clock : ℕ → ℕ) (play : Play) (line : Line) (log : Log) (aft
 group_gives clock play line log after mark c some made log_is mark_is gives =
     let behind : Play = with_group_here clock play line in
     subst (λ (k : Mark). Gives behind.log behind.mailbox k c) mark_is
-    (subst (λ (m : Mailbox). Gives behind.log m mark c) (mailbox_behind clock play line after some made) (subst (λ (l : Log). Gives l after mark c) log_is gives))
+    (subst (λ (m : Mailbox). Gives behind.log m mark c) (mailbox_behind clock play line some after made) (subst (λ (l : Log). Gives l after mark c) log_is gives))
 
 -- ---- some of the lines, and more
 
@@ -111,7 +111,7 @@ module _ (clock : ℕ → ℕ) (start : Log) (attempts : List Attempt) (c : Fold
   longer_may more may = record {
     front = may.front;
     back = may.back ++ more;
-    lines = ap (λ (as : List Attempt). as ++ more) may.lines ∙ append_assoc may.front may.back more;
+    lines = ap (λ (these : List Attempt). these ++ more) may.lines ∙ append_assoc may.front may.back more;
     gives = next_longer clock (play_of clock start may.front) may.back more c may.gives;
   }
 
@@ -167,7 +167,7 @@ module _ (clock : ℕ → ℕ) (start : Log) (attempts : List Attempt) (chain : 
       by_debt (Last new) None at fit is gives = absurd fit
       by_debt (Last new) (Some turn) at fit is gives =
           ⊎_elim (here (Some turn) at)
-          (λ next. inl (gives_owed end c end.begun (place_of chain) (Some turn) at tt (subst (λ (m : Mailbox). Gives end.log m (next_mark chain) c) (sym mailbox) next)))
+          (λ next. inl (gives_owed end c end.begun (place_of chain) (Some turn) at refl (subst (λ (m : Mailbox). Gives end.log m (next_mark chain) c) (sym mailbox) next)))
           gives
 
 -- ---- a serving behind the lines

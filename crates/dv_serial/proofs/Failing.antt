@@ -1,5 +1,5 @@
 -- What a failed write leaves: the log as it was, a rotation as far as it came, and what is owed.
-use Rattle.std.proofs.Common.{◌≡◌, ◌⊎◌, inl, inr, ⊎_elim, ℕ, Bool, true, false, not, ◌&&◌, ◌||◌, List, [], ◌∷◌, ◌++◌, append_assoc, Option, Some, None, refl, sym, ◌∙◌, ap, subst}
+use Rattle.std.proofs.Common.{◌≡◌, inl, inr, ⊎_elim, ℕ, Bool, true, false, not, ◌&&◌, ◌||◌, List, [], ◌∷◌, ◌++◌, append_assoc, Option, Some, None, refl, sym, ◌∙◌, ap, subst}
 use Rattle.std.specs.Prelude.{IsSome, if◌then◌else◌}
 use Rattle.dv_model.specs.declared.types.Group.{Group}
 use Rattle.dv_model.specs.declared.types.Mailbox.{Mailbox}
@@ -44,7 +44,7 @@ module _ (clock : ℕ → ℕ) (start : Log) (attempts : List Attempt) (a : Atte
     last_longer met b last = record {
       front = last.front;
       back = last.back ++ a ∷ [];
-      lines = ap (λ (as : List Attempt). as ++ a ∷ []) last.lines ∙ append_assoc last.front (b ∷ last.back) (a ∷ []);
+      lines = ap (λ (these : List Attempt). these ++ a ∷ []) last.lines ∙ append_assoc last.front (b ∷ last.back) (a ∷ []);
       was = last.was;
       failed = last.failed;
       log = log ∙ last.log;
@@ -103,7 +103,7 @@ stands_begin false mark place owed is at none = (at ∙ ap (λ (b : Bool). if b 
 none_begun : (begun : Bool) (mark : Mark) (owed : Option Turn) (chain : Chain) → StandsAt begun mark (place_of chain) owed → turns owed chain ≡ true → (place_of chain ≡ mark) × (owed ≡ None) × (is_rotation_due true mark ≡ true)
 none_begun begun mark (Some turn) chain stands is = absurd cc
 none_begun false mark None chain stands is = (stands.0, refl, ap (is_rotation_due true) (sym stands.0) ∙ is)
-none_begun true mark None chain stands is = ⊎_elim (λ at. absurd at.1) (λ at. absurd (none_new at.0)) stands.1
+none_begun true mark None chain stands is = ⊎_elim (λ at. absurd cc) (λ at. absurd (none_new at.0)) stands.1
   where
     none_new : place_of chain ≡ next_file mark → ⊥
     none_new at = let new : false ≡ true = ap (is_rotation_due true) (sym at) ∙ is in cc
@@ -224,7 +224,7 @@ module _ {S C : Type 0} (clock : ℕ → ℕ) (start : Log) (attempts : List Att
     rotation = Made;
     place = made_stands new at none;
     owes = ⊎_elim (λ paid. subst (IsOwedBehind clock start (lines Made) (place_of new.chain)) (sym paid) tt)
-        (λ open. subst (IsOwedBehind clock start (lines Made) (place_of new.chain)) (sym open.2) (this_pending open.0 open.1, at ∙ is.begin ∙ ap begin_at (sym (mark_is Made)))) gate;
+        (λ gate_open. subst (IsOwedBehind clock start (lines Made) (place_of new.chain)) (sym gate_open.2) (this_pending gate_open.0 gate_open.1, at ∙ is.begin ∙ ap begin_at (sym (mark_is Made)))) gate;
   }
 
   pub left_behind : (new : State S C) (now : Debt) → IsLeftAt here.log debt write old new now → IsLeftSo clock start attempts line faults new now
