@@ -9,6 +9,7 @@ use Rattle.dv_model.specs.declared.types.Mailbox.{Mailbox}
 use Rattle.dv_model.specs.declared.types.Mark.{Mark}
 use Rattle.dv_model.specs.declared.types.Record.{Record}
 use Rattle.dv_model.specs.declared.types.Reply.{Reply}
+use Rattle.dv_model.specs.declared.types.Reply.TheVariants as reply
 use Rattle.dv_model.specs.Effects.{applied}
 use Rattle.dv_model.specs.Journals.{IsSound, Log}
 use Rattle.dv_model.specs.Sessions.{State as SessionState, is_write}
@@ -16,32 +17,34 @@ use Rattle.dv_model.specs.Transcripts.{Line}
 use Rattle.dv_shelf.specs.Clocks.{behind}
 use Rattle.dv_shelf.specs.Crashes.{LeavesOnly}
 use Rattle.dv_shelf.specs.Folders.{Folder}
-use Rattle.dv_shelf.proofs.Moments.{weaker}
+use Rattle.dv_shelf.proofs.Moments.{started, weaker}
 use Rattle.dv_groups.specs.Groups.{HasSizes}
 use Rattle.dv_rotation.specs.Texts.{place_of}
 use Rattle.dv_keeping.specs.Debts.{Debt, Nothing}
 use Rattle.dv_answer.specs.Following.{Leads}
 use Rattle.dv_answer.specs.Refusing.{own_refusal}
 use Rattle.dv_plans.specs.declared.fault.StoreFault.{StoreFault}
+use Rattle.dv_plans.specs.declared.fault.StoreFault.TheVariants as fault
 use Rattle.dv_plans.specs.Begins.{readings_of, turns}
-use Rattle.dv_plans.specs.Overs.{limit_over}
+use Rattle.dv_plans.specs.Overs.{group_over, limit_over}
 use Rattle.dv_writes.specs.Writes.{Write, group_by, log_with}
 use Rattle.dv_playing.specs.Laws.{IsLine, MayWrite}
 use Rattle.dv_playing.specs.Playing.{Attempt, Play, Served, group_here, is_empty, refused_here, with_group_here}
 use Rattle.dv_playing.proofs.Plays as plays
 use Rattle.dv_store.specs.declared.receipt.Receipt.{Receipt}
-use Rattle.dv_store.specs.Commits.{Commits, CommitsQuietly, IsUnwritten, TakesFor, TakesReadings, end_with, write_of}
+use Rattle.dv_store.specs.Commits.{Commits, CommitsQuietly, IsIdle, IsUnwritten, TakesFor, TakesReadings, end_with, write_of}
 use Rattle.dv_store.specs.Rest.{IsAtRest}
 use Rattle.dv_store.specs.States.{State}
 use Rattle.dv_serial.specs.Following.{Follows, IsAt, Keeps, Leaves, with_line}
 use Rattle.dv_serial.specs.Places.{IsOwedBehind, MayGive, StandsAt, play_of}
 use Rattle.dv_serial.specs.Servings.{Serving}
-use Rattle.dv_serial.specs.Writes.{IsDone, IsRefusedBy, StandsAs}
+use Rattle.dv_serial.specs.Writes.{IsDone, IsFailedBy, IsRefusedBy, StandsAs}
+use Rattle.dv_serial.specs.Writes as comes
 use Rattle.dv_serial.proofs.Allowed.{refusal_met, sound_sizes}
 use Rattle.dv_serial.proofs.Crashing.{looks_may, more_may, served_gives, served_play}
-use Rattle.dv_serial.proofs.Failing.{owed_longer}
+use Rattle.dv_serial.proofs.Failing.{failed_by, owed_longer}
 use Rattle.dv_serial.proofs.Matching.{IsWriteAt}
-use Rattle.dv_serial.proofs.Places.{Meets, begin_here, group_by_met, log_met, mailbox_met, mark_met, turns_here, used_met, with_group, without_group, written_here}
+use Rattle.dv_serial.proofs.Places.{Meets, begin_here, clock_here, group_by_met, group_met, log_met, mailbox_met, mark_met, turns_here, used_met, with_group, without_group, written_here}
 
 -- ---- groups
 
@@ -232,3 +235,54 @@ module _ {S C : Type 0} (files : S → Folder) (may_leave : S → Folder → Typ
           stands = subst (λ (p : Play). StandsAs files may_leave moment left_since upcoming clock start (with_line attempts line Served) p old new) (sym stays_here) stands_idle;
           leads = leads;
         }
+
+  -- ---- nothing was done
+
+  pub leaves_same : (journal : List Entry) → journal ≡ old.journal → ((c : Folder) → left_since old.store.shelf (moment old.store.shelf) c → may_leave old.store.shelf c)
+      → Leaves files may_leave moment left_since clock start attempts old (record old { journal = journal })
+  leaves_same journal is now = subst (λ (es : List Entry). Leaves files may_leave moment left_since clock start attempts old (record old { journal = es })) (sym is) (record {
+    keeps = follows.keeps;
+    since = looks_may files may_leave clock start attempts old follows.keeps moment left_since old.store.shelf (started moment left_since old.store.shelf (may_leave old.store.shelf) now);
+  })
+
+  -- ---- an error
+
+  module _ (new : State S C) where
+    abbrev behind_error : List Entry → Serving S C
+    behind_error journal = record old { store = new; journal = journal }
+
+    disk_failed : (faults : ℕ) → Commits line.1 x.view old.store new (Err (fault.Disk faults)) → CommitsQuietly files may_leave moment left_since here.log follows.keeps.debt writes old.store new (Err (fault.Disk faults))
+        → TakesReadings (readings_of line.1 old.store.owed old.store.chain) readings (upcoming new.clock) (Err (fault.Disk faults)) → IsFailedBy files may_leave moment left_since upcoming clock start attempts line faults old (record old { store = new })
+    disk_failed faults value quiet taken =
+        let limited = value.limit here.log.guid sizes in
+        let some : is_empty (group_here here line) ≡ false = subst (λ (g : Group). is_empty g ≡ false) (group_met here line x.view old.store meets) (not_empty (group_over line.1 x.view old.store.chain here.log.guid) limited.1) in
+        let may : MayWrite here line = record { good = good; write = write; allowed = refusal ∙ limited.0; some = some } in
+        failed_by files may_leave moment left_since upcoming clock start attempts line writes old follows.keeps.at follows.keeps.debt follows.keeps.owed follows.keeps.rests.fits write_here may new faults
+        value.failed (taken ∙ clock_here here old.store.owed old.store.chain follows.keeps.at.rotates follows.keeps.at.place clock readings follows.readings line some) quiet.any_moment quiet.err
+
+    by_error : (e : StoreFault) → Commits line.1 x.view old.store new (Err e) → CommitsQuietly files may_leave moment left_since here.log follows.keeps.debt writes old.store new (Err e)
+        → (IsUnwritten (Err e) → LeavesOnly moment left_since old.store.shelf new.shelf (may_leave old.store.shelf)) → (IsIdle (Err e) → upcoming new.clock ≡ readings)
+        → TakesReadings (readings_of line.1 old.store.owed old.store.chain) readings (upcoming new.clock) (Err e)
+        → comes.Commits files may_leave moment left_since upcoming clock start attempts line old (Err e) (record old { store = new })
+    by_error (fault.Disk faults) value quiet looks idle taken = disk_failed faults value quiet taken
+    by_error fault.UidsUsedUp value quiet looks idle taken = refused_by (Err fault.UidsUsedUp) (behind_error old.journal) value quiet tt (looks tt) refl refl (idle tt) reply.UidsUsedUp (value.limit here.log.guid sizes)
+    by_error (fault.TooLong bytes) value quiet looks idle taken =
+        refused_by (Err (fault.TooLong bytes)) (behind_error old.journal) value quiet tt (looks tt) refl refl (idle tt) (reply.TooLong bytes) (value.limit here.log.guid sizes)
+    by_error fault.NoMemory value quiet looks idle taken = leaves_unwritten (Err fault.NoMemory) (behind_error old.journal) value quiet tt (looks tt) refl refl
+
+    pub failed : (journal : List Entry) → journal ≡ old.journal → (e : StoreFault) → Commits line.1 x.view old.store new (Err e) → CommitsQuietly files may_leave moment left_since here.log follows.keeps.debt writes old.store new (Err e)
+        → (IsUnwritten (Err e) → LeavesOnly moment left_since old.store.shelf new.shelf (may_leave old.store.shelf)) → (IsIdle (Err e) → upcoming new.clock ≡ readings)
+        → TakesReadings (readings_of line.1 old.store.owed old.store.chain) readings (upcoming new.clock) (Err e)
+        → comes.Commits files may_leave moment left_since upcoming clock start attempts line old (Err e) (behind_error journal)
+    failed journal is e value quiet looks idle taken =
+        subst (λ (es : List Entry). comes.Commits files may_leave moment left_since upcoming clock start attempts line old (Err e) (behind_error es)) (sym is) (by_error e value quiet looks idle taken)
+
+  -- ---- Ok without a record
+
+  module _ (receipt : Receipt) (new : Serving S C) (value : Commits line.1 x.view old.store new.store (Ok receipt)) (quiet : CommitsQuietly files may_leave moment left_since here.log follows.keeps.debt writes old.store new.store (Ok receipt))
+      (taken : TakesReadings (readings_of line.1 old.store.owed old.store.chain) readings (upcoming new.store.clock) (Ok receipt)) where
+    pub done_nothing : receipt.group.records ≡ [] → LeavesOnly moment left_since old.store.shelf new.store.shelf (may_leave old.store.shelf) → new.mark ≡ old.mark → new.journal ≡ old.journal → (touched : List ℕ)
+        → Leads old.store.chain.live.mailbox new.store.chain.live.mailbox touched → IsDone files may_leave moment left_since upcoming clock start attempts line touched old new
+    done_nothing none since mark journal touched leads =
+        done_idle (Ok receipt) new value quiet none since mark journal (takes_none (readings_of line.1 old.store.owed old.store.chain) readings (upcoming new.store.clock) receipt.group.records none taken)
+        (allowed receipt new value quiet taken) (ap (λ (g : Group). g.records) (sym (group_is receipt new value quiet taken)) ∙ none) touched leads
