@@ -1,5 +1,5 @@
 -- What becomes of one line.
-use Rattle.std.specs.Prelude.{◌≡◌, ◌≤◌, ◌++◌, ℕ, List, [], ◌∷◌, get_or, length, slice_set, Result, Ok, Err}
+use Rattle.std.specs.Prelude.{◌≡◌, ◌≤◌, ◌++◌, ℕ, List, [], ◌∷◌, All, get_or, length, slice_set, Result, Ok, Err}
 use Rattle.dv_model.specs.declared.types.Command.{Command}
 use Rattle.dv_model.specs.declared.types.Reply.{Reply}
 use Rattle.dv_model.specs.Journals.{Log}
@@ -11,7 +11,7 @@ use Rattle.dv_shelf.specs.Crashes.{LeavesOnly}
 use Rattle.dv_shelf.specs.Folders.{Folder}
 use Rattle.dv_groups.specs.Groups.{HasFewKeywords}
 use Rattle.dv_responses.specs.Depth.{IsShallow}
-use Rattle.dv_answer.specs.Following.{Follower, new_follower}
+use Rattle.dv_answer.specs.Following.{Follower, IsAbreast, new_follower}
 use Rattle.dv_store.specs.Rest.{IsLookedAt}
 use Rattle.dv_playing.specs.Playing.{Attempt, Outcome, step}
 use Rattle.dv_serial.specs.Following.{EndsAt, Follows, with_line}
@@ -49,6 +49,10 @@ module _ {S C : Type 0} where
     pub mark : new.mark ≡ old.mark
     pub seats : new.seats ≡ old.seats
     pub journal : new.journal ≡ old.journal
+
+  -- each session keeps up with the mailbox
+  abbrev pub AreAbreast : Serving S C → Type 0
+  AreAbreast serving = All (IsAbreast serving.store.chain.live.mailbox) serving.seats
 
   -- with this session at a place
   abbrev pub with_seat : ℕ → Follower → Serving S C → Serving S C

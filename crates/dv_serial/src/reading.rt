@@ -1,6 +1,6 @@
 //! Commands that write nothing.
 
-ghost use Rattle.std.specs.Prelude.{◌≡◌, ◌+◌, ◌^◌, ◌<◌, ℕ, List, IfErr, IfOk, None, OnErr, OnOk, false, length, set, true};
+ghost use Rattle.std.specs.Prelude.{◌≡◌, ◌+◌, ◌^◌, ◌<◌, ◌≤◌, ℕ, List, IfErr, IfOk, None, OnErr, OnOk, false, length, set, true};
 ghost use Rattle.dv_model.specs.declared.types.Mailbox.{Mailbox};
 ghost use Rattle.dv_model.specs.Journals.{Log, Mail as Message};
 ghost use Rattle.dv_model.specs.Sessions.{answer, is_write, reads_mail};
@@ -16,7 +16,7 @@ ghost use Rattle.dv_store.specs.Rest.{IsAtRest, OnlyReads};
 ghost use Rattle.dv_playing.specs.Playing.{Attempt};
 ghost use Rattle.dv_serial.specs.Following.{Follows};
 ghost use Rattle.dv_store.specs.Faults.{IsFailure};
-ghost use Rattle.dv_serial.specs.Serves.{HasFailures, IsServable, OnlyLooksAt, Serves, seat_at, with_seat};
+ghost use Rattle.dv_serial.specs.Serves.{AreAbreast, HasFailures, IsServable, OnlyLooksAt, Serves, seat_at, with_seat};
 
 use crate::Serial;
 use crate::told::fault_line;
@@ -92,6 +92,7 @@ impl<S: Shelf, C: Clock> Serial<S, C> {
         requires line { IsServable c.now }
         requires read { is_write c.now ≡ false }
         requires allowed { own_refusal (seat_at self.old.seats at).state c.now ≡ None }
+        requires abreast { AreAbreast self.old }
         // It is one line more of the play, with its replies; the folder is only read.
         ensures serves { S.tells → C.tells → (clock : ℕ → ℕ) (start : Log) (base : ℕ)
             (attempts : List Attempt) → at + 1 < 2 ^ 32 →
@@ -99,8 +100,14 @@ impl<S: Shelf, C: Clock> Serial<S, C> {
             (S.fault_count self.old.store.shelf) attempts self.old →
             Serves S.files S.may_leave S.moment S.left_since C.upcoming clock start base
             (S.fault_count self.new.store.shelf) attempts (at + 1, c.now) result self.old self.new }
+        // The sessions keep up with the mailbox.
         ensures seats { length self.new.seats ≡ length self.old.seats }
-        ensures cause { HasFailures (S.fault_count self.old.store.shelf)
+        ensures abreast { OnOk result (AreAbreast self.new) }
+        // The disk's failure is told only where it failed.
+        ensures later { S.fault_count self.old.store.shelf ≤ S.fault_count self.new.store.shelf }
+        ensures cause { S.tells → (log : Log) (debt : Debt) →
+            IsAtRest S.files S.may_leave log debt self.old.store →
+            HasFailures (S.fault_count self.old.store.shelf)
             (S.fault_count self.new.store.shelf) result }
     {
         match self.facts_for(at, c) {

@@ -1,15 +1,18 @@
 //! One line is served.
 
-ghost use Rattle.std.specs.Prelude.{◌≡◌, ◌+◌, ◌<◌, ℕ, List, None, length, true, false};
+ghost use Rattle.std.specs.Prelude.{◌≡◌, ◌+◌, ◌<◌, ◌≤◌, ℕ, List, IfOk, None, OnErr, OnOk, length, true, false};
 ghost use Rattle.dv_model.specs.Journals.{Log};
 ghost use Rattle.dv_model.specs.Sessions.{is_write};
 ghost use Rattle.dv_shelf.specs.Crashes.{LeavesOnly};
+ghost use Rattle.dv_keeping.specs.Debts.{Debt};
+ghost use Rattle.dv_answer.specs.Following.{Leads};
 ghost use Rattle.dv_answer.specs.Refusing.{own_refusal};
 ghost use Rattle.dv_plans.specs.Faults.{HasStoreCause};
 ghost use Rattle.dv_playing.specs.Playing.{Attempt};
+ghost use Rattle.dv_store.specs.Rest.{IsAtRest};
 ghost use Rattle.dv_serial.specs.Following.{Follows};
 ghost use Rattle.dv_serial.specs.Places.{play_of};
-ghost use Rattle.dv_serial.specs.Serves.{HasFailures, IsSeat, IsServable, Serves, TakesUpTo, seat_at};
+ghost use Rattle.dv_serial.specs.Serves.{AreAbreast, HasFailures, IsSeat, IsServable, Serves, TakesUpTo, seat_at};
 ghost use Rattle.dv_serial.specs.Writes.{Commits};
 
 use crate::Serial;
@@ -38,14 +41,20 @@ impl<S: Shelf, C: Clock> Serial<S, C> {
             (S.fault_count self.old.store.shelf) attempts self.old → number ≡ at + 1 →
             Commits S.files S.may_leave S.moment S.left_since C.upcoming clock start attempts
             (number, c.now) self.old result self.new }
-        // The sessions stay; a fault of the disk has its cause.
+        // The sessions stay, and are to be told of what changes; a fault of the disk has its cause.
         ensures seats { self.new.seats ≡ self.old.seats }
+        ensures leads { IfOk result (Leads self.old.store.chain.live.mailbox
+            self.new.store.chain.live.mailbox) }
+        ensures stays { OnErr result
+            (self.new.store.chain.live.mailbox ≡ self.old.store.chain.live.mailbox) }
         ensures readings { C.tells → TakesUpTo 2 (C.upcoming self.old.store.clock)
             (C.upcoming self.new.store.clock) }
         ensures cause { HasStoreCause (S.fault_count self.old.store.shelf)
             (S.fault_count self.new.store.shelf) result }
     {
         self.journal.reserve(1)?;
+        // A UIDNEXT is known of a valid mailbox alone.
+        let _before = self.store.live().next_uid();
         let receipt = self.store.commit_command(c, self.seats[at].view())?;
         let Receipt {
             mark,
@@ -53,7 +62,6 @@ impl<S: Shelf, C: Clock> Serial<S, C> {
             touched,
             ..
         } = receipt;
-        // A UIDNEXT is known of a valid mailbox alone.
         let _next = self.store.live().next_uid();
         if !group.records.is_empty() {
             self.mark = mark;
@@ -73,13 +81,16 @@ impl<S: Shelf, C: Clock> Serial<S, C> {
         requires line { IsServable c.now }
         requires write { is_write c.now ≡ true }
         requires allowed { own_refusal (seat_at self.old.seats at).state c.now ≡ None }
+        requires abreast { AreAbreast self.old }
         // It is one line more of the play, with its replies, and what a crash leaves.
         ensures serves { S.tells → C.tells → (clock : ℕ → ℕ) (start : Log) (base : ℕ)
             (attempts : List Attempt) → Follows S.files S.may_leave C.upcoming clock start base
             (S.fault_count self.old.store.shelf) attempts self.old → number ≡ at + 1 →
             Serves S.files S.may_leave S.moment S.left_since C.upcoming clock start base
             (S.fault_count self.new.store.shelf) attempts (number, c.now) result self.old self.new }
+        // The sessions keep up with the mailbox; the disk's failure is told only where it failed.
         ensures seats { length self.new.seats ≡ length self.old.seats }
+        ensures abreast { OnOk result (AreAbreast self.new) }
         ensures readings { C.tells → TakesUpTo 2 (C.upcoming self.old.store.clock)
             (C.upcoming self.new.store.clock) }
         ensures cause { HasFailures (S.fault_count self.old.store.shelf)
@@ -103,6 +114,7 @@ impl<S: Shelf, C: Clock> Serial<S, C> {
     pub fn serve(&mut self, number: u32, c: &Command) -> Result<List<Reply>, NoMemory>
         requires seat { IsSeat number self.old.seats }
         requires line { IsServable c.now }
+        requires abreast { AreAbreast self.old }
         // It is one line more of the play, with its replies; a crash at any moment leaves the log
         // behind some of the lines, or with the group of one that the disk failed.
         ensures serves { S.tells → C.tells → (clock : ℕ → ℕ) (start : Log) (base : ℕ)
@@ -110,11 +122,16 @@ impl<S: Shelf, C: Clock> Serial<S, C> {
             (S.fault_count self.old.store.shelf) attempts self.old →
             Serves S.files S.may_leave S.moment S.left_since C.upcoming clock start base
             (S.fault_count self.new.store.shelf) attempts (number, c.now) result self.old self.new }
-        // There are as many sessions; the disk's failure is told only where it failed.
+        // There are as many sessions, which keep up with the mailbox.
         ensures seats { length self.new.seats ≡ length self.old.seats }
+        ensures abreast { OnOk result (AreAbreast self.new) }
         ensures readings { C.tells → TakesUpTo 2 (C.upcoming self.old.store.clock)
             (C.upcoming self.new.store.clock) }
-        ensures cause { HasFailures (S.fault_count self.old.store.shelf)
+        // The disk's failure is told only where it failed.
+        ensures later { S.fault_count self.old.store.shelf ≤ S.fault_count self.new.store.shelf }
+        ensures cause { S.tells → (log : Log) (debt : Debt) →
+            IsAtRest S.files S.may_leave log debt self.old.store →
+            HasFailures (S.fault_count self.old.store.shelf)
             (S.fault_count self.new.store.shelf) result }
     {
         let at = number as usize - 1;

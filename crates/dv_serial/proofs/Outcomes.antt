@@ -1,0 +1,249 @@
+-- What became of a line is a step of the play that the serving follows.
+use Rattle.std.proofs.Common.{◌≡◌, ◌⊎◌, inl, inr, ℕ, ◌+◌, ◌<◌, ◌≤◌, Bool, true, false, List, [], ◌∷◌, ◌++◌, length, Option, Some, None, Result, Ok, Err, refl, sym, ◌∙◌, ap, subst}
+use Rattle.std.specs.Prelude.{IfOk, OnErr}
+use Rattle.std.proofs.lemmas.List.{append-nil}
+use Rattle.dv_model.specs.declared.types.Mailbox.{Mailbox}
+use Rattle.dv_model.specs.declared.types.Mark.{Mark}
+use Rattle.dv_model.specs.declared.types.Reply.{Reply}
+use Rattle.dv_model.specs.declared.types.Reply.TheVariants as reply
+use Rattle.dv_model.specs.Counts.{Rose, RoseBy}
+use Rattle.dv_model.specs.Journals.{Log}
+use Rattle.dv_model.specs.Sessions.{Answer, State as SessionState, answer, is_write}
+use Rattle.dv_model.specs.Transcripts.{Line, is_unavailable, touches_disk, unavailable_count, with_state}
+use Rattle.dv_shelf.specs.Clocks.{behind}
+use Rattle.dv_shelf.specs.Crashes.{LeavesOnly}
+use Rattle.dv_shelf.specs.Folders.{Folder}
+use Rattle.dv_chain.specs.declared.chain.Chain.{Chain}
+use Rattle.dv_rotation.specs.declared.texts.Turn.{Turn}
+use Rattle.dv_rotation.specs.Texts.{place_of}
+use Rattle.dv_answer.specs.Following.{Follower, IsAbreast}
+use Rattle.dv_plans.specs.declared.fault.StoreFault.{StoreFault}
+use Rattle.dv_plans.specs.declared.fault.StoreFault.TheVariants as fault
+use Rattle.dv_plans.specs.Faults.{HasStoreCause}
+use Rattle.dv_playing.specs.Laws.{IsAbove, IsAttempt, IsLine, MayPlay, MayWrite}
+use Rattle.dv_playing.specs.Playing.{Attempt, DueAgain, Failed, Outcome, Play, Rotation, Served, Step, behind_failure, group_here, is_empty, refused_here, step, told, with_group_here}
+use Rattle.dv_store.specs.Rest.{IsAtRest, OnlyReads}
+use Rattle.dv_serial.specs.Following.{AreSeated, EndsAt, Follows, IsAt, Keeps, Leaves, with_line}
+use Rattle.dv_serial.specs.Lines.{IsFaultLine}
+use Rattle.dv_serial.specs.Places.{IsOwedBehind, StandsAt, play_of}
+use Rattle.dv_serial.specs.Serves.{IsServed, OnlyLooksAt, Serves, seat_at, with_seat}
+use Rattle.dv_serial.specs.Servings.{Serving}
+use Rattle.dv_serial.specs.Writes.{Commits, StandsAs}
+use Rattle.dv_serial.proofs.Counting.{AreAvailable, answer_available, counts_none, one_available, rose_none, rose_since}
+use Rattle.dv_serial.proofs.Crashing.{looks_may, more_may, stays_may}
+use Rattle.dv_serial.proofs.Failing.{owed_longer}
+use Rattle.dv_serial.proofs.Going.{WritesNothing, at_on, refused_stays, same_writes_nothing}
+use Rattle.dv_serial.proofs.Refusals.{refused_available}
+use Rattle.dv_serial.proofs.Seated.{seated_with, state_at}
+use Rattle.dv_serial.proofs.Stepping.{attempt, failed_stays, failed_step, may_on, play_on, read_stays, refused_step, served_step}
+
+-- a group changes no session
+group_states : (clock : ℕ → ℕ) (play : Play) (line : Line) → (with_group_here clock play line).states ≡ play.states
+group_states clock play line = by (is_empty (group_here play line)) refl
+  where
+    by : (b : Bool) → is_empty (group_here play line) ≡ b → (with_group_here clock play line).states ≡ play.states
+    by true e = rw e refl
+    by false e = rw e refl
+
+-- an answer over a place that has other names
+answered_so : (mail : _) (x y : SessionState) (line : Line) (met m n : Mailbox) (q : ℕ) (other : Mailbox) (p : ℕ) (mark place : Mark) (a : Answer) → x ≡ y → met ≡ n → q ≡ p → m ≡ other → mark ≡ place
+    → a ≡ answer mail x line.1 met q m mark → a ≡ answer mail y line.1 n p other place
+answered_so mail x y line met m n q other p mark place a ex en ep em ek is =
+    is ∙ ap (λ (z : SessionState). answer mail z line.1 met q m mark) ex
+    ∙ ap (λ (z : Mailbox). answer mail y line.1 z q m mark) en
+    ∙ ap (λ (z : ℕ). answer mail y line.1 n z m mark) ep
+    ∙ ap (λ (z : Mailbox). answer mail y line.1 n p z mark) em
+    ∙ ap (λ (z : Mark). answer mail y line.1 n p other z) ek
+
+module _ {S C : Type 0} (files : S → Folder) (may_leave : S → Folder → Type 0) (moment : S → ℕ) (left_since : S → ℕ → Folder → Type 0) (upcoming : C → ℕ → ℕ) (clock : ℕ → ℕ) (start : Log) where
+  -- ---- where the play stands
+
+  -- the sessions may be others
+  pub stands_seats : (lines : List Attempt) (play : Play) (old mid : Serving S C) (seats : List Follower) → StandsAs files may_leave moment left_since upcoming clock start lines play old mid
+      → StandsAs files may_leave moment left_since upcoming clock start lines play old (record mid { seats = seats })
+  stands_seats lines play old mid seats is = record {
+    at = record { rotates = is.at.rotates; journal = is.at.journal; mailbox = is.at.mailbox; mark = is.at.mark; place = is.at.place };
+    debt = is.debt;
+    owed = is.owed;
+    rests = is.rests;
+    readings = is.readings;
+    since = is.since;
+  }
+
+  -- the log is kept where the play of the lines stands, but for its sessions
+  pub stands_keeps : (lines : List Attempt) (play : Play) (states : ℕ → SessionState) (old new : Serving S C) → play_of clock start lines ≡ record play { states = states }
+      → StandsAs files may_leave moment left_since upcoming clock start lines play old new → Keeps files may_leave clock start lines new
+  stands_keeps lines play states old new same is = record {
+    at = at_on play (play_of clock start lines) new (record {
+      log = ap (λ (p : Play). p.log) same;
+      mailbox = ap (λ (p : Play). p.mailbox) same;
+      mark = ap (λ (p : Play). p.mark) same;
+      begun = ap (λ (p : Play). p.begun) same;
+    }) is.at;
+    debt = is.debt;
+    owed = is.owed;
+    rests = subst (λ (log : Log). IsAtRest files may_leave log is.debt new.store) (sym (ap (λ (p : Play). p.log) same)) is.rests;
+  }
+
+  pub stands_leaves : (lines : List Attempt) (play : Play) (states : ℕ → SessionState) (old new : Serving S C) → play_of clock start lines ≡ record play { states = states }
+      → StandsAs files may_leave moment left_since upcoming clock start lines play old new → Leaves files may_leave moment left_since clock start lines old new
+  stands_leaves lines play states old new same is = record { keeps = stands_keeps lines play states old new same is; since = is.since }
+
+  module _ (base : ℕ) (attempts : List Attempt) where
+    abbrev here : Play
+    here = play_of clock start attempts
+
+    -- ---- nothing is written
+
+    module _ (before : ℕ) (old : Serving S C) (follows : Follows files may_leave upcoming clock start base before attempts old) where
+      -- nothing is done
+      pub stands_still : ((c : Folder) → left_since old.store.shelf (moment old.store.shelf) c → may_leave old.store.shelf c) → StandsAs files may_leave moment left_since upcoming clock start attempts here old old
+      stands_still now = record {
+        at = follows.keeps.at;
+        debt = follows.keeps.debt;
+        owed = follows.keeps.owed;
+        rests = follows.keeps.rests;
+        readings = follows.readings;
+        since = stays_may files may_leave clock start attempts old follows.keeps moment left_since now;
+      }
+
+      -- the folder is only read
+      pub stands_read : (mid : Serving S C) → OnlyLooksAt old mid → OnlyReads files may_leave moment left_since old.store mid.store → StandsAs files may_leave moment left_since upcoming clock start attempts here old mid
+      stands_read mid looks reads =
+          let keeps = follows.keeps in
+          let chain : mid.store.chain ≡ old.store.chain = looks.store.chain in
+          record {
+            at = record {
+              rotates = keeps.at.rotates;
+              journal = keeps.at.journal ∙ sym looks.journal;
+              mailbox = keeps.at.mailbox ∙ sym (ap (λ (x : Chain). x.live.mailbox) chain);
+              mark = keeps.at.mark ∙ sym looks.mark;
+              place = subst (λ (x : Chain). StandsAt here.begun here.mark (place_of x) mid.store.owed) (sym chain)
+                  (subst (λ (x : Option Turn). StandsAt here.begun here.mark (place_of old.store.chain) x) (sym looks.store.owed) keeps.at.place);
+            };
+            debt = keeps.debt;
+            owed = subst (λ (x : Chain). IsOwedBehind clock start attempts (place_of x) keeps.debt) (sym chain) keeps.owed;
+            rests = reads.rests here.log keeps.debt keeps.rests;
+            readings = ap upcoming looks.store.clock ∙ follows.readings;
+            since = looks_may files may_leave clock start attempts old keeps moment left_since mid.store.shelf reads.looks.since;
+          }
+
+    -- a line that writes nothing
+    pub stands_on : (line : Line) (outcome : Outcome) (play : Play) (old new : Serving S C) → play ≡ here → WritesNothing here (play_of clock start (with_line attempts line outcome))
+        → StandsAs files may_leave moment left_since upcoming clock start attempts here old new → StandsAs files may_leave moment left_since upcoming clock start (with_line attempts line outcome) play old new
+    stands_on line outcome play old new same nothing is = record {
+      at = at_on here play new (same_writes_nothing here play same) is.at;
+      debt = is.debt;
+      owed = owed_longer clock start attempts (attempt line outcome) (place_of new.store.chain) nothing.log nothing.mailbox nothing.mark is.debt is.owed;
+      rests = subst (λ (p : Play). IsAtRest files may_leave p.log is.debt new.store) (sym same) is.rests;
+      readings = is.readings ∙ ap (λ (p : Play). behind clock p.used) (sym same);
+      since = more_may moment left_since old.store.shelf new.store.shelf clock start attempts (attempt line outcome ∷ []) is.since;
+    }
+
+    -- ---- memory ended it
+
+    pub ends_here : (line : Line) (old new : Serving S C) → Leaves files may_leave moment left_since clock start attempts old new → EndsAt files may_leave moment left_since clock start base attempts line old new
+    ends_here line old new leaves = record {
+      left = [];
+      is = tt;
+      leaves = subst (λ (lines : List Attempt). Leaves files may_leave moment left_since clock start lines old new) (sym (append-nil attempts)) leaves;
+    }
+
+    pub ends_stands : (line : Line) (old new : Serving S C) → StandsAs files may_leave moment left_since upcoming clock start attempts here old new → EndsAt files may_leave moment left_since clock start base attempts line old new
+    ends_stands line old new is = ends_here line old new (stands_leaves attempts here here.states old new refl is)
+
+    pub ends_behind : (line : Line) (outcome : Outcome) (play : Play) (states : ℕ → SessionState) (old new : Serving S C) → (step clock here (attempt line outcome)).play ≡ record play { states = states } → IsAttempt base (attempt line outcome)
+        → ((step clock here (attempt line outcome)).play.log ≡ here.log) ⊎ ((outcome ≡ Served) × MayWrite here line)
+        → StandsAs files may_leave moment left_since upcoming clock start (with_line attempts line outcome) play old new → EndsAt files may_leave moment left_since clock start base attempts line old new
+    ends_behind line outcome play states old new same good log is = record {
+      left = attempt line outcome ∷ [];
+      is = (refl, record { attempt = good; log = log });
+      leaves = stands_leaves (with_line attempts line outcome) play states old new (play_on clock start base attempts (attempt line outcome) ∙ same) is;
+    }
+
+    -- ---- the line is served
+
+    -- where the step stands
+    served_on : (faults : ℕ) (line : Line) (outcome : Outcome) (play : Play) (states : ℕ → SessionState) (replies : List Reply) (old new : Serving S C) → step clock here (attempt line outcome) ≡ record { replies = replies; play = record play { states = states } }
+        → MayPlay clock start base faults (with_line attempts line outcome) → AreSeated new.store.chain.live.mailbox states new.seats
+        → StandsAs files may_leave moment left_since upcoming clock start (with_line attempts line outcome) play old new
+        → IsServed files may_leave moment left_since upcoming clock start base faults attempts line replies old new
+    served_on faults line outcome play states replies old new steps may seated is =
+        let same : play_of clock start (with_line attempts line outcome) ≡ record play { states = states } = play_on clock start base attempts (attempt line outcome) ∙ ap (λ (s : Step). s.play) steps in
+        record {
+          outcome = outcome;
+          answers = ap (λ (s : Step). s.replies) steps;
+          follows = record {
+            may = may;
+            keeps = stands_keeps (with_line attempts line outcome) play states old new same is;
+            readings = is.readings ∙ ap (λ (p : Play). behind clock p.used) (sym same);
+            seats = subst (λ (p : Play). AreSeated new.store.chain.live.mailbox p.states new.seats) (sym same) seated;
+          };
+          since = is.since;
+        }
+
+    module _ (before faults : ℕ) (line : Line) (old : Serving S C) (follows : Follows files may_leave upcoming clock start base before attempts old) (good : IsLine line) (later : before ≤ faults) where
+      -- a line that the disk's failure doesn't answer
+      may_quietly : (replies : List Reply) (play : Play) → step clock here (attempt line Served) ≡ record { replies = replies; play = play } → AreAvailable replies → MayPlay clock start base faults (with_line attempts line Served)
+      may_quietly replies play steps available =
+          may_on clock start base attempts before faults (attempt line Served) follows.may (record { line = good; count = tt })
+          (subst (λ (n : ℕ). RoseBy n before faults) (sym (ap (λ (s : Step). unavailable_count (s.replies ∷ [])) steps ∙ counts_none replies available)) (rose_none before faults later))
+
+      pub seated_same : (new : Serving S C) → new.seats ≡ old.seats → new.store.chain.live.mailbox ≡ old.store.chain.live.mailbox → AreSeated new.store.chain.live.mailbox here.states new.seats
+      seated_same new seats mailbox =
+          subst (λ (m : Mailbox). AreSeated m here.states new.seats) (sym mailbox)
+          (subst (λ (fs : List Follower). AreSeated old.store.chain.live.mailbox here.states fs) (sym seats) follows.seats)
+
+      -- it is refused
+      pub refused_serves : (r : Reply) (new : Serving S C) (replies : List Reply) → refused_here here line ≡ Some r → new.seats ≡ old.seats → new.store.chain.live.mailbox ≡ old.store.chain.live.mailbox → replies ≡ r ∷ []
+          → StandsAs files may_leave moment left_since upcoming clock start attempts here old new → IsServed files may_leave moment left_since upcoming clock start base faults attempts line replies old new
+      refused_serves r new replies refused seats mailbox lines is =
+          let steps = refused_step clock here line Served r refused in
+          let available : AreAvailable (r ∷ []) = one_available r (refused_available here line r refused) in
+          let stays = refused_stays clock start attempts (attempt line Served) r refused in
+          subst (λ (rs : List Reply). IsServed files may_leave moment left_since upcoming clock start base faults attempts line rs old new) (sym lines)
+          (served_on faults line Served here here.states (r ∷ []) old new steps (may_quietly (r ∷ []) here steps available) (seated_same new seats mailbox)
+          (stands_on line Served here old new refl (same_writes_nothing here (play_of clock start (with_line attempts line Served)) stays) is))
+
+      module _ (allowed : refused_here here line ≡ None) where
+        -- the disk failed it
+        pub failed_serves : (count : ℕ) (rotation : Rotation) (new : Serving S C) (replies : List Reply) → touches_disk line.1 ≡ true → count ≡ faults → Rose before faults → new.seats ≡ old.seats → new.store.chain.live.mailbox ≡ old.store.chain.live.mailbox
+            → replies ≡ reply.Unavailable count ∷ [] → StandsAs files may_leave moment left_since upcoming clock start (with_line attempts line (Failed count rotation)) (behind_failure here line rotation) old new
+            → IsServed files may_leave moment left_since upcoming clock start base faults attempts line replies old new
+        failed_serves count rotation new replies touches is_count rose seats mailbox lines is =
+            let steps = failed_step clock here line count rotation allowed touches in
+            subst (λ (rs : List Reply). IsServed files may_leave moment left_since upcoming clock start base faults attempts line rs old new) (sym lines)
+            (served_on faults line (Failed count rotation) (behind_failure here line rotation) here.states (reply.Unavailable count ∷ []) old new steps
+            (may_on clock start base attempts before faults (attempt line (Failed count rotation)) follows.may (failed_attempt count rotation is_count rose)
+            (subst (λ (n : ℕ). RoseBy n before faults) (sym (ap (λ (s : Step). unavailable_count (s.replies ∷ [])) steps)) rose))
+            (seated_same new seats mailbox) is)
+          where
+            failed_attempt : (n : ℕ) (turned : Rotation) → n ≡ faults → Rose before faults → IsAttempt base (attempt line (Failed n turned))
+            failed_attempt n turned e r = record { line = good; count = subst (Rose base) (sym e) (rose_since _ base before faults follows.may.few r) }
+
+        -- it is told
+        pub told_serves : (at : ℕ) (mid new : Serving S C) (replies : List Reply) → line.0 ≡ at + 1 → at < length mid.seats
+            → StandsAs files may_leave moment left_since upcoming clock start (with_line attempts line Served) (with_group_here clock here line) old mid
+            → AreSeated mid.store.chain.live.mailbox here.states mid.seats → IsAbreast mid.store.chain.live.mailbox (seat_at new.seats at)
+            → record { replies = replies; next = (seat_at new.seats at).state }
+            ≡ answer (with_group_here clock here line).log.mail (seat_at mid.seats at).state line.1 old.store.chain.live.mailbox (length mid.journal) mid.store.chain.live.mailbox mid.mark
+            → with_seat at (seat_at new.seats at) mid ≡ new → IsServed files may_leave moment left_since upcoming clock start base faults attempts line replies old new
+        told_serves at mid new replies number less is seated abreast answered only =
+            let play : Play = with_group_here clock here line in
+            let f : Follower = seat_at new.seats at in
+            let m : Mailbox = mid.store.chain.live.mailbox in
+            let a : Answer = answer play.log.mail (here.states line.0) line.1 here.mailbox (length play.log.entries) play.mailbox play.mark in
+            let steps : step clock here (attempt line Served) ≡ told here line play = served_step clock here line allowed in
+            let same : record { replies = replies; next = f.state } ≡ a =
+            answered_so play.log.mail (seat_at mid.seats at).state (here.states line.0) line old.store.chain.live.mailbox m here.mailbox (length mid.journal) play.mailbox (length play.log.entries) mid.mark play.mark (record { replies = replies; next = f.state })
+            (state_at m here.states mid.seats seated at less ∙ ap here.states (sym number)) (sym follows.keeps.at.mailbox) (ap length (sym is.at.journal)) (sym is.at.mailbox) (sym is.at.mark) answered in
+            let states_are : with_state here.states (at + 1) f.state ≡ with_state play.states line.0 a.next =
+            ap (λ (st : ℕ → SessionState). with_state st (at + 1) f.state) (sym (group_states clock here line))
+            ∙ ap (λ (n : ℕ). with_state play.states n f.state) (sym number)
+            ∙ ap (λ (b : Answer). with_state play.states line.0 b.next) same in
+            subst (λ (rs : List Reply). IsServed files may_leave moment left_since upcoming clock start base faults attempts line rs old new) (sym (ap (λ (b : Answer). b.replies) same))
+            (subst (λ (n : Serving S C). IsServed files may_leave moment left_since upcoming clock start base faults attempts line a.replies old n) only
+            (served_on faults line Served play (with_state play.states line.0 a.next) a.replies old (with_seat at f mid) steps
+            (may_quietly a.replies (told here line play).play steps (answer_available play.log.mail (here.states line.0) line.1 here.mailbox (length play.log.entries) play.mailbox play.mark))
+            (subst (λ (st : ℕ → SessionState). AreSeated m st (with_seat at f mid).seats) states_are (seated_with m here.states mid.seats seated at f less abreast))
+            (stands_seats (with_line attempts line Served) play old mid (with_seat at f mid).seats is)))
