@@ -6,4 +6,3 @@ pub mod Going
 pub mod Allowed
 pub mod Committing
 pub mod Led
-pub mod Failed
