@@ -2,12 +2,14 @@
 -- limit refuses it, or memory ends it.
 use Rattle.std.proofs.Common.{◌≡◌, ◌⊎◌, inl, inr, ⊎_elim, ℕ, ◌+◌, ◌≤◌, ◌<◌, Bool, true, false, List, [], ◌∷◌, ◌++◌, length, nat_eq, Option, Some, None, Result, Ok, Err, refl, sym, ◌∙◌, ap, subst, arith}
 use Rattle.std.specs.Prelude.{if◌then◌else◌}
+use Rattle.std.proofs.lemmas.Bool.Decides.{nat_tests}
 use Rattle.dv_model.specs.declared.types.Entry.{Entry}
 use Rattle.dv_model.specs.declared.types.Group.{Group}
 use Rattle.dv_model.specs.declared.types.Mailbox.{Mailbox}
 use Rattle.dv_model.specs.declared.types.Mark.{Mark}
 use Rattle.dv_model.specs.declared.types.Record.{Record}
 use Rattle.dv_model.specs.declared.types.Reply.{Reply}
+use Rattle.dv_model.specs.declared.types.Reply.TheVariants as reply
 use Rattle.dv_model.specs.Effects.{applied}
 use Rattle.dv_model.specs.Journals.{IsSound, Log}
 use Rattle.dv_model.specs.Sessions.{State as SessionState, is_write}
@@ -15,32 +17,34 @@ use Rattle.dv_model.specs.Transcripts.{Line}
 use Rattle.dv_shelf.specs.Clocks.{behind}
 use Rattle.dv_shelf.specs.Crashes.{LeavesOnly}
 use Rattle.dv_shelf.specs.Folders.{Folder}
-use Rattle.dv_shelf.proofs.Moments.{weaker}
+use Rattle.dv_shelf.proofs.Moments.{started, weaker}
 use Rattle.dv_groups.specs.Groups.{HasSizes}
 use Rattle.dv_rotation.specs.Texts.{place_of}
 use Rattle.dv_keeping.specs.Debts.{Debt, Nothing}
 use Rattle.dv_answer.specs.Following.{Leads}
 use Rattle.dv_answer.specs.Refusing.{own_refusal}
 use Rattle.dv_plans.specs.declared.fault.StoreFault.{StoreFault}
+use Rattle.dv_plans.specs.declared.fault.StoreFault.TheVariants as fault
 use Rattle.dv_plans.specs.Begins.{readings_of, turns}
-use Rattle.dv_plans.specs.Overs.{limit_over}
+use Rattle.dv_plans.specs.Overs.{group_over, limit_over}
 use Rattle.dv_writes.specs.Writes.{Write, group_by, log_with}
 use Rattle.dv_playing.specs.Laws.{IsLine, MayWrite}
 use Rattle.dv_playing.specs.Playing.{Attempt, Play, Served, group_here, is_empty, refused_here, with_group_here}
 use Rattle.dv_playing.proofs.Plays as plays
 use Rattle.dv_store.specs.declared.receipt.Receipt.{Receipt}
-use Rattle.dv_store.specs.Commits.{Commits, CommitsQuietly, IsUnwritten, TakesFor, TakesReadings, end_with, write_of}
+use Rattle.dv_store.specs.Commits.{Commits, CommitsQuietly, IsIdle, IsUnwritten, TakesFor, TakesReadings, end_with, write_of}
 use Rattle.dv_store.specs.Rest.{IsAtRest}
 use Rattle.dv_store.specs.States.{State}
 use Rattle.dv_serial.specs.Following.{Follows, IsAt, Keeps, Leaves, with_line}
 use Rattle.dv_serial.specs.Places.{IsOwedBehind, MayGive, StandsAt, play_of}
 use Rattle.dv_serial.specs.Servings.{Serving}
-use Rattle.dv_serial.specs.Writes.{IsDone, IsRefusedBy, StandsAs}
+use Rattle.dv_serial.specs.Writes.{IsDone, IsFailedBy, IsRefusedBy, StandsAs}
+use Rattle.dv_serial.specs.Writes as comes
 use Rattle.dv_serial.proofs.Allowed.{refusal_met, sound_sizes}
 use Rattle.dv_serial.proofs.Crashing.{looks_may, more_may, served_gives, served_play}
-use Rattle.dv_serial.proofs.Failing.{owed_longer}
+use Rattle.dv_serial.proofs.Failing.{failed_by, owed_longer}
 use Rattle.dv_serial.proofs.Matching.{IsWriteAt}
-use Rattle.dv_serial.proofs.Places.{Meets, begin_here, group_by_met, log_met, mailbox_met, mark_met, turns_here, used_met, with_group, without_group, written_here}
+use Rattle.dv_serial.proofs.Places.{Meets, begin_here, clock_here, group_by_met, group_met, log_met, mailbox_met, mark_met, turns_here, used_met, with_group, without_group, written_here}
 
 -- ---- groups
 
@@ -49,7 +53,7 @@ not_empty g more = by_records g.records more
   where
     by_records : (rs : List Record) → 1 ≤ length rs → nat_eq (length rs) 0 ≡ false
     by_records [] more = absurd (omega (arith, more))
-    by_records (r ∷ rs) more = refl
+    by_records (r ∷ rs) more = grind (arith, nat_tests)
 
 takes_some : (n : ℕ) (old new : ℕ → ℕ) (rs : List Record) → 1 ≤ length rs → TakesFor n old new rs → new ≡ behind old n
 takes_some n old new [] more takes = absurd (omega (arith, more))
@@ -113,16 +117,16 @@ module _ {S C : Type 0} (files : S → Folder) (may_leave : S → Folder → Typ
       may : MayWrite here line
       may = record { good = good; write = write; allowed = allowed; some = some }
 
-      abbrev then : Play
-      then = with_group_here clock here line
+      abbrev after_it : Play
+      after_it = with_group_here clock here line
 
-      is_then : then ≡ written_here clock here line
+      is_then : after_it ≡ written_here clock here line
       is_then = with_group clock here line some
 
-      mark_is : then.mark ≡ receipt.mark
+      mark_is : after_it.mark ≡ receipt.mark
       mark_is = sym (value.ok.mark ∙ ap (λ (g : Group). end_with old.store.owed old.store.chain g.records) group_is ∙ write_here.mark some)
 
-      at_written : IsAt then new
+      at_written : IsAt after_it new
       at_written = record {
         rotates = ap (λ (p : Play). p.log.rotates) is_then ∙ follows.keeps.at.rotates;
         journal = ap (λ (p : Play). p.log.entries) is_then
@@ -132,11 +136,11 @@ module _ {S C : Type 0} (files : S → Folder) (may_leave : S → Folder → Typ
         mailbox = mailbox_met here line x.view old.store meets readings clock follows.readings some new.store.chain.live.mailbox
             (ap (λ (g : Group). applied old.store.chain.live.mailbox g.records) (sym group_is) ∙ value.ok.gives);
         mark = mark_is ∙ sym mark;
-        place = subst (λ (b : Bool). StandsAt b then.mark (place_of new.store.chain) new.store.owed) (sym (ap (λ (p : Play). p.begun) is_then))
+        place = subst (λ (b : Bool). StandsAt b after_it.mark (place_of new.store.chain) new.store.owed) (sym (ap (λ (p : Play). p.begun) is_then))
             (sym value.ok.place ∙ sym mark_is, (value.paid more).turn);
       }
 
-      stands_written : StandsAs files may_leave moment left_since upcoming clock start (with_line attempts line Served) then old new
+      stands_written : StandsAs files may_leave moment left_since upcoming clock start (with_line attempts line Served) after_it old new
       stands_written = record {
         at = at_written;
         debt = Nothing;
@@ -231,3 +235,54 @@ module _ {S C : Type 0} (files : S → Folder) (may_leave : S → Folder → Typ
           stands = subst (λ (p : Play). StandsAs files may_leave moment left_since upcoming clock start (with_line attempts line Served) p old new) (sym stays_here) stands_idle;
           leads = leads;
         }
+
+  -- ---- nothing was done
+
+  pub leaves_same : (journal : List Entry) → journal ≡ old.journal → ((c : Folder) → left_since old.store.shelf (moment old.store.shelf) c → may_leave old.store.shelf c)
+      → Leaves files may_leave moment left_since clock start attempts old (record old { journal = journal })
+  leaves_same journal is now = subst (λ (es : List Entry). Leaves files may_leave moment left_since clock start attempts old (record old { journal = es })) (sym is) (record {
+    keeps = follows.keeps;
+    since = looks_may files may_leave clock start attempts old follows.keeps moment left_since old.store.shelf (started moment left_since old.store.shelf (may_leave old.store.shelf) now);
+  })
+
+  -- ---- an error
+
+  module _ (new : State S C) where
+    abbrev behind_error : List Entry → Serving S C
+    behind_error journal = record old { store = new; journal = journal }
+
+    disk_failed : (faults : ℕ) → Commits line.1 x.view old.store new (Err (fault.Disk faults)) → CommitsQuietly files may_leave moment left_since here.log follows.keeps.debt writes old.store new (Err (fault.Disk faults))
+        → TakesReadings (readings_of line.1 old.store.owed old.store.chain) readings (upcoming new.clock) (Err (fault.Disk faults)) → IsFailedBy files may_leave moment left_since upcoming clock start attempts line faults old (record old { store = new })
+    disk_failed faults value quiet taken =
+        let limited = value.limit here.log.guid sizes in
+        let some : is_empty (group_here here line) ≡ false = subst (λ (g : Group). is_empty g ≡ false) (group_met here line x.view old.store meets) (not_empty (group_over line.1 x.view old.store.chain here.log.guid) limited.1) in
+        let may : MayWrite here line = record { good = good; write = write; allowed = refusal ∙ limited.0; some = some } in
+        failed_by files may_leave moment left_since upcoming clock start attempts line writes old follows.keeps.at follows.keeps.debt follows.keeps.owed follows.keeps.rests.fits write_here may new faults
+        value.failed (taken ∙ clock_here here old.store.owed old.store.chain follows.keeps.at.rotates follows.keeps.at.place clock readings follows.readings line some) quiet.any_moment quiet.err
+
+    by_error : (e : StoreFault) → Commits line.1 x.view old.store new (Err e) → CommitsQuietly files may_leave moment left_since here.log follows.keeps.debt writes old.store new (Err e)
+        → (IsUnwritten (Err e) → LeavesOnly moment left_since old.store.shelf new.shelf (may_leave old.store.shelf)) → (IsIdle (Err e) → upcoming new.clock ≡ readings)
+        → TakesReadings (readings_of line.1 old.store.owed old.store.chain) readings (upcoming new.clock) (Err e)
+        → comes.Commits files may_leave moment left_since upcoming clock start attempts line old (Err e) (record old { store = new })
+    by_error (fault.Disk faults) value quiet looks idle taken = disk_failed faults value quiet taken
+    by_error fault.UidsUsedUp value quiet looks idle taken = refused_by (Err fault.UidsUsedUp) (behind_error old.journal) value quiet tt (looks tt) refl refl (idle tt) reply.UidsUsedUp (value.limit here.log.guid sizes)
+    by_error (fault.TooLong bytes) value quiet looks idle taken =
+        refused_by (Err (fault.TooLong bytes)) (behind_error old.journal) value quiet tt (looks tt) refl refl (idle tt) (reply.TooLong bytes) (value.limit here.log.guid sizes)
+    by_error fault.NoMemory value quiet looks idle taken = leaves_unwritten (Err fault.NoMemory) (behind_error old.journal) value quiet tt (looks tt) refl refl
+
+    pub failed : (journal : List Entry) → journal ≡ old.journal → (e : StoreFault) → Commits line.1 x.view old.store new (Err e) → CommitsQuietly files may_leave moment left_since here.log follows.keeps.debt writes old.store new (Err e)
+        → (IsUnwritten (Err e) → LeavesOnly moment left_since old.store.shelf new.shelf (may_leave old.store.shelf)) → (IsIdle (Err e) → upcoming new.clock ≡ readings)
+        → TakesReadings (readings_of line.1 old.store.owed old.store.chain) readings (upcoming new.clock) (Err e)
+        → comes.Commits files may_leave moment left_since upcoming clock start attempts line old (Err e) (behind_error journal)
+    failed journal is e value quiet looks idle taken =
+        subst (λ (es : List Entry). comes.Commits files may_leave moment left_since upcoming clock start attempts line old (Err e) (behind_error es)) (sym is) (by_error e value quiet looks idle taken)
+
+  -- ---- Ok without a record
+
+  module _ (receipt : Receipt) (new : Serving S C) (value : Commits line.1 x.view old.store new.store (Ok receipt)) (quiet : CommitsQuietly files may_leave moment left_since here.log follows.keeps.debt writes old.store new.store (Ok receipt))
+      (taken : TakesReadings (readings_of line.1 old.store.owed old.store.chain) readings (upcoming new.store.clock) (Ok receipt)) where
+    pub done_nothing : receipt.group.records ≡ [] → LeavesOnly moment left_since old.store.shelf new.store.shelf (may_leave old.store.shelf) → new.mark ≡ old.mark → new.journal ≡ old.journal → (touched : List ℕ)
+        → Leads old.store.chain.live.mailbox new.store.chain.live.mailbox touched → IsDone files may_leave moment left_since upcoming clock start attempts line touched old new
+    done_nothing none since mark journal touched leads =
+        done_idle (Ok receipt) new value quiet none since mark journal (takes_none (readings_of line.1 old.store.owed old.store.chain) readings (upcoming new.store.clock) receipt.group.records none taken)
+        (allowed receipt new value quiet taken) (ap (λ (g : Group). g.records) (sym (group_is receipt new value quiet taken)) ∙ none) touched leads
