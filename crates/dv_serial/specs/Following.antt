@@ -1,6 +1,6 @@
 -- Sessions that are served follow a play. The records take the members of a shelf's and a clock's
 -- types.
-use Rattle.std.specs.Prelude.{◌≡◌, ◌⊎◌, ◌+◌, ◌<◌, ◌++◌, ℕ, true, List, [], ◌∷◌, All, get_or, length, ⊤, ⊥}
+use Rattle.std.specs.Prelude.{◌≡◌, ◌⊎◌, ◌+◌, ◌<◌, ◌++◌, ℕ, true, List, [], ◌∷◌, All, get_or, length, ⊤}
 use Rattle.dv_model.specs.declared.types.Mailbox.{Mailbox}
 use Rattle.dv_model.specs.Journals.{Log}
 use Rattle.dv_model.specs.Sessions.{State}
