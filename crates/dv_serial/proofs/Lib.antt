@@ -6,7 +6,6 @@ pub mod Going
 pub mod Allowed
 pub mod Committing
 pub mod Led
-pub mod Failed
 pub mod Counting
 pub mod Stepping
 pub mod Refusals
