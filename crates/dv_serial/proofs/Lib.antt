@@ -17,3 +17,5 @@ pub mod Flags
 pub mod Numbering
 pub mod Servable
 pub mod Turns
+pub mod Looking
+pub mod Served
