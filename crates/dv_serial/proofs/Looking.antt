@@ -1,5 +1,5 @@
 -- What is looked up for a session is of the log's messages, and it is met and supplied where the session stands.
-use Rattle.std.proofs.Common.{◌≡◌, inl, ℕ, Bool, true, false, List, Result, Ok, Err, refl, sym, ◌∙◌, ap, subst}
+use Rattle.std.proofs.Common.{◌≡◌, inl, ℕ, Bool, true, false, List, length, Result, Ok, Err, refl, sym, ◌∙◌, ap, subst, length-set}
 use Rattle.std.specs.Prelude.{All, OnOk}
 use Rattle.dv_model.specs.declared.types.Command.{Command}
 use Rattle.dv_model.specs.declared.types.Command.TheVariants as command
@@ -80,3 +80,10 @@ module _ {S C : Type 0} (at : ℕ) (mid new : Serving S C) (only : with_seat at 
 pub on_ok : {A E : Type 0} (result : Result A E) (P : Type 0) → P → OnOk result P
 on_ok (Ok x) P p = p
 on_ok (Err e) P p = tt
+
+-- as many sessions are there, and the clock isn't read
+pub answered_stays : {S C : Type 0} (at : ℕ) (old mid new : Serving S C) → OnlyLooksAt old mid → with_seat at (seat_at new.seats at) mid ≡ new → (length new.seats ≡ length old.seats) × (new.store.clock ≡ old.store.clock)
+answered_stays {S} {C} at old mid new looks only = (
+  ap (λ (s : Serving S C). length s.seats) (sym only) ∙ length-set mid.seats at (seat_at new.seats at) ∙ ap (λ (fs : List Follower). length fs) looks.seats,
+  ap (λ (s : Serving S C). s.store.clock) (sym only) ∙ looks.store.clock,
+)

@@ -7,7 +7,7 @@ use Rattle.dv_serial.specs.Places.{play_of}
 use Rattle.dv_serial.specs.Serves.{AreAbreast, seat_at}
 use Rattle.dv_serial.specs.Servings.{Serving}
 use Rattle.dv_serial.proofs.Causes.{told_failures}
-use Rattle.dv_serial.proofs.Looking.{answered_abreast, looked_abreast, looked_supplied, on_ok}
+use Rattle.dv_serial.proofs.Looking.{answered_abreast, answered_stays, looked_abreast, looked_supplied, on_ok}
 use Rattle.dv_serial.proofs.Served.{seat_ended, seat_failed, seat_told}
 use Rattle.dv_serial.proofs.serial.Serial.serve_read.Goals as goal
 
@@ -62,3 +62,8 @@ returns-in-Err-clause-serves g c =
     λ tells reads clock start base attempts small follows.
     seat_failed S.files S.may_leave S.moment S.left_since g.C.Clock.upcoming clock start base attempts (S.fault_count c.args.self.now.store.shelf) c.args.self.now follows c.args.at (c.args.at + 1) refl c.args.c.now c.requires.at small
     c.requires.line.command c.requires.allowed c.requires.read c.facts_for.new.self did.looks (did.reads tells) (S.fault_count c.facts_for.new.self.store.shelf) c.in-Err.fault c.fault_line.result did.touches did.err did.cause c.fault_line.ensures
+
+pub returns-in_ok-met-in-Ok-clause-stays : goal.returns-in_ok-met-in-Ok-clause-stays
+returns-in_ok-met-in-Ok-clause-stays g c =
+    let looks = c.in-Ok.ensures.looks in
+    answered_stays c.args.at c.args.self.now c.facts_for.new.self c.answer.new.self looks c.answer.ensures.seats
