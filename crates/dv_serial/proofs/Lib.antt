@@ -6,4 +6,16 @@ pub mod Going
 pub mod Allowed
 pub mod Committing
 pub mod Led
+pub mod Answered
 pub mod Failed
+pub mod Counting
+pub mod Stepping
+pub mod Refusals
+pub mod Seated
+pub mod Outcomes
+pub mod Causes
+pub mod Results
+pub mod Flags
+pub mod Numbering
+pub mod Servable
+pub mod Turns
