@@ -48,7 +48,7 @@ use Rattle.dv_serial.proofs.Places.{Meets, begin_here, clock_here, group_by_met,
 
 -- ---- groups
 
-pub not_empty : (g : Group) → 1 ≤ length g.records → is_empty g ≡ false
+not_empty : (g : Group) → 1 ≤ length g.records → is_empty g ≡ false
 not_empty g more = by_records g.records more
   where
     by_records : (rs : List Record) → 1 ≤ length rs → nat_eq (length rs) 0 ≡ false

@@ -7,7 +7,6 @@ pub mod Allowed
 pub mod Committing
 pub mod Led
 pub mod Answered
-pub mod Failed
 pub mod Counting
 pub mod Stepping
 pub mod Refusals

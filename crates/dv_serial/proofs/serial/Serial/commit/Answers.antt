@@ -2,7 +2,6 @@ use Rattle.std.proofs.Common.{◌≡◌, ℕ, ◌<◌, ◌≤◌, ◌^◌, List,
 use Rattle.std.proofs.lemmas.List.{get_or_read}
 use Rattle.std.proofs.lemmas.Result.{err_from_is_err_and}
 use Rattle.dv_model.specs.Mailboxes.{IsValid}
-use Rattle.dv_apply.specs.States.{Held}
 use Rattle.dv_answer.specs.Following.{Follower, Leads, new_follower}
 use Rattle.dv_serial.proofs.Answered.{fails, unready, writes_entry, writes_none}
 use Rattle.dv_serial.proofs.Led.{few_taken, receipt_leads}
