@@ -1,6 +1,6 @@
 -- A commit of the session at a place, by what its store answered.
-use Rattle.std.proofs.Common.{◌≡◌, ℕ, ◌+◌, ◌<◌, ◌≤◌, Bool, true, false, List, [], ◌∷◌, ◌++◌, length, nat_eq, Option, None, Result, Ok, Err, refl, sym, ◌∙◌, ap, subst, arith}
-use Rattle.std.proofs.lemmas.Bool.Decides.{nat_tests}
+use Rattle.std.proofs.Common.{◌≡◌, ℕ, ◌+◌, ◌<◌, ◌≤◌, Bool, true, false, List, [], ◌∷◌, ◌++◌, length, Option, None, Result, Ok, Err, refl, sym, ◌∙◌, ap, subst, arith}
+use Rattle.std.specs.Prelude.{IsOk, IsTrue, if◌then◌else◌, is_ok}
 use Rattle.dv_model.specs.declared.types.Command.{Command}
 use Rattle.dv_model.specs.declared.types.Entry.{Entry}
 use Rattle.dv_model.specs.declared.types.Record.{Record}
@@ -29,13 +29,18 @@ use Rattle.dv_serial.specs.Writes.{IsDone}
 use Rattle.dv_serial.specs.Writes as comes
 use Rattle.dv_serial.proofs.Committing.{done_nothing, done_written, failed, leaves_same}
 
-none_there : (rs : List Record) → nat_eq (length rs) 0 ≡ true → rs ≡ []
-none_there [] is = refl
-none_there (r ∷ rs) is = absurd (grind (arith, nat_tests))
+some_there : (rs : List Record) → (rs ≡ [] → ⊥) → 1 ≤ length rs
+some_there [] some = absurd (some refl)
+some_there (r ∷ rs) some = omega arith
 
-some_there : (rs : List Record) → nat_eq (length rs) 0 ≡ false → 1 ≤ length rs
-some_there [] is = absurd cc
-some_there (r ∷ rs) is = omega arith
+-- ---- what a push and a test said
+
+pub pushed : {X T E : Type 0} (result : Result T E) (old new more : List X) → new ≡ (if is_ok result then old ++ more else old) → IsOk result → new ≡ old ++ more
+pushed (Ok done) old new more is ok = is
+pushed (Err e) old new more is ok = absurd cc
+
+pub not_both : (b : Bool) → IsTrue b → b ≡ false → ⊥
+not_both b is other = cc
 
 module _ {S C : Type 0} (files : S → Folder) (may_leave : S → Folder → Type 0) (moment : S → ℕ) (left_since : S → ℕ → Folder → Type 0) (upcoming : C → ℕ → ℕ) (clock : ℕ → ℕ) (start : Log) (base faults : ℕ) (attempts : List Attempt)
     (old : Serving S C) (follows : Follows files may_leave upcoming clock start base faults attempts old) (at number : ℕ) (c : Command) (number_is : number ≡ at + 1) (less : at < length old.seats) (small : IsU32 number)
@@ -87,16 +92,15 @@ module _ {S C : Type 0} (files : S → Folder) (may_leave : S → Folder → Typ
     module _ (receipt : Receipt) (value : Commits c view old.store new (Ok receipt)) (gives : GivesHere view seen new (Ok receipt)) (taken : TakesReadings (readings_of c old.store.owed old.store.chain) (upcoming old.store.clock) (upcoming new.clock) (Ok receipt))
         (leads : Leads old.store.chain.live.mailbox new.chain.live.mailbox receipt.touched) where
       -- the group is one entry more
-      pub writes_entry : nat_eq (length receipt.group.records) 0 ≡ false → (journal : List Entry) → journal ≡ old.journal ++ record { author = number; group = receipt.group } ∷ []
+      pub writes_entry : (receipt.group.records ≡ [] → ⊥) → (journal : List Entry) → journal ≡ old.journal ++ record { author = number; group = receipt.group } ∷ []
           → IsDone files may_leave moment left_since upcoming clock start attempts line receipt.touched old (record old { store = new; mark = receipt.mark; journal = journal })
       writes_entry some journal is =
           done_written files may_leave moment left_since upcoming clock start base faults attempts old follows line x same good write own receipt (record old { store = new; mark = receipt.mark; journal = journal })
           (value_at view seen new (Ok receipt) value) (quiet_at view seen new (Ok receipt) gives) taken (some_there receipt.group.records some) refl is receipt.touched leads
 
       -- there is no record
-      pub writes_none : nat_eq (length receipt.group.records) 0 ≡ true → (IsUnwritten (Ok receipt) → OnlyLooks files may_leave moment left_since old.store.shelf new.shelf) → (journal : List Entry) → journal ≡ old.journal
+      pub writes_none : receipt.group.records ≡ [] → (IsUnwritten (Ok receipt) → OnlyLooks files may_leave moment left_since old.store.shelf new.shelf) → (journal : List Entry) → journal ≡ old.journal
           → IsDone files may_leave moment left_since upcoming clock start attempts line receipt.touched old (record old { store = new; journal = journal })
       writes_none none looks journal is =
-          let idle = none_there receipt.group.records none in
           done_nothing files may_leave moment left_since upcoming clock start base faults attempts old follows line x same good write own receipt (record old { store = new; journal = journal })
-          (value_at view seen new (Ok receipt) value) (quiet_at view seen new (Ok receipt) gives) taken idle (looks idle).since refl is receipt.touched leads
+          (value_at view seen new (Ok receipt) value) (quiet_at view seen new (Ok receipt) gives) taken none (looks none).since refl is receipt.touched leads
