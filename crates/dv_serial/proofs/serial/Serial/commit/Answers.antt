@@ -1,9 +1,8 @@
-use Rattle.std.proofs.Common.{◌≡◌, ℕ, ◌<◌, ◌≤◌, ◌^◌, List, [], ◌∷◌, ◌++◌, length, Err, Ok, refl, sym, ◌∙◌, ap, subst, arith}
+use Rattle.std.proofs.Common.{List, [], ◌∷◌, ◌++◌, Err, Ok, ◌∙◌, ap, arith}
 use Rattle.std.proofs.lemmas.List.{get_or_read}
 use Rattle.std.proofs.lemmas.Result.{err_from_is_err_and}
 use Rattle.dv_model.specs.declared.types.Entry.{Entry}
-use Rattle.dv_model.specs.Mailboxes.{IsValid}
-use Rattle.dv_answer.specs.Following.{Follower, Leads, new_follower}
+use Rattle.dv_answer.specs.Following.{Follower, new_follower}
 use Rattle.dv_serial.proofs.Answered.{fails, not_both, pushed, unready, writes_entry, writes_none}
 use Rattle.dv_serial.proofs.Led.{few_taken, receipt_leads}
 use Rattle.dv_serial.proofs.serial.Serial.commit.Goals.{then-not-is_empty, else-not-is_empty}
