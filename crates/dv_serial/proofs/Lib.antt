@@ -6,6 +6,7 @@ pub mod Going
 pub mod Allowed
 pub mod Committing
 pub mod Led
+pub mod Answered
 pub mod Counting
 pub mod Stepping
 pub mod Refusals
