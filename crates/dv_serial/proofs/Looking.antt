@@ -1,6 +1,7 @@
 -- What is looked up for a session is of the log's messages, and it is met and supplied where the session stands.
-use Rattle.std.proofs.Common.{◌≡◌, inl, ℕ, Bool, true, false, List, length, Result, Ok, Err, refl, sym, ◌∙◌, ap, subst, length-set}
+use Rattle.std.proofs.Common.{◌≡◌, inl, ℕ, ◌++◌, Bool, true, false, List, take, drop, length, Result, Ok, Err, refl, sym, ◌∙◌, ap, subst, length-set}
 use Rattle.std.specs.Prelude.{All, OnOk}
+use Rattle.std.proofs.lemmas.List.{take_at}
 use Rattle.dv_model.specs.declared.types.Command.{Command}
 use Rattle.dv_model.specs.declared.types.Command.TheVariants as command
 use Rattle.dv_model.specs.declared.types.Mailbox.{Mailbox}
@@ -19,6 +20,7 @@ use Rattle.dv_answer.specs.Following.{Follower, IsAbreast}
 use Rattle.dv_store.specs.Rest.{IsAtRest, OnlyReads, RestKnows}
 use Rattle.dv_store.specs.States.{State}
 use Rattle.dv_store.proofs.Known.{rest_knows}
+use Rattle.dv_serial.specs.Following.{HasStates}
 use Rattle.dv_serial.specs.Serves.{AreAbreast, OnlyLooksAt, seat_at, with_seat}
 use Rattle.dv_serial.specs.Servings.{Serving}
 use Rattle.dv_serial.proofs.Seated.{abreast_with}
@@ -87,3 +89,20 @@ answered_stays {S} {C} at old mid new looks only = (
   ap (λ (s : Serving S C). length s.seats) (sym only) ∙ length-set mid.seats at (seat_at new.seats at) ∙ ap (λ (fs : List Follower). length fs) looks.seats,
   ap (λ (s : Serving S C). s.store.clock) (sym only) ∙ looks.store.clock,
 )
+
+-- ---- sessions that were told
+
+module _ (before items slice now : List Follower) (len : ℕ) (same : slice ≡ before) (many : length slice ≡ len) (has : HasStates slice now) where
+  -- those that are written back
+  abbrev pub back : List Follower
+  back = take len (now ++ drop (length now) items)
+
+  back_is : back ≡ now
+  back_is = take_at now (drop (length now) items) len (has.count ∙ many)
+
+  pub told_states : HasStates before back
+  told_states = subst (λ (fs : List Follower). HasStates before fs) (sym back_is) (subst (λ (fs : List Follower). HasStates fs now) same has)
+
+  pub told_abreast : (m n : Mailbox) → All (IsAbreast m) before → (All (IsAbreast m) slice → All (IsAbreast n) now) → All (IsAbreast n) back
+  told_abreast m n all told =
+      subst (λ (fs : List Follower). All (IsAbreast n) fs) (sym back_is) (told (subst (λ (fs : List Follower). All (IsAbreast m) fs) (sym same) all))
