@@ -7,3 +7,14 @@ pub mod Allowed
 pub mod Committing
 pub mod Led
 pub mod Failed
+pub mod Flags
+pub mod Servable
+pub mod Numbering
+pub mod Turns
+pub mod Causes
+pub mod Counting
+pub mod Outcomes
+pub mod Refusals
+pub mod Results
+pub mod Seated
+pub mod Stepping
