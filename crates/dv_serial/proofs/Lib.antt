@@ -18,3 +18,4 @@ pub mod Refusals
 pub mod Results
 pub mod Seated
 pub mod Stepping
+pub mod Running

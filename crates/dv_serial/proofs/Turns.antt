@@ -205,7 +205,7 @@ pub next_line : (lines : List Line) (turns : List Turn) (i : ℕ) (line : Line) 
     → turns ≡ turns_of (all_named lines) → i < length lines → line ≡ get_or lines i line → turn ≡ get_or turns i turn
     → IsNext (all_named lines) i turn.session (named line)
 next_line lines turns i line turn are less is same =
-    let here : named line ≡ get_or (all_named lines) i (named line) = ap named is ∙ sym (get_or-map named lines i line) in
+    let here : named line ≡ get_or (all_named lines) i (named line) = ap named is ∙ sym (get_or-map named lines i line (named line) less) in
     let within : i < length (all_named lines) = omega (arith, less, length-map lines named) in
     record {
       less = within;

@@ -90,7 +90,7 @@ module _ {S C : Type 0} where
     pub answered : List Attempt
     pub left : List Attempt
     pub rest : List transcripts.Line
-    pub lines : numbered lines ≡ lines_of answered ++ rest
+    pub parts : numbered lines ≡ lines_of answered ++ rest
     pub may : MayPlay clock start base faults answered
     pub ends : EndsWith clock base start answered left rest result
     pub leaves : Leaves files may_leave moment left_since clock start (answered ++ left) old new
