@@ -20,3 +20,4 @@ pub mod Servable
 pub mod Turns
 pub mod Looking
 pub mod Served
+pub mod Running

@@ -1,13 +1,11 @@
 -- The turns of a script's lines, one line more at a time, and the sessions that they name.
-use Rattle.std.proofs.Common.{◌≡◌, ℕ, suc, ◌+◌, ◌<◌, ◌≤◌, Bool, true, false, cond, List, [], ◌∷◌, ◌++◌, length, get_or, take, drop, map, fold, All, refl, sym, ◌∙◌, ap, subst, arith, append_assoc, length-append, length-take}
+use Rattle.std.proofs.Common.{◌≡◌, ℕ, zero, suc, ◌+◌, ◌<◌, ◌≤◌, Bool, true, false, List, [], ◌∷◌, ◌++◌, length, get_or, take, drop, map, fold, refl, sym, ◌∙◌, ap, subst, arith, append_assoc, length-append, length-take}
 use Rattle.std.specs.Prelude.{◌||◌, count_by}
 use Rattle.std.specs.List.{list_any}
 use Rattle.std.specs.Str.{bytes_eq}
-use Rattle.std.proofs.lemmas.List.{append-nil, drop_more, length-map, map-append, map_more, take-append-drop}
-use Rattle.std.proofs.lemmas.List.Elements.{All-cons, All-nil}
+use Rattle.std.proofs.lemmas.List.{append-nil, drop_more, get_or-map, length-map, map-append, map_more, take-append-drop}
 use Rattle.std.proofs.lemmas.List.Sums.{count_by-le-length, fold-append}
 use Rattle.std.proofs.lemmas.Slice.Eq.{bytes_eq-Decides}
-use Rattle.dv_model.specs.Transcripts as transcripts
 use Rattle.dv_formats.specs.Scripts.{NamedLine, and_session, sessions_of}
 use Rattle.dv_script.specs.declared.types.Line.{Line}
 use Rattle.dv_script.specs.Sources.{all_named, named}
@@ -182,3 +180,63 @@ named_length lines i =
     let same = length-map (take i lines) named in
     let long = length-take i lines in
     (omega (arith, same, long), omega (arith, same, long))
+
+-- ---- a line's turn
+
+-- this line of a script is given by the session of this number
+pub record IsNext (lines : List NamedLine) (i session : ℕ) (line : NamedLine) : Type 0 where
+  pub less : i < length lines
+  pub is : line ≡ get_or lines i line
+  pub number : session ≡ number_among (sessions_of lines) line.0
+
+turn_at : (names : List (List ℕ)) (before lines : List NamedLine) (i : ℕ) (d : Turn) (line : NamedLine)
+    → i < length lines → (get_or (turns_behind names before lines) i d).session ≡ number_among names (get_or lines i line).0
+turn_at names before [] i d line less = absurd (omega (arith, less))
+turn_at names before (first ∷ lines) zero d line less = refl
+turn_at names before (first ∷ lines) (suc i) d line less = turn_at names (before ++ first ∷ []) lines i d line (omega (arith, less))
+
+pub turns_length : (names : List (List ℕ)) (before lines : List NamedLine) → length (turns_behind names before lines) ≡ length lines
+turns_length names before [] = refl
+turns_length names before (line ∷ lines) = ap suc (turns_length names (before ++ line ∷ []) lines)
+
+pub next_line : (lines : List Line) (turns : List Turn) (i : ℕ) (line : Line) (turn : Turn)
+    → turns ≡ turns_of (all_named lines) → i < length lines → line ≡ get_or lines i line → turn ≡ get_or turns i turn
+    → IsNext (all_named lines) i turn.session (named line)
+next_line lines turns i line turn are less is same =
+    let here : named line ≡ get_or (all_named lines) i (named line) = ap named is ∙ sym (get_or-map named lines i line (named line) less) in
+    let within : i < length (all_named lines) = omega (arith, less, length-map lines named) in
+    record {
+      less = within;
+      is = here;
+      number = ap (λ (t : Turn). t.session) (same ∙ ap (λ ts. get_or ts i turn) are)
+          ∙ turn_at (sessions_of (all_named lines)) [] (all_named lines) i turn (named line) within
+          ∙ sym (ap (λ (l : NamedLine). number_among (sessions_of (all_named lines)) l.0) here);
+    }
+
+parts_at : (lines : List NamedLine) (i : ℕ) (line : NamedLine) → i < length lines → line ≡ get_or lines i line
+    → lines ≡ take i lines ++ line ∷ drop (i + 1) lines
+parts_at lines i line less is =
+    sym (take-append-drop i lines) ∙ ap (λ l. take i lines ++ l) (drop_more lines i line less ∙ ap (λ l. l ∷ drop (i + 1) lines) (sym is))
+
+-- its session is one of those that the lines name
+pub next_seat : (lines : List NamedLine) (i session : ℕ) (line : NamedLine) → IsNext lines i session line
+    → (1 ≤ session) × (session ≤ length (sessions_of lines))
+next_seat lines i session line next =
+    let known = subst (λ ls. list_any (bytes_eq line.0) (sessions_of ls) ≡ true) (sym (parts_at lines i line next.less next.is)) (number_stays (take i lines) line (drop (i + 1) lines)).1 in
+    let within = number_within (sessions_of lines) line.0 known in
+    (omega (arith, within.0, next.number), omega (arith, within.1, next.number))
+
+-- the lines by their numbers, up to this one and from it on
+pub numbers_more : (lines : List NamedLine) (i session : ℕ) (line : NamedLine) → IsNext lines i session line
+    → map (numbered_by (sessions_of lines)) (take (i + 1) lines) ≡ map (numbered_by (sessions_of lines)) (take i lines) ++ (session, line.1) ∷ []
+numbers_more lines i session line next =
+    map_more (numbered_by (sessions_of lines)) lines i line next.less
+    ∙ ap (λ (l : NamedLine). map (numbered_by (sessions_of lines)) (take i lines) ++ numbered_by (sessions_of lines) l ∷ []) (sym next.is)
+    ∙ ap (λ (n : ℕ). map (numbered_by (sessions_of lines)) (take i lines) ++ (n, line.1) ∷ []) (sym next.number)
+
+pub numbers_parts : (lines : List NamedLine) (i session : ℕ) (line : NamedLine) → IsNext lines i session line
+    → numbered lines ≡ map (numbered_by (sessions_of lines)) (take i lines) ++ (session, line.1) ∷ map (numbered_by (sessions_of lines)) (drop (i + 1) lines)
+numbers_parts lines i session line next =
+    ap (map (numbered_by (sessions_of lines))) (parts_at lines i line next.less next.is)
+    ∙ map-append (numbered_by (sessions_of lines)) (take i lines) (line ∷ drop (i + 1) lines)
+    ∙ ap (λ (n : ℕ). map (numbered_by (sessions_of lines)) (take i lines) ++ (n, line.1) ∷ map (numbered_by (sessions_of lines)) (drop (i + 1) lines)) (sym next.number)

@@ -1,5 +1,5 @@
 -- What becomes of the lines of a script, one after another.
-use Rattle.std.specs.Prelude.{◌≡◌, ◌⊎◌, ◌≤◌, ◌++◌, ℕ, List, [], ◌∷◌, drop, length, Result, Ok, Err, ⊤}
+use Rattle.std.specs.Prelude.{◌≡◌, ◌++◌, ℕ, List, [], ◌∷◌, drop, length, Result, Ok, Err, ⊤}
 use Rattle.dv_model.specs.declared.types.Reply.{Reply}
 use Rattle.dv_model.specs.Counts.{Rose}
 use Rattle.dv_model.specs.Journals.{Log}
@@ -12,9 +12,10 @@ use Rattle.dv_playing.specs.Laws.{MayPlay, lines_of}
 use Rattle.dv_playing.specs.Playing.{Attempt, begin, replies_to, step}
 use Rattle.dv_serial.specs.declared.lines.LineEnd.{LineEnd}
 use Rattle.dv_serial.specs.declared.lines.LineEnd.TheVariants as line_end
-use Rattle.dv_serial.specs.Following.{IsLeft, Leaves}
+use Rattle.dv_serial.specs.Following.{EndsAt, IsLeft, Leaves}
 use Rattle.dv_serial.specs.Places.{play_of}
 use Rattle.dv_serial.specs.Scripts.{answer_text, numbered, replies_text}
+use Rattle.dv_serial.specs.Serves.{IsServed}
 use Rattle.dv_serial.specs.Servings.{Serving}
 
 -- The text that was being written where the output failed: the replies to the line that it wasn't
@@ -39,7 +40,7 @@ Writes clock start answered left lines result old new =
 abbrev pub EndsWith : (ℕ → ℕ) → ℕ → Log → List Attempt → List Attempt → List transcripts.Line
     → Result (Unit {0}) LineEnd → Type 0
 EndsWith clock base start answered left rest (Ok done) = (rest ≡ []) × (left ≡ [])
-EndsWith clock base start answered left [] (Err e) = left ≡ []
+EndsWith clock base start answered left [] (Err e) = ⊥
 EndsWith clock base start answered left (line ∷ rest) (Err e) =
     IsLeft clock base (play_of clock start answered) line left
 
@@ -49,6 +50,35 @@ HasRead clock used upcoming (Ok done) = upcoming ≡ behind clock used
 HasRead clock used upcoming (Err e) = ⊤
 
 module _ {S C : Type 0} where
+  -- A line was served as one step of the play, and of the text of its replies this was written.
+  pub record IsTold (files : S → Folder) (may_leave : S → Folder → Type 0) (moment : S → ℕ)
+      (left_since : S → ℕ → Folder → Type 0) (upcoming : C → ℕ → ℕ) (clock : ℕ → ℕ) (start : Log)
+      (base faults : ℕ) (attempts : List Attempt) (line : transcripts.Line)
+      (written : List Reply → Type 0) (old new : Serving S C) : Type 0 where
+    pub replies : List Reply
+    pub served : IsServed files may_leave moment left_since upcoming clock start base faults
+        attempts line replies old new
+    pub output : written replies
+
+  -- What becomes of one line of a session: it is answered, and its text written; or memory ended
+  -- it, and nothing is written; or the output failed, and a front of its text is.
+  abbrev pub RunsLine : (S → Folder) → (S → Folder → Type 0) → (S → ℕ) → (S → ℕ → Folder → Type 0)
+      → (C → ℕ → ℕ) → (ℕ → ℕ) → Log → ℕ → ℕ → List Attempt → ℕ → NamedLine
+      → Result (Unit {0}) LineEnd → Type 0 → List ℕ → List ℕ → Serving S C → Serving S C → Type 0
+  RunsLine files may_leave moment left_since upcoming clock start base faults attempts session line
+      (Ok done) told taken taken_now old new =
+      IsTold files may_leave moment left_since upcoming clock start base faults attempts
+      (session, line.1) (λ replies. told → Appends taken taken_now (answer_text line replies)) old new
+  RunsLine files may_leave moment left_since upcoming clock start base faults attempts session line
+      (Err line_end.NoMemory) told taken taken_now old new =
+      EndsAt files may_leave moment left_since clock start base attempts (session, line.1) old new
+      × (told → taken_now ≡ taken)
+  RunsLine files may_leave moment left_since upcoming clock start base faults attempts session line
+      (Err (line_end.Sink n)) told taken taken_now old new =
+      IsTold files may_leave moment left_since upcoming clock start base faults attempts
+      (session, line.1) (λ replies. told → AppendsFront taken taken_now (answer_text line replies))
+      old new
+
   -- The first lines were answered, each as a step of one play, and the text of their replies
   -- written. The first of the others may have left its group, or be one that the disk failed. What
   -- is left keeps the play's log behind these lines; so does what a crash leaves, behind some of
@@ -60,7 +90,7 @@ module _ {S C : Type 0} where
     pub answered : List Attempt
     pub left : List Attempt
     pub rest : List transcripts.Line
-    pub lines : numbered lines ≡ lines_of answered ++ rest
+    pub parts : numbered lines ≡ lines_of answered ++ rest
     pub may : MayPlay clock start base faults answered
     pub ends : EndsWith clock base start answered left rest result
     pub leaves : Leaves files may_leave moment left_since clock start (answered ++ left) old new

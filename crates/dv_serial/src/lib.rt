@@ -1,6 +1,7 @@
 //! The sessions of a script over one mailbox folder, served one command after another.
 #![tactic(auto)]
 
+mod laws;
 mod lines;
 mod numbers;
 mod reading;
@@ -9,6 +10,7 @@ mod serial;
 mod serving;
 mod told;
 
+pub use laws::commands_are_servable;
 pub use lines::LineEnd;
 pub use numbers::{Numbered, Turn, number_lines};
 pub use seats::new_seats;
