@@ -1,17 +1,11 @@
 //! `sdbox`: a mailbox folder served to sessions by a script.
 #![tactic(auto)]
 
-mod answering;
-mod appending;
-mod creating;
 mod ending;
-mod lines;
+mod opening;
 mod program;
 mod reading;
-mod script;
-mod serving;
-#[cfg(test)]
-mod tests;
+mod running;
 mod top_call;
 
 use crate::ending::{End, conclude};
