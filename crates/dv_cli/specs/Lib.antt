@@ -7,3 +7,4 @@ pub mod Begins
 pub mod Runs
 pub mod Causes
 pub mod Outputs
+pub mod Wholes
