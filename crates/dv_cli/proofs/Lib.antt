@@ -1,0 +1,5 @@
+mod Concluding
+mod AllServed
+mod FoundStarts
+mod Statuses
+mod Takes

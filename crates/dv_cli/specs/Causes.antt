@@ -124,6 +124,12 @@ ComesFrom before now end.Sink = Rose before.output now.output
 ComesFrom before now end.Usage = ⊥
 ComesFrom before now e = ⊤
 
+-- no count falls, and the end has its cause
+pub record HasRunCause (before now : Counts) (e : End) : Type 0 where
+  pub later : (before.shelf ≤ now.shelf) × (before.source ≤ now.source)
+      × (before.output ≤ now.output)
+  pub cause : ComesFrom before now e
+
 -- what the script says is told: its fault, or lines, which alone are served
 abbrev pub TellsScript : Result (List NamedLine) ScriptFault → End → Type 0
 TellsScript read (end.Script fault) = ScriptFails fault read
@@ -150,9 +156,14 @@ TakesByEnd old new e = ⊤
 
 -- ---- the statuses
 
--- wrong words, a fault in the folder, a script that is refused or can't be read
-abbrev pub IsWithoutClock : ℕ → Type 0
-IsWithoutClock status = (status ≡ 1) ⊎ (status ≡ 3) ⊎ (status ≡ 5) ⊎ (status ≡ 6)
+-- The clock isn't read where words or folder are refused, or the script is or can't be read; it is
+-- read at most once where the disk fails before the first line.
+pub record TakesByStatus (status : ℕ) (old new : ℕ → ℕ) : Type 0 where
+  pub usage : status ≡ 1 → new ≡ old
+  pub disk : status ≡ 2 → TakesUpTo 1 old new
+  pub found : status ≡ 3 → new ≡ old
+  pub script : status ≡ 5 → new ≡ old
+  pub source : status ≡ 6 → new ≡ old
 
 -- one of them rose
 abbrev pub AnyRose : Counts → Counts → Type 0
