@@ -2,6 +2,7 @@
 use Rattle.std.proofs.Common.{◌≡◌, ℕ, ◌+◌, ◌≤◌, Bool, true, false, cond, List, [], ◌∷◌, map, Option, Some, None, refl, sym, ◌∙◌, ap, subst, arith}
 use Rattle.std.specs.Prelude.{count_by}
 use Rattle.std.specs.List.{list_any}
+use Rattle.std.proofs.lemmas.Bool.{false≢true}
 use Rattle.std.proofs.lemmas.List.Sums.{sum_by-cons}
 use Rattle.dv_model.specs.declared.types.Reply.{Reply}
 use Rattle.dv_model.specs.Transcripts.{is_unavailable, touches_disk, unavailable_count}
@@ -9,7 +10,6 @@ use Rattle.dv_model.specs.Transcripts as transcripts
 use Rattle.dv_playing.specs.Laws.{lines_of}
 use Rattle.dv_cli.specs.Outputs.{served}
 use Rattle.dv_playing.specs.Playing.{Attempt, Failed, Outcome, Play, Rotation, Served, Step, fared, played, refused_here, replies_to, step, stepped_by}
-
 
 -- ---- none of them
 
@@ -23,14 +23,11 @@ none_of p x xs is = parted (p x) (count_by p xs) (sym (sum_by-cons (λ y. cond (
 
 -- ---- one line
 
-false≢ : {P : Type 0} → true ≡ false → P
-false≢ e = absurd (subst (λ (b : Bool). elim b [ true ↦ Unit {0} | false ↦ ⊥ ]) e tt)
-
 fared_so : (clock : ℕ → ℕ) (play : Play) (line : transcripts.Line) (outcome : Outcome)
     → list_any is_unavailable (fared clock play line outcome).replies ≡ false
     → fared clock play line outcome ≡ fared clock play line Served
 fared_so clock play line Served none = refl
-fared_so clock play line (Failed faults rotation) none = false≢ none
+fared_so clock play line (Failed faults rotation) none = absurd (false≢true (sym none))
 
 touching : (clock : ℕ → ℕ) (play : Play) (a : Attempt) (b : Bool)
     → list_any is_unavailable (fared clock play a.line (cond b a.outcome Served)).replies ≡ false
@@ -55,7 +52,7 @@ served_so clock play a none = stepped_so clock play a (refused_here play a.line)
 -- the same replies, and the same play behind them
 pub record PlaysAs (clock : ℕ → ℕ) (play : Play) (one other : List Attempt) : Type 0 where
   pub replies : replies_to clock play one ≡ replies_to clock play other
-  pub play : played clock play one ≡ played clock play other
+  pub behind : played clock play one ≡ played clock play other
 
 plays_on : (clock : ℕ → ℕ) (play : Play) (a b : Attempt) (one other : List Attempt)
     → step clock play a ≡ step clock play b → PlaysAs clock (step clock play a).play one other
@@ -64,13 +61,13 @@ plays_on clock play a b one other same rest = record {
   replies =
       ap (λ (rs : List (List Reply)). (step clock play a).replies ∷ rs) rest.replies
       ∙ ap (λ (s : Step). s.replies ∷ replies_to clock s.play other) same;
-  play = rest.play ∙ ap (λ (s : Step). played clock s.play other) same;
+  behind = rest.behind ∙ ap (λ (s : Step). played clock s.play other) same;
 }
 
 pub all_served_so : (clock : ℕ → ℕ) (play : Play) (attempts : List Attempt)
     → unavailable_count (replies_to clock play attempts) ≡ 0
     → PlaysAs clock play attempts (map served (lines_of attempts))
-all_served_so clock play [] none = record { replies = refl; play = refl }
+all_served_so clock play [] none = record { replies = refl; behind = refl }
 all_served_so clock play (a ∷ attempts) none =
     let s = step clock play a in
     let parts = none_of (list_any is_unavailable) s.replies (replies_to clock s.play attempts) none in

@@ -1,5 +1,5 @@
 -- What each end and each status of a run comes from, and how often the clock is read.
-use Rattle.std.specs.Prelude.{◌≡◌, ◌≢◌, ◌⊎◌, ◌≤◌, ◌+◌, ◌*◌, ℕ, Bool, true, false, List, [], Result, Ok, Err, ⊤, ⊥}
+use Rattle.std.specs.Prelude.{◌≡◌, ◌≢◌, ◌⊎◌, ◌≤◌, ◌+◌, ◌*◌, ℕ, Bool, true, false, List, [], Result, Ok, Err, ⊤}
 use Rattle.dv_model.specs.declared.types.OpenFault.{OpenFault}
 use Rattle.dv_model.specs.declared.types.OpenFault.TheVariants as fault
 use Rattle.dv_model.specs.Counts.{Rose}
@@ -95,11 +95,11 @@ IsReadEnd (end.Source faults) before now = Rose before now × (faults ≡ now)
 IsReadEnd e before now = ⊥
 
 -- neither the folder nor the clock is touched, and no group is written
-pub record IsUntouched {S C : Type 0} (shelf shelf_now : S) (clock clock_now : C)
-    (journal : List Entry) : Type 0 where
-  pub shelf : shelf_now ≡ shelf
-  pub clock : clock_now ≡ clock
-  pub journal : journal ≡ []
+pub record IsUntouched {S C : Type 0} (old new : S) (before now : C) (entries : List Entry)
+    : Type 0 where
+  pub shelf : new ≡ old
+  pub clock : now ≡ before
+  pub journal : entries ≡ []
 
 -- ---- a run before its last line
 
@@ -140,7 +140,7 @@ TellsScript read e = (lines : List NamedLine) × (read ≡ Ok lines)
 
 -- a script that is refused ends a run so, unless it can't be read
 abbrev pub EndsRefused : ScriptFault → End → Type 0
-EndsRefused fault (end.Script e) = ScriptFails e {Y = List NamedLine} (Err fault)
+EndsRefused fault (end.Script e) = ScriptFails {Y = List NamedLine} e (Err fault)
 EndsRefused fault (end.Source faults) = ⊤
 EndsRefused fault end.NoMemory = ⊤
 EndsRefused fault e = ⊥

@@ -1,5 +1,5 @@
 -- A whole run, with its last line. The records take the members of a shelf's type.
-use Rattle.std.specs.Prelude.{◌≡◌, ◌⊎◌, ℕ, List, [], ⊤, ⊥}
+use Rattle.std.specs.Prelude.{◌≡◌, ◌⊎◌, ℕ, List, [], ⊤}
 use Rattle.dv_model.specs.declared.types.Entry.{Entry}
 use Rattle.dv_script.specs.declared.types.ScriptEnd.TheVariants as script
 use Rattle.dv_shelf.specs.Folders.{Folder}
@@ -35,7 +35,7 @@ pub record IsRun {S : Type 0} (files : S → Folder) (may_leave : S → Folder �
       ⊎ RunsOver files may_leave moment left_since clock clock_now before.shelf now.shelf lines how
       journal told taken between old new
   pub cause : ComesFrom before now how
-  pub status : IsStatus how status
+  pub ended : IsStatus how status
   pub concludes : told → Concludes how status between taken_now
 
 -- The script is refused, or couldn't be read: the last line tells it.
@@ -44,5 +44,5 @@ pub record IsRefused (fault : ScriptFault) (before now : Counts) (status : ℕ) 
   pub how : End
   pub ends : EndsRefused fault how
   pub cause : ComesFrom before now how
-  pub status : IsStatus how status
+  pub ended : IsStatus how status
   pub concludes : told → Concludes how status taken taken_now
