@@ -1,5 +1,5 @@
 -- What a whole run answers, writes and leaves. The records take the members of a shelf's type.
-use Rattle.std.specs.Prelude.{◌≡◌, ◌≢◌, ◌⊎◌, ◌≤◌, ◌+◌, ◌++◌, ℕ, List, [], ◌∷◌, drop, length, map, Result, Ok, Err, ⊤, ⊥}
+use Rattle.std.specs.Prelude.{◌≡◌, ◌≢◌, ◌⊎◌, ◌≤◌, ◌+◌, ◌++◌, ℕ, List, [], ◌∷◌, drop, length, ⊤}
 use Rattle.dv_model.specs.declared.types.Entry.{Entry}
 use Rattle.dv_model.specs.declared.types.OpenFault.{OpenFault}
 use Rattle.dv_model.specs.declared.types.OpenFault.TheVariants as fault
@@ -83,11 +83,11 @@ pub record ServesLines {S : Type 0} (files : S → Folder) (may_leave : S → Fo
   pub answered : List Attempt
   pub left : List Attempt
   pub rest : List transcripts.Line
-  pub lines : numbered lines ≡ lines_of answered ++ rest
+  pub parts : numbered lines ≡ lines_of answered ++ rest
   pub ends : EndsAt e (behind clock used) base start answered left rest
   pub serial : Serial (play_of (behind clock used) start (answered ++ left)).log base faults
       (numbered lines) (replies_to (behind clock used) (begin start) answered)
-  pub journal : journal ≡ (play_of (behind clock used) start (answered ++ left)).log.entries
+  pub entries : journal ≡ (play_of (behind clock used) start (answered ++ left)).log.entries
   pub output : told → WritesLines e (behind clock used) start answered left lines taken taken_now
   pub readings : IsAnswered e
       → clock_now ≡ behind clock (used + (play_of (behind clock used) start answered).used)
