@@ -1,0 +1,7 @@
+pub mod GuidFiles
+pub mod Starting
+pub mod Opened
+pub mod Created
+pub mod Looked
+pub mod Timed
+pub mod NewFolders
