@@ -5,3 +5,4 @@ pub mod Created
 pub mod Looked
 pub mod Timed
 pub mod NewFolders
+pub mod Served
