@@ -2,7 +2,7 @@
 
 ghost use Rattle.std.specs.Prelude.{◌≡◌};
 ghost use Rattle.dv_plans.specs.declared.fault.StoreFault.TheVariants as fault;
-ghost use Rattle.dv_store.specs.Faults.{shelf_told};
+ghost use Rattle.dv_store.specs.Faults.{IsFailure, shelf_told};
 
 use dv_plans::StoreFault;
 use dv_shelf::{Shelf, ShelfFault};
@@ -16,7 +16,8 @@ pub(crate) fn disk<S: Shelf>(shelf: &S) -> StoreFault
 
 /// What a shelf answers, with its count of faults.
 pub(crate) fn told<S: Shelf>(shelf: &S, fault: ShelfFault) -> StoreFault
-    ensures { result ≡ shelf_told (S.fault_count shelf.now) fault }
+    ensures value { result ≡ shelf_told (S.fault_count shelf.now) fault }
+    ensures failure { IsFailure result }
 {
     match fault {
         ShelfFault::Failed => disk(shelf),

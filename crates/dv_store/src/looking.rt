@@ -1,6 +1,6 @@
 //! What is looked up of a mailbox's messages.
 
-ghost use Rattle.std.specs.Prelude.{◌≡◌, ℕ, IfOk, count_by, false, true};
+ghost use Rattle.std.specs.Prelude.{◌≡◌, ℕ, IfErr, IfOk, count_by, false, true};
 ghost use Rattle.dv_model.specs.Journals.{Log, Mail as Message};
 ghost use Rattle.dv_model.specs.Sessions.{has_uid};
 ghost use Rattle.dv_openings.specs.TrueCaches.{HasTrueCache};
@@ -11,6 +11,7 @@ ghost use Rattle.dv_lookups.specs.Commands.{CanStand, CannotStand, IsNamed, Spar
 ghost use Rattle.dv_lookups.specs.Founds.{AreMessages, IsBody, facts_found, field_found, mail_of, sizes_found};
 ghost use Rattle.dv_lookups.specs.Kept.{CountsUpTo, Economy, IsFileOf, IsSpared, Spares, can_stand, is_kept, is_read};
 ghost use Rattle.dv_plans.specs.Faults.{HasStoreCause};
+ghost use Rattle.dv_store.specs.Faults.{IsFailure};
 ghost use Rattle.dv_store.specs.Rest.{IsAtRest, IsLookedAt, OnlyReads, RestKnows};
 
 use crate::Store;
@@ -176,6 +177,8 @@ impl<S: Shelf, C> Store<S, C> {
             OnlyReads S.files S.may_leave S.moment S.left_since self.old self.new }
         ensures again { is_read self.old.cache ≡ true → self.new.cache ≡ self.old.cache }
         ensures aside { CannotStand c.now → self.new.cache ≡ self.old.cache }
+        // Want of memory and a fault of the disk are the only errors.
+        ensures err { IfErr result IsFailure }
         // A message file is read at most for each row that the mailbox has, and none for one that
         // is found in the cache file; a fault of the disk has its cause.
         ensures most { CountsUpTo (count_by (has_uid self.old.chain.live.mailbox)

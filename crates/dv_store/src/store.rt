@@ -90,6 +90,13 @@ impl<S, C> Store<S, C> {
         place_of(&self.chain)
     }
 
+    /// The number that names the mailbox's files.
+    pub fn indexid(&self) -> u32
+        ensures { result ≡ self.now.chain.indexid }
+    {
+        self.chain.indexid
+    }
+
     /// The folder and the clock, for other uses.
     pub fn parts(self) -> (S, C)
         ensures { result ≡ (self.shelf, self.clock) }
