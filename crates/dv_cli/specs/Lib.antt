@@ -3,6 +3,7 @@ pub mod Readings
 pub mod Running
 pub mod Endings
 pub mod Starts
+pub mod Behind
 pub mod Begins
 pub mod Runs
 pub mod Causes

@@ -1,8 +1,9 @@
 -- The log that a run starts from, by the folder that it is given.
-use Rattle.std.specs.Prelude.{◌≡◌, ◌⊎◌, ℕ, [], None, true}
+use Rattle.std.specs.Prelude.{◌≡◌, ◌⊎◌, ℕ, Bool, [], None, false, true}
 use Rattle.dv_model.specs.declared.types.Mailbox.{Mailbox}
 use Rattle.dv_model.specs.declared.types.Mark.{Mark}
 use Rattle.dv_model.specs.Journals.{Log}
+use Rattle.dv_shelf.specs.declared.shelf.Name.{Name}
 use Rattle.dv_shelf.specs.declared.shelf.Name.TheVariants as name
 use Rattle.dv_shelf.specs.Folders.{Folder}
 use Rattle.dv_logfile.specs.Scans.{Good, GoodLog, IsScanned}
@@ -11,6 +12,11 @@ use Rattle.dv_openings.specs.Rebuilds.{stamp_of}
 use Rattle.dv_openings.specs.TrueCaches.{HasTrueCache}
 use Rattle.dv_chain.specs.Creations.{first_mailbox}
 use Rattle.dv_mails.specs.Reading.{guid_at, mail_at}
+
+-- a file is one of a mailbox's; a cache file alone makes none
+abbrev pub is_of_mailbox : Name → Bool
+is_of_mailbox name.Cache = false
+is_of_mailbox other = true
 
 -- no file of a mailbox is there
 pub record IsNew (folder : Folder) : Type 0 where

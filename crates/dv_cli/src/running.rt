@@ -7,6 +7,7 @@ ghost use Rattle.dv_script.specs.Sources.{all_named};
 ghost use Rattle.dv_serial.specs.Serves.{IsServable, TakesUpTo};
 ghost use Rattle.dv_store.specs.Opening.{IsFresh};
 ghost use Rattle.dv_cli.specs.Begins.{IsBegun};
+ghost use Rattle.dv_cli.specs.Behind.{end_behind};
 ghost use Rattle.dv_cli.specs.Causes.{EndCause, EndsServing, TakesForRun};
 ghost use Rattle.dv_cli.specs.Runs.{RunsOver, ServesLines};
 ghost use Rattle.dv_cli.specs.Starts.{IsTrueFolder};
@@ -30,7 +31,9 @@ pub struct Outcome<S, C> {
 }
 
 /// How a run ends behind its lines.
-fn end_behind(served: Result<(), LineEnd>, mark: Mark, groups: usize) -> End {
+fn end_behind(served: Result<(), LineEnd>, mark: Mark, groups: usize) -> End
+    ensures { result ≡ end_behind served mark groups }
+{
     match served {
         Ok(()) => End::Answered {
             mark,
