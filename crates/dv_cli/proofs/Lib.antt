@@ -11,3 +11,5 @@ pub mod Looked
 pub mod Timed
 pub mod NewFolders
 pub mod Served
+mod Parsed
+mod WholeRuns

@@ -1,6 +1,6 @@
 //! The whole run.
 
-ghost use Rattle.std.specs.Prelude.{◌≡◌, ◌≢◌, ◌⊎◌, ◌^◌, ◌≤◌, ◌++◌, [], ℕ, All, Err, IfErr, IfOk, List, Ok, false, length, map, string_bytes, true, ⊥};
+ghost use Rattle.std.specs.Prelude.{◌≡◌, ◌≢◌, ◌⊎◌, ◌^◌, ◌≤◌, ◌++◌, [], ℕ, All, Err, IfErr, IfOk, List, Ok, false, length, map, string_bytes, true};
 ghost use Rattle.dv_model.specs.Counts.{Rose};
 ghost use Rattle.dv_model.specs.Journals.{Log};
 ghost use Rattle.dv_shelf.specs.Crashes.{IsSettled};
@@ -24,6 +24,7 @@ use crate::reading::{ReadEnd, read_script};
 use crate::running::{Outcome, run_folder};
 use dv_model::{Entry, List};
 use dv_script::{Line, parse};
+use dv_serial::commands_are_servable;
 use dv_shelf::{Clock, Gate, Shelf, Sink, Source};
 use std::alloc::Global;
 
@@ -48,7 +49,10 @@ fn is_run_word(words: &[String]) -> bool
 
 /// The outcome where the folder isn't touched.
 fn untouched<S, C>(alloc: Global, shelf: S, clock: C, end: End) -> Outcome<S, C>
-    ensures { result ≡ record { end = end; shelf = shelf; clock = clock; journal = [] } }
+    ensures end { result.end ≡ end }
+    ensures shelf { result.shelf ≡ shelf }
+    ensures clock { result.clock ≡ clock }
+    ensures journal { result.journal ≡ [] }
 {
     Outcome {
         end,
@@ -74,6 +78,7 @@ fn script_lines<I: Source>(alloc: Global, script: &mut I) -> Result<List<Line>, 
         Err(ReadEnd::Source(faults)) => return Err(End::Source(faults)),
         Err(ReadEnd::NoMemory) => return Err(End::NoMemory),
     };
+    commands_are_servable();
     match parse(alloc, text.as_slice()) {
         Ok(lines) => Ok(lines),
         Err(end) => Err(End::Script(end)),
