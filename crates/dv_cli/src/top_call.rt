@@ -1,6 +1,6 @@
 //! The whole run.
 
-ghost use Rattle.std.specs.Prelude.{◌≡◌, ◌≢◌, ◌⊎◌, ◌^◌, ◌<◌, ◌≤◌, ◌×◌, ◌++◌, [], ℕ, All, IfErr, IfOk, List, length, map, string_bytes, true, false, Ok, Err};
+ghost use Rattle.std.specs.Prelude.{◌≡◌, ◌≢◌, ◌⊎◌, ◌^◌, ◌<◌, ◌≤◌, ◌++◌, [], ℕ, All, IfErr, IfOk, List, length, map, string_bytes, true, false, Ok, Err};
 ghost use Rattle.dv_model.specs.Counts.{Rose};
 ghost use Rattle.dv_shelf.specs.Crashes.{IsSettled};
 ghost use Rattle.dv_shelf.specs.Streams.{Appends};
