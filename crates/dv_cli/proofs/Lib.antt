@@ -1,3 +1,8 @@
+mod Concluding
+mod AllServed
+mod FoundStarts
+mod Statuses
+mod Takes
 pub mod GuidFiles
 pub mod Starting
 pub mod Opened

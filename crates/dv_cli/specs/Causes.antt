@@ -1,5 +1,5 @@
 -- What each end and each status of a run comes from, and how often the clock is read.
-use Rattle.std.specs.Prelude.{◌≡◌, ◌≢◌, ◌⊎◌, ◌≤◌, ◌+◌, ◌*◌, ℕ, Bool, true, false, List, [], Result, Ok, Err, ⊤, ⊥}
+use Rattle.std.specs.Prelude.{◌≡◌, ◌≢◌, ◌⊎◌, ◌≤◌, ◌+◌, ◌*◌, ℕ, Bool, true, false, List, [], Result, Ok, Err, ⊤}
 use Rattle.dv_model.specs.declared.types.OpenFault.{OpenFault}
 use Rattle.dv_model.specs.declared.types.OpenFault.TheVariants as fault
 use Rattle.dv_model.specs.Counts.{Rose}
@@ -62,6 +62,21 @@ pub record EndCause (shelf shelf_now out out_now : ℕ) (e : End) : Type 0 where
   pub later : (shelf ≤ shelf_now) × (out ≤ out_now)
   pub cause : FolderCause shelf shelf_now out out_now e
 
+-- a fault is found in a folder that has a file of a mailbox
+pub record HasFault (folder : Folder) : Type 0 where
+  pub fault : OpenFault
+  pub is : IsFault fault
+  pub found : FaultFound fault (IsFound folder)
+  pub some : IsNew folder → ⊥
+
+-- What the folder holds is told: a fault that is found, where it has a file of a mailbox; all lines
+-- are answered only where there is none.
+abbrev pub TellsFaults : Folder → End → Type 0
+TellsFaults folder (end.Unopened f) =
+    IsFault f → FaultFound f (IsFound folder) × (IsNew folder → ⊥)
+TellsFaults folder (end.Answered mark groups) = HasFault folder → ⊥
+TellsFaults folder e = ⊤
+
 -- ---- before the folder is touched
 
 -- the lines are those of the script, or its fault is told; the source failed, or memory ran out
@@ -80,24 +95,13 @@ IsReadEnd (end.Source faults) before now = Rose before now × (faults ≡ now)
 IsReadEnd e before now = ⊥
 
 -- neither the folder nor the clock is touched, and no group is written
-pub record IsUntouched {S C : Type 0} (shelf shelf_now : S) (clock clock_now : C)
-    (journal : List Entry) : Type 0 where
-  pub shelf : shelf_now ≡ shelf
-  pub clock : clock_now ≡ clock
-  pub journal : journal ≡ []
+pub record IsUntouched {S C : Type 0} (old new : S) (before now : C) (entries : List Entry)
+    : Type 0 where
+  pub shelf : new ≡ old
+  pub clock : now ≡ before
+  pub journal : entries ≡ []
 
--- ---- the statuses
-
--- a fault is found in a folder that has a file of a mailbox
-pub record HasFault (folder : Folder) : Type 0 where
-  pub fault : OpenFault
-  pub is : IsFault fault
-  pub found : FaultFound fault (IsFound folder)
-  pub some : IsNew folder → ⊥
-
--- wrong words, a fault in the folder, a script that is refused or can't be read
-abbrev pub IsWithoutClock : ℕ → Type 0
-IsWithoutClock status = (status ≡ 1) ⊎ (status ≡ 3) ⊎ (status ≡ 5) ⊎ (status ≡ 6)
+-- ---- a run before its last line
 
 -- how often the folder, the script's source and the output had failed before the run
 pub record Counts : Type 0 where
@@ -108,6 +112,58 @@ pub record Counts : Type 0 where
 -- the three counts
 abbrev pub counts_of : ℕ → ℕ → ℕ → Counts
 counts_of shelf source output = record { shelf = shelf; source = source; output = output }
+
+-- each end has its cause: a failure of the disk or of the source, whose count is told, or one of the
+-- output
+abbrev pub ComesFrom : Counts → Counts → End → Type 0
+ComesFrom before now (end.Unopened (fault.Disk faults)) =
+    Rose before.shelf now.shelf × (faults ≡ now.shelf)
+ComesFrom before now (end.Source faults) =
+    Rose before.source now.source × (faults ≡ now.source)
+ComesFrom before now end.Sink = Rose before.output now.output
+ComesFrom before now end.Usage = ⊥
+ComesFrom before now e = ⊤
+
+-- no count falls, and the end has its cause
+pub record HasRunCause (before now : Counts) (e : End) : Type 0 where
+  pub later : (before.shelf ≤ now.shelf) × (before.source ≤ now.source)
+      × (before.output ≤ now.output)
+  pub cause : ComesFrom before now e
+
+-- what the script says is told: its fault, or lines, which alone are served
+abbrev pub TellsScript : Result (List NamedLine) ScriptFault → End → Type 0
+TellsScript read (end.Script fault) = ScriptFails fault read
+TellsScript read (end.Source faults) = ⊤
+TellsScript read end.NoMemory = ⊤
+TellsScript read end.Usage = ⊥
+TellsScript read e = (lines : List NamedLine) × (read ≡ Ok lines)
+
+-- a script that is refused ends a run so, unless it can't be read
+abbrev pub EndsRefused : ScriptFault → End → Type 0
+EndsRefused fault (end.Script e) = ScriptFails {Y = List NamedLine} e (Err fault)
+EndsRefused fault (end.Source faults) = ⊤
+EndsRefused fault end.NoMemory = ⊤
+EndsRefused fault e = ⊥
+
+-- where the clock isn't touched: wrong words, a script that isn't served, a fault in the folder; it
+-- is read at most once where the disk fails
+abbrev pub TakesByEnd : (ℕ → ℕ) → (ℕ → ℕ) → End → Type 0
+TakesByEnd old new end.Usage = new ≡ old
+TakesByEnd old new (end.Script fault) = new ≡ old
+TakesByEnd old new (end.Source faults) = new ≡ old
+TakesByEnd old new (end.Unopened f) = TakesForOpening old new {A = Unit {0}} (Err f)
+TakesByEnd old new e = ⊤
+
+-- ---- the statuses
+
+-- The clock isn't read where words or folder are refused, or the script is or can't be read; it is
+-- read at most once where the disk fails before the first line.
+pub record TakesByStatus (status : ℕ) (old new : ℕ → ℕ) : Type 0 where
+  pub usage : status ≡ 1 → new ≡ old
+  pub disk : status ≡ 2 → TakesUpTo 1 old new
+  pub found : status ≡ 3 → new ≡ old
+  pub script : status ≡ 5 → new ≡ old
+  pub source : status ≡ 6 → new ≡ old
 
 -- one of them rose
 abbrev pub AnyRose : Counts → Counts → Type 0

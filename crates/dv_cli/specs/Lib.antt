@@ -8,3 +8,4 @@ pub mod Begins
 pub mod Runs
 pub mod Causes
 pub mod Outputs
+pub mod Wholes

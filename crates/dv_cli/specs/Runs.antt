@@ -1,5 +1,5 @@
 -- What a whole run answers, writes and leaves. The records take the members of a shelf's type.
-use Rattle.std.specs.Prelude.{◌≡◌, ◌≢◌, ◌⊎◌, ◌≤◌, ◌+◌, ◌++◌, ℕ, List, [], ◌∷◌, drop, length, map, Result, Ok, Err, ⊤, ⊥}
+use Rattle.std.specs.Prelude.{◌≡◌, ◌≢◌, ◌⊎◌, ◌≤◌, ◌+◌, ◌++◌, ℕ, List, [], ◌∷◌, drop, length, ⊤}
 use Rattle.dv_model.specs.declared.types.Entry.{Entry}
 use Rattle.dv_model.specs.declared.types.OpenFault.{OpenFault}
 use Rattle.dv_model.specs.declared.types.OpenFault.TheVariants as fault
@@ -15,7 +15,6 @@ use Rattle.dv_shelf.specs.Streams.{Appends, AppendsFront}
 use Rattle.dv_formats.specs.Parsing.{parsed}
 use Rattle.dv_formats.specs.Scripts.{NamedLine}
 use Rattle.dv_script.specs.Sources.{ScriptFails}
-use Rattle.dv_script.specs.declared.types.ScriptEnd.TheVariants as script
 use Rattle.dv_chain.specs.Creations.{IsOldOrCreated}
 use Rattle.dv_chain.specs.Openings.{FaultFound, IsQuiet}
 use Rattle.dv_openings.specs.Openings.{Found, IsFound}
@@ -27,17 +26,8 @@ use Rattle.dv_serial.specs.Runs.{IsTried}
 use Rattle.dv_serial.specs.Scripts.{numbered, replies_text}
 use Rattle.dv_cli.specs.declared.ending.End.{End}
 use Rattle.dv_cli.specs.declared.ending.End.TheVariants as end
-use Rattle.dv_cli.specs.Endings.{Concludes, IsFault, IsStatus}
+use Rattle.dv_cli.specs.Endings.{IsFault}
 use Rattle.dv_cli.specs.Starts.{IsNew, Starts}
-
--- ---- before the folder is touched
-
--- reading a good script ends a run so
-abbrev pub EndsReading : End → Type 0
-EndsReading (end.Source faults) = ⊤
-EndsReading end.NoMemory = ⊤
-EndsReading (end.Script script.NoMemory) = ⊤
-EndsReading e = ⊥
 
 -- ---- lines that were answered
 
@@ -71,11 +61,6 @@ WritesLines end.Sink clock start answered left lines old new =
 WritesLines e clock start answered left lines old new =
     Appends old new (replies_text lines (replies_to clock (begin start) answered))
 
--- the script couldn't be read, or memory ran out before the folder was touched
-abbrev pub IsUnread : {S : Type 0} → End → List Entry → List ℕ → List ℕ → S → S → Type 0
-IsUnread e journal taken taken_now old new =
-    EndsReading e × (journal ≡ []) × (taken_now ≡ taken) × (new ≡ old)
-
 -- What a crash during a run may leave: the folder as it was, where it had no mailbox; or the log
 -- behind some of the lines, or, where the disk failed the next one, that with its group.
 abbrev pub MayLeave : (ℕ → ℕ) → Log → List Attempt → Folder → Folder → Type 0
@@ -98,11 +83,11 @@ pub record ServesLines {S : Type 0} (files : S → Folder) (may_leave : S → Fo
   pub answered : List Attempt
   pub left : List Attempt
   pub rest : List transcripts.Line
-  pub lines : numbered lines ≡ lines_of answered ++ rest
+  pub parts : numbered lines ≡ lines_of answered ++ rest
   pub ends : EndsAt e (behind clock used) base start answered left rest
   pub serial : Serial (play_of (behind clock used) start (answered ++ left)).log base faults
       (numbered lines) (replies_to (behind clock used) (begin start) answered)
-  pub journal : journal ≡ (play_of (behind clock used) start (answered ++ left)).log.entries
+  pub entries : journal ≡ (play_of (behind clock used) start (answered ++ left)).log.entries
   pub output : told → WritesLines e (behind clock used) start answered left lines taken taken_now
   pub readings : IsAnswered e
       → clock_now ≡ behind clock (used + (play_of (behind clock used) start answered).used)
@@ -144,17 +129,3 @@ RunsOver files may_leave moment left_since clock clock_now base faults lines e j
     taken taken_now old new =
     ServesLines files may_leave moment left_since clock clock_now base faults lines e journal told
     taken taken_now old new
-
--- A run over the lines of a good script: the script couldn't be read after all, and the folder is
--- untouched; or the lines were answered. Then the last line was written.
-pub record IsRun {S : Type 0} (files : S → Folder) (may_leave : S → Folder → Type 0)
-    (moment : S → ℕ) (left_since : S → ℕ → Folder → Type 0) (clock clock_now : ℕ → ℕ)
-    (base faults : ℕ) (lines : List NamedLine) (status : ℕ) (journal : List Entry) (told : Type 0)
-    (taken taken_now : List ℕ) (old new : S) : Type 0 where
-  pub how : End
-  pub between : List ℕ
-  pub runs : IsUnread how journal taken between old new
-      ⊎ RunsOver files may_leave moment left_since clock clock_now base faults lines how journal
-      told taken between old new
-  pub status : IsStatus how status
-  pub concludes : told → Concludes how status between taken_now

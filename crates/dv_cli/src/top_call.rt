@@ -1,22 +1,22 @@
 //! The whole run.
 
-ghost use Rattle.std.specs.Prelude.{◌≡◌, ◌≢◌, ◌⊎◌, ◌^◌, ◌<◌, ◌≤◌, ◌++◌, [], ℕ, All, IfErr, IfOk, List, length, map, string_bytes, true, false, Ok, Err};
+ghost use Rattle.std.specs.Prelude.{◌≡◌, ◌≢◌, ◌⊎◌, ◌^◌, ◌≤◌, ◌++◌, [], ℕ, All, Err, IfErr, IfOk, List, Ok, false, length, map, string_bytes, true, ⊥};
 ghost use Rattle.dv_model.specs.Counts.{Rose};
+ghost use Rattle.dv_model.specs.Journals.{Log};
 ghost use Rattle.dv_shelf.specs.Crashes.{IsSettled};
 ghost use Rattle.dv_shelf.specs.Streams.{Appends};
 ghost use Rattle.dv_formats.specs.Parsing.{ScriptFault, parsed};
 ghost use Rattle.dv_formats.specs.Scripts.{NamedLine};
-ghost use Rattle.dv_script.specs.Sources.{all_named};
-ghost use Rattle.dv_openings.specs.Openings.{Found, IsFound};
-ghost use Rattle.dv_serial.specs.Serves.{IsServable};
-ghost use Rattle.dv_model.specs.Journals.{Log};
-ghost use Rattle.dv_serial.specs.Serves.{TakesUpTo};
-ghost use Rattle.dv_cli.specs.Causes.{AnyRose, HasCauses, HasFault, IsOr, IsReadEnd, IsUntouched, IsWithoutClock, ScriptEnds, counts_of, most_readings};
+ghost use Rattle.dv_serial.specs.Serves.{IsServable, TakesUpTo};
+ghost use Rattle.dv_cli.specs.declared.ending.End.TheVariants as how;
+ghost use Rattle.dv_cli.specs.Causes.{AnyRose, EndsRefused, HasCauses, HasFault, HasRunCause, IsOr, IsReadEnd, IsUntouched, ScriptEnds, TakesByEnd, TakesByStatus, TellsFaults, TellsScript, counts_of, most_readings};
+ghost use Rattle.dv_cli.specs.Endings.{Concludes, IsStatus};
 ghost use Rattle.dv_cli.specs.Outputs.{IsOutput};
 ghost use Rattle.dv_cli.specs.Readings.{read_limit};
 ghost use Rattle.dv_cli.specs.Running.{is_run, usage_text};
-ghost use Rattle.dv_cli.specs.Runs.{IsRun};
+ghost use Rattle.dv_cli.specs.Runs.{RunsOver};
 ghost use Rattle.dv_cli.specs.Starts.{IsTrueFolder, Starts};
+ghost use Rattle.dv_cli.specs.Wholes.{IsRefused, IsRun, IsUnread};
 ghost use Rattle.dv_cli.specs.Words.{Prints};
 
 use crate::ending::{End, conclude};
@@ -88,10 +88,64 @@ fn run_script<S: Shelf, I: Source, O: Sink, C: Clock, G: Gate>(
     out: &mut O,
     clock: C,
     gate: &G,
-) -> Outcome<S, C> {
+) -> Outcome<S, C>
+    // The lines of a good script are answered, unless it couldn't be read.
+    ensures runs { S.tells → C.tells → I.tells → IsSettled S.files S.may_leave shelf →
+        IsTrueFolder (S.files shelf) → (lines : List NamedLine) →
+        parsed (I.left script.old) ≡ Ok lines →
+        IsUnread result.end result.journal (O.taken out.old) (O.taken out.new) shelf result.shelf
+        ⊎ RunsOver S.files S.may_leave S.moment S.left_since (C.upcoming clock)
+        (C.upcoming result.clock) (S.fault_count shelf) (S.fault_count result.shelf) lines
+        result.end result.journal O.tells (O.taken out.old) (O.taken out.new) shelf result.shelf }
+    // One that is refused leaves everything but its source untouched.
+    ensures refused { I.tells → (fault : ScriptFault) → parsed (I.left script.old) ≡ Err fault →
+        IsUntouched shelf result.shelf clock result.clock result.journal
+        × EndsRefused fault result.end × (out.new ≡ out.old) }
+    // What the script and the folder hold is told, and each end has its cause.
+    ensures script { I.tells → TellsScript (parsed (I.left script.old)) result.end }
+    ensures found { S.tells → TellsFaults (S.files shelf) result.end }
+    ensures cause { HasRunCause
+        (counts_of (S.fault_count shelf) (I.fault_count script.old) (O.fault_count out.old))
+        (counts_of (S.fault_count result.shelf) (I.fault_count script.new) (O.fault_count out.new))
+        result.end }
+    ensures bound { I.tells → (taken : List ℕ)
+        × (I.left script.old ≡ taken ++ I.left script.new) × (length taken ≤ read_limit) }
+    // How often the clock is read.
+    ensures readings { C.tells → I.tells → (lines : List NamedLine) →
+        parsed (I.left script.old) ≡ Ok lines →
+        TakesUpTo (most_readings (length lines)) (C.upcoming clock) (C.upcoming result.clock) }
+    ensures unread { C.tells →
+        TakesByEnd (C.upcoming clock) (C.upcoming result.clock) result.end }
+{
     match script_lines(alloc, script) {
         Ok(lines) => run_folder(alloc, lines.as_slice(), shelf, clock, out, gate),
         Err(end) => untouched(alloc, shelf, clock, end),
+    }
+}
+
+/// What a run leaves whose last line is written now.
+fn conclude_run<S, C, O: Sink>(alloc: Global, out: &mut O, outcome: Outcome<S, C>) -> Ran<S, C>
+    ensures text { O.tells →
+        Concludes outcome.end result.status (O.taken out.old) (O.taken out.new) }
+    ensures status { IsStatus outcome.end result.status }
+    ensures later { O.fault_count out.old ≤ O.fault_count out.new }
+    ensures cause { result.status ≡ 7 →
+        (outcome.end ≡ how.Sink) ⊎ Rose (O.fault_count out.old) (O.fault_count out.new) }
+    ensures same { (result.shelf ≡ outcome.shelf) × (result.clock ≡ outcome.clock)
+        × (result.journal ≡ outcome.journal) }
+{
+    let Outcome {
+        end,
+        shelf,
+        clock,
+        journal,
+    } = outcome;
+    let status = conclude(alloc, out, &end);
+    Ran {
+        status,
+        shelf,
+        clock,
+        journal,
     }
 }
 
@@ -116,8 +170,10 @@ pub fn run<S: Shelf + Send, I: Source, O: Sink, C: Clock + Send, G: Gate + Sync>
         IsSettled S.files S.may_leave shelf → IsTrueFolder (S.files shelf) →
         (lines : List NamedLine) → parsed (I.left script.old) ≡ Ok lines →
         IsRun S.files S.may_leave S.moment S.left_since (C.upcoming clock) (C.upcoming result.clock)
-        (S.fault_count shelf) (S.fault_count result.shelf) lines result.status result.journal
-        O.tells (O.taken out.old) (O.taken out.new) shelf result.shelf }
+        (counts_of (S.fault_count shelf) (I.fault_count script.old) (O.fault_count out.old))
+        (counts_of (S.fault_count result.shelf) (I.fault_count script.new) (O.fault_count out.new))
+        lines result.status result.journal O.tells (O.taken out.old) (O.taken out.new) shelf
+        result.shelf }
 
     // Words that aren't those of a run leave everything untouched, and a script that is refused leaves
     // folder and clock so; what is written then.
@@ -127,11 +183,10 @@ pub fn run<S: Shelf + Send, I: Source, O: Sink, C: Clock + Send, G: Gate + Sync>
         × (O.tells → Prints 1 usage_text result.status (O.taken out.old) (O.taken out.new)) }
     ensures refused { is_run (map string_bytes words.now) ≡ true → I.tells →
         (fault : ScriptFault) → parsed (I.left script.old) ≡ Err fault →
-        IsUntouched shelf result.shelf clock result.clock result.journal
-        × IsOr 5 result.status
+        IsUntouched shelf result.shelf clock result.clock result.journal × IsRefused fault
         (counts_of (S.fault_count shelf) (I.fault_count script.old) (O.fault_count out.old))
-        (counts_of (S.fault_count result.shelf) (I.fault_count script.new)
-        (O.fault_count out.new)) }
+        (counts_of (S.fault_count result.shelf) (I.fault_count script.new) (O.fault_count out.new))
+        result.status O.tells (O.taken out.old) (O.taken out.new) }
 
     // What each status comes from; where a fault is found in the folder it is 3, and else 0, unless
     // memory runs out or something outside fails.
@@ -166,31 +221,19 @@ pub fn run<S: Shelf + Send, I: Source, O: Sink, C: Clock + Send, G: Gate + Sync>
         (S.files shelf) text }
 
     // At most one byte more than the longest script is read. The clock is read once at most for a
-    // mailbox that is made, and twice at most for each line; not at all where no line is served.
+    // mailbox that is made, and twice at most for each line; not at all where the words, the script
+    // or the folder are refused, and once at most where the disk fails before the first line.
     ensures bound { I.tells → (taken : List ℕ)
         × (I.left script.old ≡ taken ++ I.left script.new) × (length taken ≤ read_limit) }
     ensures readings { C.tells → I.tells → (lines : List NamedLine) →
         parsed (I.left script.old) ≡ Ok lines →
         TakesUpTo (most_readings (length lines)) (C.upcoming clock) (C.upcoming result.clock) }
-    ensures unread { C.tells → IsWithoutClock result.status →
-        C.upcoming result.clock ≡ C.upcoming clock }
+    ensures unread { C.tells → TakesByStatus result.status (C.upcoming clock)
+        (C.upcoming result.clock) }
 {
-    let outcome = if is_run_word(words) {
-        run_script(alloc, shelf, script, out, clock, gate)
-    } else {
-        untouched(alloc, shelf, clock, End::Usage)
-    };
-    let Outcome {
-        end,
-        shelf,
-        clock,
-        journal,
-    } = outcome;
-    let status = conclude(alloc, out, &end);
-    Ran {
-        status,
-        shelf,
-        clock,
-        journal,
+    if !is_run_word(words) {
+        return conclude_run(alloc, out, untouched(alloc, shelf, clock, End::Usage));
     }
+    let outcome = run_script(alloc, shelf, script, out, clock, gate);
+    conclude_run(alloc, out, outcome)
 }
