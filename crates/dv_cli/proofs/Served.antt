@@ -190,11 +190,11 @@ module _ {S C : Type 0} (files : S → Folder) (may_leave : S → Folder → Typ
       answered = runs.answered;
       left = runs.left;
       rest = runs.rest;
-      lines = runs.lines;
+      parts = runs.parts;
       ends = ends_at time base start runs.answered runs.left runs.rest result new.mark (length new.journal) runs.leaves.keeps.at.mark (ap length runs.leaves.keeps.at.journal) runs.ends;
-      serial = subst (λ (ls : List Line). Serial (play_of time start all).log base faults ls (replies_to time (begin start) runs.answered)) (sym runs.lines)
+      serial = subst (λ (ls : List Line). Serial (play_of time start all).log base faults ls (replies_to time (begin start) runs.answered)) (sym runs.parts)
           (serial_left time start base faults runs.answered runs.may runs.left runs.rest (first_of time base start runs.answered runs.left runs.rest result runs.ends));
-      journal = sym runs.leaves.keeps.at.journal;
+      entries = sym runs.leaves.keeps.at.journal;
       output = λ tells. writes_lines time start runs.answered runs.left lines result new.mark (length new.journal) taken taken_now (runs.output tells);
       readings = has_read clock begun.used (play_of time start runs.answered).used (upcoming new.store.clock) result new.mark (length new.journal) runs.readings;
       folder = kept (files new.store.shelf) there;
@@ -222,10 +222,10 @@ module _ {S C : Type 0} (files : S → Folder) (may_leave : S → Folder → Typ
       answered = [];
       left = [];
       rest = numbered lines;
-      lines = refl;
+      parts = refl;
       ends = none_ends (numbered lines);
       serial = serial time start base faults [] (may_start faults later) (numbered lines);
-      journal = sym bare.entries;
+      entries = sym bare.entries;
       output = λ tells. sym (append-nil taken);
       readings = λ answered. absurd answered;
       folder = none_kept (files store.shelf) there;

@@ -1,6 +1,6 @@
 //! The mailbox of a folder is opened, or made where there is none.
 
-ghost use Rattle.std.specs.Prelude.{◌≡◌, ⊥, IfErr, IfOk, MatchBool};
+ghost use Rattle.std.specs.Prelude.{◌≡◌, IfErr, IfOk, MatchBool};
 ghost use Rattle.dv_model.specs.Journals.{IsU32};
 ghost use Rattle.dv_shelf.specs.Crashes.{IsSettled};
 ghost use Rattle.dv_shelf.specs.declared.shelf.Name.{Name};
