@@ -7,18 +7,24 @@ mod opening;
 mod program;
 mod reading;
 mod running;
+#[cfg(test)]
+mod tests;
 mod top_call;
 
 use crate::errors::ErrorOutput;
 use crate::program::obey_read;
 use dv_folder::Output;
+use std::alloc::AllocError;
 use std::env;
 use std::process::ExitCode;
 
 fn main(rt: HostRuntime) -> ExitCode {
     let read = match env::args(&rt) {
-        // the first is the program's own name
-        Ok(words) => Ok(words.skip(1).collect(rt.alloc())),
+        Ok(words) => {
+            // the first is the program's own name
+            let texts: Result<Vec<String>, AllocError> = words.skip(1).collect(rt.alloc());
+            Ok(texts)
+        }
         Err(e) => Err(e.kind()),
     };
     let mut out = Output::new(rt);
