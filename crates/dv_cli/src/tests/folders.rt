@@ -55,7 +55,7 @@ fn a_check_writes_its_group_and_a_snapshot(rt: HostRuntime) -> Result<(), Fail> 
     let (_, group) = log.as_slice().split_at(92.min(log.len()));
     assert!(rt; group == CHECKED);
     let index = bytes_of(alloc, &mut left.shelf, Name::Index);
-    assert_eq!(rt; index.len(), 128);
+    assert_eq!(rt; index.len(), 136);
     Ok(())
 }
 
@@ -108,6 +108,34 @@ fn a_log_without_its_closed_place_is_mended(rt: HostRuntime) -> Result<(), Fail>
 // The header of a second file, behind a first one that ends at place 92.
 const SECOND: &[u8] = b"\x01\x03\x28\x00\xe8\x03\x00\x00\x02\x00\x00\x00\x01\x00\x00\x00\
     \x5c\x00\x00\x00\xe8\x03\x00\x00\x01\x00\x00\x00\x00\x00\x00\x00\x01\x00\x00\x00\x00\x00\x00\x00";
+
+// Snapshots of the older version, of one message: at place 72 without flags, and at 92 with `\Seen`.
+const OLD_INDEX: &[u8] = b"\xc9\x01\x78\x00\x78\x00\x00\x00\x08\x00\x00\x00\x00\x00\x00\x00\xe8\x03\x00\x00\x00\x00\x00\x00\
+    \xe8\x03\x00\x00\x02\x00\x00\x00\x01\x00\x00\x00\x01\x00\x00\x00\x48\x00\x00\x00\x00\x00\x00\x00\x00\x00\x00\x00\
+    \x00\x00\x00\x00\x00\x00\x00\x00\x00\x00\x00\x00\x00\x00\x00\x00";
+const OLD_SEEN_INDEX: &[u8] = b"\xc9\x01\x78\x00\x78\x00\x00\x00\x08\x00\x00\x00\x00\x00\x00\x00\xe8\x03\x00\x00\x00\x00\x00\x00\
+    \xe8\x03\x00\x00\x02\x00\x00\x00\x01\x00\x00\x00\x01\x00\x00\x00\x5c\x00\x00\x00\x00\x00\x00\x00\x00\x00\x00\x00\
+    \x00\x00\x00\x00\x00\x00\x00\x00\x01\x00\x00\x00\x00\x00\x00\x00";
+const ZEROS: &[u8] = &[0; 52];
+const ROW: &[u8] = b"\x01\x00\x00\x00\x00\x00\x00\x00";
+const SEEN_ROW: &[u8] = b"\x01\x00\x00\x00\x08\x00\x00\x00";
+
+#[test]
+fn an_old_snapshot_numbers_its_rows_by_the_log(rt: HostRuntime) -> Result<(), Fail> {
+    let alloc = rt.alloc();
+    let log: (Name, &[&[u8]]) = (Name::Log, &[HEADER, VALIDITY, APPEND, SEEN, CLOSED]);
+    let before: (Name, &[&[u8]]) = (Name::Index, &[OLD_INDEX, ZEROS, ROW]);
+    let behind: (Name, &[&[u8]]) = (Name::Index, &[OLD_SEEN_INDEX, ZEROS, SEEN_ROW]);
+    for index in [before, behind] {
+        let script = b"a SELECT\na FETCH 1 (MODSEQ)\na CHECK\n";
+        let mut left = left_by(alloc, &[log, index], script)?;
+        let told = super::count_of(left.output.as_slice(), b"a * 1 FETCH (UID 1 MODSEQ (4))\n");
+        assert_eq!(rt; told, 1);
+        let index = bytes_of(alloc, &mut left.shelf, Name::Index);
+        assert!(rt; index.as_slice().starts_with(b"\xc9\x02\x78\x00"));
+    }
+    Ok(())
+}
 
 /// A folder with a snapshot that a CHECK over these files makes, and with these other files.
 fn joined(
