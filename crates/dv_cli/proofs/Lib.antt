@@ -13,3 +13,5 @@ pub mod NewFolders
 pub mod Served
 mod Parsed
 mod WholeRuns
+mod WrongWords
+mod Reached

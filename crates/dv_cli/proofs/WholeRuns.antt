@@ -315,3 +315,13 @@ pub usage_output : (words : List (List ℕ)) (read : Result (List NamedLine) Scr
 usage_output words read clock folder status old new is told not-four not-seven =
     (usage_text, (told_plainly end.Usage status old new told not-four not-seven).1,
     subst (λ (b : Bool). elim b [ true ↦ IsOutputBy read clock folder usage_text | false ↦ usage_text ≡ usage_text ]) (sym is) refl)
+
+-- by what the script says
+pub script_output : (read : Result (List NamedLine) ScriptFault) (clock : ℕ → ℕ) (folder : Folder)
+    (old new : List ℕ)
+    → ((lines : List NamedLine) → read ≡ Ok lines
+    → Writes old new (IsOutputBy (Ok lines) clock folder))
+    → ((f : ScriptFault) → read ≡ Err f → Writes old new (IsOutputBy (Err f) clock folder))
+    → Writes old new (IsOutputBy read clock folder)
+script_output (Ok lines) clock folder old new good bad = good lines refl
+script_output (Err f) clock folder old new good bad = bad f refl

@@ -8,9 +8,7 @@ ghost use Rattle.dv_shelf.specs.Streams.{Appends};
 ghost use Rattle.dv_formats.specs.Parsing.{ScriptFault, parsed};
 ghost use Rattle.dv_formats.specs.Scripts.{NamedLine};
 ghost use Rattle.dv_serial.specs.Serves.{IsServable, TakesUpTo};
-ghost use Rattle.dv_cli.specs.declared.ending.End.TheVariants as how;
 ghost use Rattle.dv_cli.specs.Causes.{AnyRose, EndsRefused, HasCauses, HasFault, HasRunCause, IsOr, IsReadEnd, IsUntouched, ScriptEnds, TakesByEnd, TakesByStatus, TellsFaults, TellsScript, counts_of, most_readings};
-ghost use Rattle.dv_cli.specs.Endings.{Concludes, IsStatus};
 ghost use Rattle.dv_cli.specs.Outputs.{IsOutput};
 ghost use Rattle.dv_cli.specs.Readings.{read_limit};
 ghost use Rattle.dv_cli.specs.Running.{is_run, usage_text};
@@ -128,32 +126,6 @@ fn run_script<S: Shelf, I: Source, O: Sink, C: Clock, G: Gate>(
     }
 }
 
-/// What a run leaves whose last line is written now.
-fn conclude_run<S, C, O: Sink>(alloc: Global, out: &mut O, outcome: Outcome<S, C>) -> Ran<S, C>
-    ensures text { O.tells →
-        Concludes outcome.end result.status (O.taken out.old) (O.taken out.new) }
-    ensures status { IsStatus outcome.end result.status }
-    ensures later { O.fault_count out.old ≤ O.fault_count out.new }
-    ensures cause { result.status ≡ 7 →
-        (outcome.end ≡ how.Sink) ⊎ Rose (O.fault_count out.old) (O.fault_count out.new) }
-    ensures same { (result.shelf ≡ outcome.shelf) × (result.clock ≡ outcome.clock)
-        × (result.journal ≡ outcome.journal) }
-{
-    let Outcome {
-        end,
-        shelf,
-        clock,
-        journal,
-    } = outcome;
-    let status = conclude(alloc, out, &end);
-    Ran {
-        status,
-        shelf,
-        clock,
-        journal,
-    }
-}
-
 /// Serves a mailbox folder to the sessions of a script: opens its mailbox, or makes one, answers
 /// each line, and writes the replies and a last line. `words` are the program's words behind the
 /// folder's name.
@@ -237,8 +209,25 @@ pub fn run<S: Shelf + Send, I: Source, O: Sink, C: Clock + Send, G: Gate + Sync>
         (C.upcoming result.clock) }
 {
     if !is_run_word(words) {
-        return conclude_run(alloc, out, untouched(alloc, shelf, clock, End::Usage));
+        let status = conclude(alloc, out, &End::Usage);
+        return Ran {
+            status,
+            shelf,
+            clock,
+            journal: List::new(alloc),
+        };
     }
-    let outcome = run_script(alloc, shelf, script, out, clock, gate);
-    conclude_run(alloc, out, outcome)
+    let Outcome {
+        end,
+        shelf,
+        clock,
+        journal,
+    } = run_script(alloc, shelf, script, out, clock, gate);
+    let status = conclude(alloc, out, &end);
+    Ran {
+        status,
+        shelf,
+        clock,
+        journal,
+    }
 }
