@@ -25,7 +25,7 @@ parsed_front script = ⊎_elim whole cut (cases_lt read_limit (length script))
 
 -- ---- the lines that were read
 
-lines_in : Result (List NamedLine) ScriptFault → List NamedLine → List NamedLine
+abbrev lines_in : Result (List NamedLine) ScriptFault → List NamedLine → List NamedLine
 lines_in (Ok lines) other = lines
 lines_in (Err fault) other = other
 

@@ -104,10 +104,14 @@ read_takes_none before now old new (end.Script s) is same = same
 read_takes_none before now old new (end.Source faults) is same = same
 read_takes_none before now old new end.Sink is same = tt
 
+abbrev IsGood : Result (List NamedLine) ScriptFault → Type 0
+IsGood (Ok lines) = Unit {0}
+IsGood (Err f) = ⊥
+
 good_script : (read : Result (List NamedLine) ScriptFault) (lines : List NamedLine)
     (f : ScriptFault) → read ≡ Ok lines → read ≡ Err f → ⊥
 good_script read lines f good bad =
-    subst (λ (r : Result (List NamedLine) ScriptFault). elim r [ Ok x ↦ Unit {0} | Err y ↦ ⊥ ]) (sym good ∙ bad) tt
+    subst IsGood (sym good ∙ bad) tt
 
 script_reading : (read : Result (List NamedLine) ScriptFault) (lines : List NamedLine)
     (s : ScriptEnd) → ScriptFails s read → read ≡ Ok lines → EndsReading (end.Script s)

@@ -62,11 +62,15 @@ unopened_well status before now (fault.BadRecord offset) cause is = inl (is, ref
 unopened_well status before now fault.BadIndex cause is = inl (is, refl)
 unopened_well status before now (fault.Gap index log) cause is = inl (is, refl)
 
+abbrev IsGood : Result (List NamedLine) ScriptFault → Type 0
+IsGood (Ok lines) = Unit {0}
+IsGood (Err f) = ⊥
+
 -- the lines of a script have no fault
 good_script : (read : Result (List NamedLine) ScriptFault) (lines : List NamedLine)
     (f : ScriptFault) → read ≡ Ok lines → read ≡ Err f → ⊥
 good_script read lines f good bad =
-    subst (λ (r : Result (List NamedLine) ScriptFault). elim r [ Ok x ↦ Unit {0} | Err y ↦ ⊥ ]) (sym good ∙ bad) tt
+    subst IsGood (sym good ∙ bad) tt
 
 script_well : (status : ℕ) (before now : Counts) (read : Result (List NamedLine) ScriptFault)
     (lines : List NamedLine) (s : ScriptEnd) → read ≡ Ok lines → TellsScript read (end.Script s)
@@ -163,7 +167,7 @@ abbrev pub Writes : List ℕ → List ℕ → (List ℕ → Type 0) → Type 0
 Writes old new Is = (text : List ℕ) × Appends old new text × Is text
 
 -- of a script that is refused
-fault_text_of : Result (List NamedLine) ScriptFault → List ℕ
+abbrev fault_text_of : Result (List NamedLine) ScriptFault → List ℕ
 fault_text_of (Ok lines) = []
 fault_text_of (Err f) = script_fault_text f
 
@@ -306,7 +310,7 @@ pub words_output : (words : List (List ℕ)) (read : Result (List NamedLine) Scr
     → Writes old new (IsOutputBy read clock folder)
     → Writes old new (λ text. elim (is_run words) [ true ↦ IsOutputBy read clock folder text | false ↦ text ≡ usage_text ])
 words_output words read clock folder old new is out =
-    (out.0, out.1, subst (λ (b : Bool). elim b [ true ↦ IsOutputBy read clock folder out.0 | false ↦ out.0 ≡ usage_text ]) (sym is) out.2)
+    (out.0, out.1, rw is out.2)
 
 pub usage_output : (words : List (List ℕ)) (read : Result (List NamedLine) ScriptFault)
     (clock : ℕ → ℕ) (folder : Folder) (status : ℕ) (old new : List ℕ) → is_run words ≡ false
@@ -314,7 +318,7 @@ pub usage_output : (words : List (List ℕ)) (read : Result (List NamedLine) Scr
     → Writes old new (λ text. elim (is_run words) [ true ↦ IsOutputBy read clock folder text | false ↦ text ≡ usage_text ])
 usage_output words read clock folder status old new is told not-four not-seven =
     (usage_text, (told_plainly end.Usage status old new told not-four not-seven).1,
-    subst (λ (b : Bool). elim b [ true ↦ IsOutputBy read clock folder usage_text | false ↦ usage_text ≡ usage_text ]) (sym is) refl)
+    rw is refl)
 
 -- by what the script says
 pub script_output : (read : Result (List NamedLine) ScriptFault) (clock : ℕ → ℕ) (folder : Folder)

@@ -51,7 +51,7 @@ returns-in-Ok-clause-readings g c = λ clock_tells script_tells lines is.
     let same : all_named c.as_slice.result.now ≡ lines =
         ap all_named c.as_slice.ensures ∙ same_lines (parsed (g.I.Source.left c.args.script.now)) _ lines (c.in-Ok.ensures.lines script_tells) is in
     let many : length c.as_slice.result.now ≡ length lines =
-        sym (length-map named c.as_slice.result.now) ∙ ap (λ (ls : List NamedLine). length ls) same in
+        sym (length-map c.as_slice.result.now named) ∙ ap (λ (ls : List NamedLine). length ls) same in
     subst (λ (n : ℕ). TakesUpTo (most_readings n) (C.upcoming c.args.clock) (C.upcoming c.run_folder.result.clock)) many
     (run_takes _ _ _ c.run_folder.result.end (c.run_folder.ensures.readings clock_tells))
 
