@@ -1,20 +1,17 @@
-pub mod RowLines
-pub mod Steps
-pub mod Serves
-pub mod Available
-pub mod Serials
-pub mod Concluding
-pub mod LineLaws
+mod Concluding
+mod AllServed
+mod FoundStarts
+mod Statuses
+mod Takes
+pub mod GuidFiles
+pub mod Starting
+pub mod Opened
+pub mod Created
+pub mod Looked
+pub mod Timed
 pub mod NewFolders
-pub mod Runs
-pub mod Parsed
-pub mod FolderRuns
-pub mod Counted
-pub mod Ends
-pub mod Left
-pub mod Crashes
-pub mod CrashLines
-pub mod CrashMade
-pub mod CrashRuns
-pub mod Outputs
-pub mod LinesOf
+pub mod Served
+mod Parsed
+mod WholeRuns
+mod WrongWords
+mod Reached

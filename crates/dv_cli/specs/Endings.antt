@@ -1,17 +1,28 @@
 -- How a run ends: its status and its last line.
 use Rattle.std.specs.Prelude.{◌≡◌, ◌⊎◌, ℕ, Bool, true, false, List, []}
+use Rattle.dv_model.specs.declared.types.OpenFault.{OpenFault}
+use Rattle.dv_model.specs.declared.types.OpenFault.TheVariants as fault
 use Rattle.dv_script.specs.declared.types.ScriptEnd.TheVariants as script
 use Rattle.dv_cli.specs.declared.ending.End.{End}
 use Rattle.dv_cli.specs.declared.ending.End.TheVariants as end
 use Rattle.dv_shelf.specs.Streams.{Appends, AppendsFront}
-use Rattle.dv_cli.specs.Running.{end_text, usage_text, disk_text, later_text, memory_text, script_text, source_text}
+use Rattle.dv_cli.specs.Running.{end_text, usage_text, fault_text, memory_text, script_text, source_text}
+
+-- the status by why the folder's mailbox isn't opened
+abbrev pub fault_status : OpenFault → ℕ
+fault_status (fault.Disk faults) = 2
+fault_status fault.NoMemory = 4
+fault_status other = 3
+
+-- what the folder holds is why, neither memory nor a failure
+abbrev pub IsFault : OpenFault → Type 0
+IsFault f = fault_status f ≡ 3
 
 -- the exit status of a run that ends so
 abbrev pub status_of : End → ℕ
 status_of (end.Answered mark groups) = 0
 status_of end.Usage = 1
-status_of (end.Disk faults) = 2
-status_of end.Later = 3
+status_of (end.Unopened f) = fault_status f
 status_of end.NoMemory = 4
 status_of (end.Script script.NoMemory) = 4
 status_of (end.Script fault) = 5
@@ -22,8 +33,7 @@ status_of end.Sink = 7
 abbrev pub text_of : End → List ℕ
 text_of (end.Answered mark groups) = end_text mark groups
 text_of end.Usage = usage_text
-text_of (end.Disk faults) = disk_text faults
-text_of end.Later = later_text
+text_of (end.Unopened f) = fault_text f
 text_of end.NoMemory = memory_text
 text_of (end.Script fault) = script_text fault
 text_of (end.Source faults) = source_text faults
@@ -32,17 +42,19 @@ text_of end.Sink = []
 -- its line takes no memory
 abbrev pub is_plain : End → Bool
 is_plain end.Usage = true
-is_plain end.Later = true
 is_plain end.NoMemory = true
 is_plain end.Sink = true
 is_plain e = false
 
 -- the status is the end's, unless memory for the last line ran out or the output failed
 abbrev pub IsStatus : End → ℕ → Type 0
-IsStatus e status = (status ≡ status_of e) ⊎ ((is_plain e ≡ false) × (status ≡ 4)) ⊎ (status ≡ 7)
+IsStatus e status =
+    (status ≡ status_of e) ⊎ ((is_plain e ≡ false) × (status ≡ 4)) ⊎ (status ≡ 7)
 
 -- the last line was written, or that of want of memory, or a front of either where the output failed
 abbrev pub Concludes : End → ℕ → List ℕ → List ℕ → Type 0
 Concludes e status old new =
-    ((status ≡ status_of e) × Appends old new (text_of e)) ⊎ ((is_plain e ≡ false) × (status ≡ 4) × Appends old new memory_text)
-    ⊎ ((status ≡ 7) × AppendsFront old new (text_of e)) ⊎ ((is_plain e ≡ false) × (status ≡ 7) × AppendsFront old new memory_text)
+    ((status ≡ status_of e) × Appends old new (text_of e))
+    ⊎ ((is_plain e ≡ false) × (status ≡ 4) × Appends old new memory_text)
+    ⊎ ((status ≡ 7) × AppendsFront old new (text_of e))
+    ⊎ ((is_plain e ≡ false) × (status ≡ 7) × AppendsFront old new memory_text)

@@ -1,12 +1,13 @@
-ghost use Rattle.std.specs.Prelude.{◌≡◌, ◌⊎◌, ◌++◌, ◌∷◌, [], ℕ, codes, decimal, IfOk};
+ghost use Rattle.std.specs.Prelude.{◌≡◌, ◌⊎◌, ◌++◌, ◌∷◌, [], ℕ, codes, decimal, IfOk, OnOk};
 ghost use Rattle.std.specs.Prelude.{◌<◌, ◌≤◌, false};
 ghost use Rattle.dv_model.specs.Counts.{Rose};
 ghost use Rattle.dv_shelf.specs.Streams.{Appends, AppendsFront};
 ghost use Rattle.dv_cli.specs.declared.ending.End.TheVariants as how;
 ghost use Rattle.dv_cli.specs.Endings.{status_of, text_of, Concludes, IsStatus, is_plain};
-ghost use Rattle.dv_cli.specs.Running.{end_text, disk_text, source_text, script_text, memory_text};
+ghost use Rattle.dv_model.specs.declared.types.OpenFault.TheVariants as fault;
+ghost use Rattle.dv_cli.specs.Running.{end_text, fault_text, memory_text, place_text, script_text, source_text};
 
-use dv_model::{Bytes, List, Mark, NoMemory};
+use dv_model::{Bytes, List, Mark, NoMemory, OpenFault};
 use dv_script::{ScriptEnd, decimal_text, mark_text};
 use dv_shelf::Sink;
 use std::alloc::Global;
@@ -18,10 +19,8 @@ pub enum End {
     Answered { mark: Mark, groups: u64 },
     /// The words aren't those of a run.
     Usage,
-    /// A call on the folder failed; the count of its faults.
-    Disk(u64),
-    /// The folder has a mailbox, which isn't opened yet.
-    Later,
+    /// The folder isn't opened or made.
+    Unopened(OpenFault),
     NoMemory,
     /// The script is refused.
     Script(ScriptEnd),
@@ -38,8 +37,9 @@ fn status(end: &End) -> u8
     match end {
         End::Answered { .. } => 0,
         End::Usage => 1,
-        End::Disk(_) => 2,
-        End::Later => 3,
+        End::Unopened(OpenFault::Disk(_)) => 2,
+        End::Unopened(OpenFault::NoMemory) => 4,
+        End::Unopened(_) => 3,
         End::NoMemory => 4,
         End::Script(ScriptEnd::NoMemory) => 4,
         End::Script(_) => 5,
@@ -84,6 +84,45 @@ fn script_line(alloc: Global, end: ScriptEnd) -> Result<Bytes, NoMemory>
     }
 }
 
+/// A place of the log: its file and the offset in it.
+fn put_place(line: &mut Bytes, alloc: Global, mark: Mark) -> Result<(), NoMemory>
+    ensures { OnOk result (line.new ≡ line.old ++ place_text mark) }
+{
+    line.extend(decimal_text(alloc, u64::from(mark.file_seq))?.as_slice())?;
+    line.push(b':')?;
+    line.extend(decimal_text(alloc, u64::from(mark.offset))?.as_slice())?;
+    Ok(())
+}
+
+/// The last line of a run whose folder has a snapshot that its log doesn't go on.
+fn gap_line(alloc: Global, index: Mark, log: Mark) -> Result<Bytes, NoMemory>
+    ensures { IfOk result (λ line. line ≡ fault_text (fault.Gap index log)) }
+{
+    let mut line = List::from_slice(alloc, b"FAULT 3 Gap ")?;
+    put_place(&mut line, alloc, index)?;
+    line.push(b' ')?;
+    put_place(&mut line, alloc, log)?;
+    line.push(b'\n')?;
+    Ok(line)
+}
+
+/// The last line of a run whose folder isn't opened or made.
+fn fault_line(alloc: Global, fault: OpenFault) -> Result<Bytes, NoMemory>
+    ensures { IfOk result (λ line. line ≡ fault_text fault) }
+{
+    match fault {
+        OpenFault::Disk(faults) => numbered_line(alloc, b"FAULT 2 DISK ", faults),
+        OpenFault::NoMemory => Ok(List::from_slice(alloc, b"FAULT 4 MEMORY\n")?),
+        OpenFault::NoLog => Ok(List::from_slice(alloc, b"FAULT 3 NoLog\n")?),
+        OpenFault::BadLogHeader => Ok(List::from_slice(alloc, b"FAULT 3 BadLogHeader\n")?),
+        OpenFault::BadRecord { offset } => {
+            numbered_line(alloc, b"FAULT 3 BadRecord ", u64::from(offset))
+        }
+        OpenFault::BadIndex => Ok(List::from_slice(alloc, b"FAULT 3 BadIndex\n")?),
+        OpenFault::Gap { index, log } => gap_line(alloc, index, log),
+    }
+}
+
 /// The last line of a run that ends so.
 fn last_line(alloc: Global, end: &End) -> Result<Bytes, NoMemory>
     ensures { IfOk result (λ line. line ≡ text_of end.now) }
@@ -91,8 +130,7 @@ fn last_line(alloc: Global, end: &End) -> Result<Bytes, NoMemory>
     match end {
         End::Answered { mark, groups } => end_line(alloc, *mark, *groups),
         End::Usage => Ok(List::from_slice(alloc, b"FAULT 1 USAGE\n")?),
-        End::Disk(faults) => numbered_line(alloc, b"FAULT 2 DISK ", *faults),
-        End::Later => Ok(List::from_slice(alloc, b"FAULT 3 LATER\n")?),
+        End::Unopened(fault) => fault_line(alloc, *fault),
         End::NoMemory => Ok(List::from_slice(alloc, b"FAULT 4 MEMORY\n")?),
         End::Script(fault) => script_line(alloc, *fault),
         End::Source(faults) => numbered_line(alloc, b"FAULT 6 SOURCE ", *faults),
@@ -103,7 +141,9 @@ fn last_line(alloc: Global, end: &End) -> Result<Bytes, NoMemory>
 /// Writes a text and gives the status, or 7 where the output fails.
 pub fn write_text<O: Sink>(out: &mut O, text: &[u8], status: u8) -> u8
     requires { status < 7 }
-    ensures text { O.tells → ((result ≡ status) × Appends (O.taken out.old) (O.taken out.new) text.now) ⊎ ((result ≡ 7) × AppendsFront (O.taken out.old) (O.taken out.new) text.now) }
+    ensures text { O.tells →
+        ((result ≡ status) × Appends (O.taken out.old) (O.taken out.new) text.now)
+        ⊎ ((result ≡ 7) × AppendsFront (O.taken out.old) (O.taken out.new) text.now) }
     ensures status { (result ≡ status) ⊎ (result ≡ 7) }
     ensures later { O.fault_count out.old ≤ O.fault_count out.new }
     ensures cause { result ≡ 7 → Rose (O.fault_count out.old) (O.fault_count out.new) }
@@ -120,11 +160,11 @@ pub fn conclude<O: Sink>(alloc: Global, out: &mut O, end: &End) -> u8
     ensures text { O.tells → Concludes end.now result (O.taken out.old) (O.taken out.new) }
     ensures status { IsStatus end.now result }
     ensures later { O.fault_count out.old ≤ O.fault_count out.new }
-    ensures cause { result ≡ 7 → (end.now ≡ how.Sink) ⊎ Rose (O.fault_count out.old) (O.fault_count out.new) }
+    ensures cause { result ≡ 7 →
+        (end.now ≡ how.Sink) ⊎ Rose (O.fault_count out.old) (O.fault_count out.new) }
 {
     match end {
         End::Usage => write_text(out, b"FAULT 1 USAGE\n", 1),
-        End::Later => write_text(out, b"FAULT 3 LATER\n", 3),
         End::NoMemory => write_text(out, b"FAULT 4 MEMORY\n", 4),
         End::Sink => 7,
         _ => write_formatted(alloc, out, end),

@@ -1,29 +1,28 @@
-ghost use Rattle.std.specs.Prelude.{◌≡◌, ◌≢◌, ◌⊎◌, ◌+◌, ◌^◌, ◌<◌, ◌≤◌, ◌++◌, [], ℕ, Bool, List, All, length, map, string_bytes, true, false, MatchBool, Ok, Err, IfOk, IfErr};
-ghost use Rattle.dv_model.specs.Counts.{Rose};
-ghost use Rattle.dv_shelf.specs.Causes.{Stayed};
-ghost use Rattle.dv_shelf.specs.Crashes.{LeavesOnly, Only};
-ghost use Rattle.dv_shelf.specs.Folders.{Folder};
-ghost use Rattle.dv_shelf.specs.Streams.{Appends, AppendsFront};
-ghost use Rattle.dv_script.specs.declared.types.Line.{Line};
-ghost use Rattle.dv_script.specs.declared.types.ScriptEnd.{ScriptEnd};
-ghost use Rattle.dv_script.specs.declared.types.ScriptEnd.TheVariants as script_end;
-ghost use Rattle.dv_cli.specs.Scripts.{parsed};
-ghost use Rattle.dv_cli.specs.declared.ending.End.TheVariants as how;
-ghost use Rattle.dv_cli.specs.Found.{IsNew, FindsAt};
-ghost use Rattle.dv_cli.specs.Readings.{read_limit};
-ghost use Rattle.dv_cli.specs.Running.{is_run, log_of, stamp, usage_text};
-ghost use Rattle.dv_cli.specs.Runs.{IsScriptEnd, IsReadEnd, FolderRun, EndCause, IsAnswered, IsSerialRun, Leaves, MayLeave, MayLeaveAfter, Cause, Refuses, Untouched, counts_of, output_of, end_of, end_unmade};
-ghost use Rattle.dv_cli.specs.Servings.{HasRead, standing_of};
-ghost use Rattle.dv_cli.specs.Standings.{IsServed};
+//! The whole run.
 
-use crate::creating::{CreateEnd, create_folder};
+ghost use Rattle.std.specs.Prelude.{◌≡◌, ◌≢◌, ◌⊎◌, ◌^◌, ◌≤◌, ◌++◌, [], ℕ, All, Err, IfErr, IfOk, List, Ok, false, length, map, string_bytes, true};
+ghost use Rattle.dv_model.specs.Counts.{Rose};
+ghost use Rattle.dv_model.specs.Journals.{Log};
+ghost use Rattle.dv_shelf.specs.Crashes.{IsSettled};
+ghost use Rattle.dv_shelf.specs.Streams.{Appends};
+ghost use Rattle.dv_formats.specs.Parsing.{ScriptFault, parsed};
+ghost use Rattle.dv_formats.specs.Scripts.{NamedLine};
+ghost use Rattle.dv_serial.specs.Serves.{IsServable, TakesUpTo};
+ghost use Rattle.dv_cli.specs.Causes.{AnyRose, EndsRefused, HasCauses, HasFault, HasRunCause, IsOr, IsReadEnd, IsUntouched, ScriptEnds, TakesByEnd, TakesByStatus, TellsFaults, TellsScript, counts_of, most_readings};
+ghost use Rattle.dv_cli.specs.Outputs.{IsOutput};
+ghost use Rattle.dv_cli.specs.Readings.{read_limit};
+ghost use Rattle.dv_cli.specs.Running.{is_run, usage_text};
+ghost use Rattle.dv_cli.specs.Runs.{RunsOver};
+ghost use Rattle.dv_cli.specs.Starts.{IsTrueFolder, Starts};
+ghost use Rattle.dv_cli.specs.Wholes.{IsRefused, IsRun, IsUnread};
+ghost use Rattle.dv_cli.specs.Words.{Prints};
+
 use crate::ending::{End, conclude};
-use crate::lines::LineEnd;
 use crate::reading::{ReadEnd, read_script};
-use crate::script::parse;
-use crate::serving::Serving;
+use crate::running::{Outcome, run_folder};
 use dv_model::{Entry, List};
-use dv_script::{Line, ScriptEnd};
+use dv_script::{Line, parse};
+use dv_serial::commands_are_servable;
 use dv_shelf::{Clock, Gate, Shelf, Sink, Source};
 use std::alloc::Global;
 
@@ -46,144 +45,90 @@ fn is_run_word(words: &[String]) -> bool
     }
 }
 
-/// The lines of the script.
+/// The outcome where the folder isn't touched.
+fn untouched<S, C>(alloc: Global, shelf: S, clock: C, end: End) -> Outcome<S, C>
+    ensures end { result.end ≡ end }
+    ensures shelf { result.shelf ≡ shelf }
+    ensures clock { result.clock ≡ clock }
+    ensures journal { result.journal ≡ [] }
+{
+    Outcome {
+        end,
+        shelf,
+        clock,
+        journal: List::new(alloc),
+    }
+}
+
+/// The lines of the script, or how a run without them ends.
 fn script_lines<I: Source>(alloc: Global, script: &mut I) -> Result<List<Line>, End>
-    ensures lines { I.tells → IfOk result (λ lines. parsed (I.left script.old) ≡ Ok lines) }
-    ensures served { IfOk result (λ lines. All (λ line. IsServed line.command) lines) }
-    ensures err { I.tells → IfErr result (λ e. IsScriptEnd e (I.left script.old) (I.fault_count script.old) (I.fault_count script.new)) }
-    ensures bound { I.tells → (taken : List ℕ) × (I.left script.old ≡ taken ++ I.left script.new) × (length taken ≤ read_limit) }
+    ensures lines { I.tells → ScriptEnds result (parsed (I.left script.old)) }
+    ensures servable { IfOk result (λ lines. All (λ line. IsServable line.command) lines) }
+    ensures few { IfOk result (λ lines. length lines ≤ 2 ^ 26) }
+    ensures bound { I.tells → (taken : List ℕ)
+        × (I.left script.old ≡ taken ++ I.left script.new) × (length taken ≤ read_limit) }
     ensures later { I.fault_count script.old ≤ I.fault_count script.new }
-    ensures cause { IfErr result (λ e. IsReadEnd e (I.fault_count script.old) (I.fault_count script.new)) }
+    ensures cause { IfErr result (λ e.
+        IsReadEnd e (I.fault_count script.old) (I.fault_count script.new)) }
 {
     let text = match read_script(alloc, script) {
         Ok(text) => text,
         Err(ReadEnd::Source(faults)) => return Err(End::Source(faults)),
         Err(ReadEnd::NoMemory) => return Err(End::NoMemory),
     };
+    commands_are_servable();
     match parse(alloc, text.as_slice()) {
         Ok(lines) => Ok(lines),
         Err(end) => Err(End::Script(end)),
     }
 }
 
-/// How a run ends, and the groups that it wrote.
-struct Outcome {
-    end: End,
-    journal: List<Entry>,
-}
-
-/// Makes the mailbox and answers the lines in it.
-fn serve_folder<S: Shelf, C: Clock, O: Sink, G: Gate>(
+/// Reads the script, and answers its lines in the folder.
+fn run_script<S: Shelf, I: Source, O: Sink, C: Clock, G: Gate>(
     alloc: Global,
-    lines: &[Line],
-    shelf: &mut S,
-    clock: &mut C,
-    out: &mut O,
-    gate: &G,
-) -> Outcome
-    requires { All (λ line. IsServed line.command) lines.now }
-    ensures run { C.tells → FolderRun (C.upcoming clock.old) lines.now result.end result.journal (O.tells) (S.tells) (O.taken out.old) (O.taken out.new) (S.files shelf.old) (S.files shelf.new) }
-    ensures cause { EndCause result.end (S.fault_count shelf.old) (S.fault_count shelf.new) (O.fault_count out.old) (O.fault_count out.new) (S.tells → IsNew (S.files shelf.old)) (S.tells → IsNew (S.files shelf.old) → ⊥) }
-    ensures crash { C.tells → S.tells → Only (S.files shelf.old) (S.may_leave shelf.old) → LeavesOnly S.moment S.left_since shelf.old shelf.new
-        (MayLeave (C.upcoming clock.old) lines.now (Rose (S.fault_count shelf.old) (S.fault_count shelf.new)) result.journal (S.files shelf.old)) }
-    ensures after { C.tells → S.tells → Only (S.files shelf.old) (S.may_leave shelf.old) → (c : Folder) → S.may_leave shelf.new c →
-        MayLeaveAfter (C.upcoming clock.old) lines.now (Rose (S.fault_count shelf.old) (S.fault_count shelf.new)) result.journal (S.files shelf.old) c }
-    ensures durable { C.tells → S.tells → IsAnswered result.end → (c : Folder) → S.may_leave shelf.new c → FindsAt (log_of (C.upcoming clock.old) result.journal) (length result.journal) c }
-    ensures later { (S.fault_count shelf.old ≤ S.fault_count shelf.new) × (O.fault_count out.old ≤ O.fault_count out.new) }
-    ensures clock { C.tells → IsAnswered result.end → HasRead (1 + length result.journal) (C.upcoming clock.old) (C.upcoming clock.new) }
-{
-    let mut serving = match create_folder(alloc, shelf, clock) {
-        Ok(serving) => serving,
-        Err(end) => return unmade(alloc, end),
-    };
-    let result = serving.serve_lines(alloc, shelf, clock, out, gate, lines);
-    ended(serving, result)
-}
-
-/// The outcome where no mailbox was made.
-fn unmade(alloc: Global, end: CreateEnd) -> Outcome
-    ensures end { result.end ≡ end_unmade end }
-    ensures journal { result.journal ≡ [] }
-{
-    let end = match end {
-        CreateEnd::NoMemory => End::NoMemory,
-        CreateEnd::Disk(faults) => End::Disk(faults),
-        CreateEnd::Later => End::Later,
-    };
-    Outcome {
-        end,
-        journal: List::new(alloc),
-    }
-}
-
-/// The outcome behind the lines.
-fn ended(serving: Serving, served: Result<(), LineEnd>) -> Outcome
-    ensures end { result.end ≡ end_of (standing_of serving) served }
-    ensures journal { result.journal ≡ serving.journal.items }
-{
-    let end = match served {
-        Ok(()) => End::Answered {
-            mark: serving.mark(),
-            groups: serving.journal.len() as u64,
-        },
-        Err(LineEnd::NoMemory) => End::NoMemory,
-        Err(LineEnd::Disk(faults)) => End::Disk(faults),
-        Err(LineEnd::Sink) => End::Sink,
-    };
-    let Serving { journal, .. } = serving;
-    Outcome {
-        end,
-        journal: List::from_vec(journal),
-    }
-}
-
-/// Everything but the last line.
-fn whole<S: Shelf, I: Source, O: Sink, C: Clock, G: Gate>(
-    alloc: Global,
-    words: &[String],
-    shelf: &mut S,
+    shelf: S,
     script: &mut I,
     out: &mut O,
-    clock: &mut C,
+    clock: C,
     gate: &G,
-) -> Outcome
-    ensures reading { C.tells → stamp (C.upcoming clock.old 0) < 2 ^ 32 }
-    ensures usage { is_run (map string_bytes words.now) ≡ false → (result.end ≡ how.Usage) × Untouched shelf.old shelf.new out.old out.new clock.old clock.new result.journal }
-    ensures refused { is_run (map string_bytes words.now) ≡ true → I.tells → (fault : ScriptEnd) → parsed (I.left script.old) ≡ Err fault →
-        IsScriptEnd result.end (I.left script.old) (I.fault_count script.old) (I.fault_count script.new) × Untouched shelf.old shelf.new out.old out.new clock.old clock.new result.journal }
-    ensures run { is_run (map string_bytes words.now) ≡ true → I.tells → C.tells → (lines : List Line) → parsed (I.left script.old) ≡ Ok lines →
-        (IsScriptEnd result.end (I.left script.old) (I.fault_count script.old) (I.fault_count script.new) × Untouched shelf.old shelf.new out.old out.new clock.old clock.new result.journal)
-        ⊎ FolderRun (C.upcoming clock.old) lines result.end result.journal (O.tells) (S.tells) (O.taken out.old) (O.taken out.new) (S.files shelf.old) (S.files shelf.new) }
-    ensures crash { is_run (map string_bytes words.now) ≡ true → I.tells → C.tells → S.tells → Only (S.files shelf.old) (S.may_leave shelf.old) → (lines : List Line) → parsed (I.left script.old) ≡ Ok lines →
-        LeavesOnly S.moment S.left_since shelf.old shelf.new (MayLeave (C.upcoming clock.old) lines (Rose (S.fault_count shelf.old) (S.fault_count shelf.new)) result.journal (S.files shelf.old)) }
-    ensures after { is_run (map string_bytes words.now) ≡ true → I.tells → C.tells → S.tells → Only (S.files shelf.old) (S.may_leave shelf.old) → (lines : List Line) → parsed (I.left script.old) ≡ Ok lines →
-        (c : Folder) → S.may_leave shelf.new c → MayLeaveAfter (C.upcoming clock.old) lines (Rose (S.fault_count shelf.old) (S.fault_count shelf.new)) result.journal (S.files shelf.old) c }
-    ensures durable { C.tells → S.tells → IsAnswered result.end → (c : Folder) → S.may_leave shelf.new c → FindsAt (log_of (C.upcoming clock.old) result.journal) (length result.journal) c }
-    ensures cause { Cause result.end (counts_of (S.fault_count shelf.old) (S.fault_count shelf.new) (I.fault_count script.old) (I.fault_count script.new)) (O.fault_count out.old) (O.fault_count out.new) (map string_bytes words.now)
-        (λ e. I.tells → (e ≡ script_end.NoMemory) ⊎ (parsed (I.left script.old) ≡ Err e)) (S.tells → IsNew (S.files shelf.old)) (S.tells → IsNew (S.files shelf.old) → ⊥) }
-    ensures later { (S.fault_count shelf.old ≤ S.fault_count shelf.new) × (O.fault_count out.old ≤ O.fault_count out.new) × (I.fault_count script.old ≤ I.fault_count script.new) }
-    ensures bound { I.tells → (taken : List ℕ) × (I.left script.old ≡ taken ++ I.left script.new) × (length taken ≤ read_limit) }
-    ensures clock { C.tells → IsAnswered result.end → HasRead (1 + length result.journal) (C.upcoming clock.old) (C.upcoming clock.new) }
+) -> Outcome<S, C>
+    // The lines of a good script are answered, unless it couldn't be read.
+    ensures runs { S.tells → C.tells → I.tells → IsSettled S.files S.may_leave shelf →
+        IsTrueFolder (S.files shelf) → (lines : List NamedLine) →
+        parsed (I.left script.old) ≡ Ok lines →
+        IsUnread result.end result.journal (O.taken out.old) (O.taken out.new) shelf result.shelf
+        ⊎ RunsOver S.files S.may_leave S.moment S.left_since (C.upcoming clock)
+        (C.upcoming result.clock) (S.fault_count shelf) (S.fault_count result.shelf) lines
+        result.end result.journal O.tells (O.taken out.old) (O.taken out.new) shelf result.shelf }
+    // One that is refused leaves everything but its source untouched.
+    ensures refused { I.tells → (fault : ScriptFault) → parsed (I.left script.old) ≡ Err fault →
+        IsUntouched shelf result.shelf clock result.clock result.journal
+        × EndsRefused fault result.end × (out.new ≡ out.old) }
+    // What the script and the folder hold is told, and each end has its cause.
+    ensures script { I.tells → TellsScript (parsed (I.left script.old)) result.end }
+    ensures found { S.tells → TellsFaults (S.files shelf) result.end }
+    ensures cause { HasRunCause
+        (counts_of (S.fault_count shelf) (I.fault_count script.old) (O.fault_count out.old))
+        (counts_of (S.fault_count result.shelf) (I.fault_count script.new) (O.fault_count out.new))
+        result.end }
+    ensures bound { I.tells → (taken : List ℕ)
+        × (I.left script.old ≡ taken ++ I.left script.new) × (length taken ≤ read_limit) }
+    // How often the clock is read.
+    ensures readings { C.tells → I.tells → (lines : List NamedLine) →
+        parsed (I.left script.old) ≡ Ok lines →
+        TakesUpTo (most_readings (length lines)) (C.upcoming clock) (C.upcoming result.clock) }
+    ensures unread { C.tells →
+        TakesByEnd (C.upcoming clock) (C.upcoming result.clock) result.end }
 {
-    if !is_run_word(words) {
-        return Outcome {
-            end: End::Usage,
-            journal: List::new(alloc),
-        };
-    }
     match script_lines(alloc, script) {
-        Ok(lines) => serve_folder(alloc, lines.as_slice(), shelf, clock, out, gate),
-        Err(end) => Outcome {
-            end,
-            journal: List::new(alloc),
-        },
+        Ok(lines) => run_folder(alloc, lines.as_slice(), shelf, clock, out, gate),
+        Err(end) => untouched(alloc, shelf, clock, end),
     }
 }
 
-/// Serves the mailbox folder to the script's one session: makes the mailbox, answers each line,
-/// writes the replies and a last line. `words` are the program's words behind the folder's name.
-///
-/// The folder has to be new; a mailbox that is there isn't opened yet.
+/// Serves a mailbox folder to the sessions of a script: opens its mailbox, or makes one, answers
+/// each line, and writes the replies and a last line. `words` are the program's words behind the
+/// folder's name.
 pub fn run<S: Shelf + Send, I: Source, O: Sink, C: Clock + Send, G: Gate + Sync>(
     alloc: Global,
     words: &[String],
@@ -193,63 +138,91 @@ pub fn run<S: Shelf + Send, I: Source, O: Sink, C: Clock + Send, G: Gate + Sync>
     clock: C,
     gate: &G,
 ) -> Ran<S, C>
-    // Each reply is the session rules' answer over a prefix of the one log that the journal is, line after line; the
-    // bytes written are these replies and the last line.
-    ensures serial { is_run (map string_bytes words.now) ≡ true → I.tells → C.tells → O.tells → (lines : List Line) → parsed (I.left script.old) ≡ Ok lines →
-        IsSerialRun result.status (S.fault_count shelf) (counts_of (S.fault_count shelf) (S.fault_count result.shelf) (I.fault_count script.old) (I.fault_count script.new)) (S.tells → IsNew (S.files shelf) → ⊥)
-        (C.upcoming clock) lines result.journal (O.taken out.old) (O.taken out.new) }
+    // Over a settled folder whose cache file is true. Each reply is the session rules' answer over a
+    // prefix of the one log that was found, or made, and that the journal goes on, line after line.
+    // The bytes written are these replies and a last line. What is left gives that log with its
+    // messages and a true cache, behind the whole journal, or with the group of the last write that
+    // the disk failed; and so does a crash at any moment, behind a front of the journal.
+    ensures runs { is_run (map string_bytes words.now) ≡ true → S.tells → C.tells → I.tells →
+        IsSettled S.files S.may_leave shelf → IsTrueFolder (S.files shelf) →
+        (lines : List NamedLine) → parsed (I.left script.old) ≡ Ok lines →
+        IsRun S.files S.may_leave S.moment S.left_since (C.upcoming clock) (C.upcoming result.clock)
+        (counts_of (S.fault_count shelf) (I.fault_count script.old) (O.fault_count out.old))
+        (counts_of (S.fault_count result.shelf) (I.fault_count script.new) (O.fault_count out.new))
+        lines result.status result.journal O.tells (O.taken out.old) (O.taken out.new) shelf
+        result.shelf }
 
-    // The folder left is found as the log behind its last entry; where the run ended early, as before or so, or with the
-    // group of the command that the disk cut short.
-    ensures found { C.tells → S.tells → I.tells → result.status ≡ 0 → FindsAt (log_of (C.upcoming clock) result.journal) (length result.journal) (S.files result.shelf) }
-    ensures folder { is_run (map string_bytes words.now) ≡ true → I.tells → C.tells → S.tells → (lines : List Line) → parsed (I.left script.old) ≡ Ok lines →
-        Leaves (C.upcoming clock) lines result.status result.journal (S.files shelf) (S.files result.shelf) }
+    // Words that aren't those of a run leave everything untouched, and a script that is refused leaves
+    // folder and clock so; what is written then.
+    ensures usage { is_run (map string_bytes words.now) ≡ false →
+        IsUntouched shelf result.shelf clock result.clock result.journal
+        × (script.new ≡ script.old) × ((result.status ≡ 1) ⊎ (result.status ≡ 7))
+        × (O.tells → Prints 1 usage_text result.status (O.taken out.old) (O.taken out.new)) }
+    ensures refused { is_run (map string_bytes words.now) ≡ true → I.tells →
+        (fault : ScriptFault) → parsed (I.left script.old) ≡ Err fault →
+        IsUntouched shelf result.shelf clock result.clock result.journal × IsRefused fault
+        (counts_of (S.fault_count shelf) (I.fault_count script.old) (O.fault_count out.old))
+        (counts_of (S.fault_count result.shelf) (I.fault_count script.new) (O.fault_count out.new))
+        result.status O.tells (O.taken out.old) (O.taken out.new) }
 
-    // Of a folder that was settled before: after a crash at any moment of the run it is as before or found as the log behind
-    // some of the journal's first entries; after a crash behind the run, as that behind all of them. Where the disk failed
-    // there is perhaps the group of the line behind the answered ones too; where every line was answered never.
-    ensures crash { is_run (map string_bytes words.now) ≡ true → I.tells → C.tells → S.tells → Only (S.files shelf) (S.may_leave shelf) → (lines : List Line) → parsed (I.left script.old) ≡ Ok lines →
-        LeavesOnly S.moment S.left_since shelf result.shelf (MayLeave (C.upcoming clock) lines (Rose (S.fault_count shelf) (S.fault_count result.shelf)) result.journal (S.files shelf)) }
-    ensures after { is_run (map string_bytes words.now) ≡ true → I.tells → C.tells → S.tells → Only (S.files shelf) (S.may_leave shelf) → (lines : List Line) → parsed (I.left script.old) ≡ Ok lines →
-        (c : Folder) → S.may_leave result.shelf c → MayLeaveAfter (C.upcoming clock) lines (Rose (S.fault_count shelf) (S.fault_count result.shelf)) result.journal (S.files shelf) c }
-    ensures durable { C.tells → S.tells → result.status ≡ 0 → (c : Folder) → S.may_leave result.shelf c → FindsAt (log_of (C.upcoming clock) result.journal) (length result.journal) c }
+    // What each status comes from; where a fault is found in the folder it is 3, and else 0, unless
+    // memory runs out or something outside fails.
+    ensures causes { HasCauses result.status (is_run (map string_bytes words.now))
+        (counts_of (S.fault_count shelf) (I.fault_count script.old) (O.fault_count out.old))
+        (counts_of (S.fault_count result.shelf) (I.fault_count script.new) (O.fault_count out.new))
+        (S.tells → HasFault (S.files shelf))
+        (I.tells → (fault : ScriptFault) × (parsed (I.left script.old) ≡ Err fault)) }
+    ensures fault { is_run (map string_bytes words.now) ≡ true → S.tells → I.tells →
+        (lines : List NamedLine) → parsed (I.left script.old) ≡ Ok lines →
+        HasFault (S.files shelf) → IsOr 3 result.status
+        (counts_of (S.fault_count shelf) (I.fault_count script.old) (O.fault_count out.old))
+        (counts_of (S.fault_count result.shelf) (I.fault_count script.new)
+        (O.fault_count out.new)) }
+    ensures complete { is_run (map string_bytes words.now) ≡ true → S.tells → I.tells →
+        (lines : List NamedLine) → parsed (I.left script.old) ≡ Ok lines →
+        (start : Log) (used : ℕ) → Starts (C.upcoming clock) (S.files shelf) start used →
+        IsOr 0 result.status
+        (counts_of (S.fault_count shelf) (I.fault_count script.old) (O.fault_count out.old))
+        (counts_of (S.fault_count result.shelf) (I.fault_count script.new)
+        (O.fault_count out.new)) }
 
-    // Words that aren't those of a run, and a script that is refused, leave the folder untouched.
-    ensures usage { is_run (map string_bytes words.now) ≡ false → ((result.status ≡ 1) ⊎ (result.status ≡ 7)) × (result.journal ≡ []) × (result.shelf ≡ shelf) }
-    ensures usage_output { is_run (map string_bytes words.now) ≡ false → O.tells →
-        ((result.status ≡ 1) × Appends (O.taken out.old) (O.taken out.new) usage_text) ⊎ ((result.status ≡ 7) × AppendsFront (O.taken out.old) (O.taken out.new) usage_text) }
-    ensures refused { is_run (map string_bytes words.now) ≡ true → I.tells → (fault : ScriptEnd) → parsed (I.left script.old) ≡ Err fault →
-        (result.journal ≡ []) × (result.shelf ≡ shelf) × ((result.status ≡ 5) ⊎ (result.status ≡ 4) ⊎ Rose (I.fault_count script.old) (I.fault_count script.new) ⊎ Rose (O.fault_count out.old) (O.fault_count out.new)) }
-    ensures refused_output { is_run (map string_bytes words.now) ≡ true → I.tells → O.tells → (fault : ScriptEnd) → parsed (I.left script.old) ≡ Err fault →
-        Refuses result.status fault (I.fault_count script.old) (I.fault_count script.new) (O.taken out.old) (O.taken out.new) }
+    // Without want of memory and with nothing failed the output is a function of the words, the
+    // folder, the script and the clock.
+    ensures output { S.tells → C.tells → I.tells → O.tells →
+        IsSettled S.files S.may_leave shelf → IsTrueFolder (S.files shelf) →
+        result.status ≢ 4 → (AnyRose
+        (counts_of (S.fault_count shelf) (I.fault_count script.old) (O.fault_count out.old))
+        (counts_of (S.fault_count result.shelf) (I.fault_count script.new) (O.fault_count out.new))
+        → ⊥) → (text : List ℕ) × Appends (O.taken out.old) (O.taken out.new) text
+        × IsOutput (map string_bytes words.now) (I.left script.old) (C.upcoming clock)
+        (S.files shelf) text }
 
-    // What each status comes from.
-    ensures usage_only { result.status ≡ 1 → is_run (map string_bytes words.now) ≡ false }
-    ensures disk { result.status ≡ 2 → Rose (S.fault_count shelf) (S.fault_count result.shelf) }
-    ensures later_only { result.status ≡ 3 → S.tells → IsNew (S.files shelf) → ⊥ }
-    ensures refused_only { result.status ≡ 5 → I.tells → (fault : ScriptEnd) × (parsed (I.left script.old) ≡ Err fault) }
-    ensures source { result.status ≡ 6 → Rose (I.fault_count script.old) (I.fault_count script.new) }
-    ensures sink { result.status ≡ 7 → Rose (O.fault_count out.old) (O.fault_count out.new) }
-    ensures later { is_run (map string_bytes words.now) ≡ true → I.tells → S.tells → (lines : List Line) → parsed (I.left script.old) ≡ Ok lines → (IsNew (S.files shelf) → ⊥) →
-        (result.status ≡ 3) ⊎ (result.status ≡ 4) ⊎ Rose (S.fault_count shelf) (S.fault_count result.shelf) ⊎ Rose (I.fault_count script.old) (I.fault_count script.new) ⊎ Rose (O.fault_count out.old) (O.fault_count out.new) }
-
-    // Of a good script over a new folder each line is answered, unless memory runs out or something outside fails.
-    ensures complete { is_run (map string_bytes words.now) ≡ true → I.tells → S.tells → (lines : List Line) → parsed (I.left script.old) ≡ Ok lines → IsNew (S.files shelf) →
-        (result.status ≡ 0) ⊎ (result.status ≡ 4) ⊎ Rose (S.fault_count shelf) (S.fault_count result.shelf) ⊎ Rose (I.fault_count script.old) (I.fault_count script.new) ⊎ Rose (O.fault_count out.old) (O.fault_count out.new) }
-
-    // Without want of memory and with nothing failed the output is a function of the folder, the script and the clock.
-    ensures output { I.tells → S.tells → C.tells → O.tells → (new : Bool) → MatchBool new (IsNew (S.files shelf)) (IsNew (S.files shelf) → ⊥) → result.status ≢ 4 →
-        Stayed (S.fault_count shelf) (S.fault_count result.shelf) → Stayed (I.fault_count script.old) (I.fault_count script.new) → Stayed (O.fault_count out.old) (O.fault_count out.new) →
-        Appends (O.taken out.old) (O.taken out.new) (output_of (map string_bytes words.now) new (I.left script.old) (C.upcoming clock)) }
-
-    // At most one byte more than the longest script is read; the clock is read once for the folder and once for each message.
-    ensures bound { I.tells → (taken : List ℕ) × (I.left script.old ≡ taken ++ I.left script.new) × (length taken ≤ read_limit) }
-    ensures readings { C.tells → result.status ≡ 0 → HasRead (1 + length result.journal) (C.upcoming clock) (C.upcoming result.clock) }
-    ensures small { result.status ≤ 7 }
+    // At most one byte more than the longest script is read. The clock is read once at most for a
+    // mailbox that is made, and twice at most for each line; not at all where the words, the script
+    // or the folder are refused, and once at most where the disk fails before the first line.
+    ensures bound { I.tells → (taken : List ℕ)
+        × (I.left script.old ≡ taken ++ I.left script.new) × (length taken ≤ read_limit) }
+    ensures readings { C.tells → I.tells → (lines : List NamedLine) →
+        parsed (I.left script.old) ≡ Ok lines →
+        TakesUpTo (most_readings (length lines)) (C.upcoming clock) (C.upcoming result.clock) }
+    ensures unread { C.tells → TakesByStatus result.status (C.upcoming clock)
+        (C.upcoming result.clock) }
 {
-    let mut shelf = shelf;
-    let mut clock = clock;
-    let Outcome { end, journal } = whole(alloc, words, &mut shelf, script, out, &mut clock, gate);
+    if !is_run_word(words) {
+        let status = conclude(alloc, out, &End::Usage);
+        return Ran {
+            status,
+            shelf,
+            clock,
+            journal: List::new(alloc),
+        };
+    }
+    let Outcome {
+        end,
+        shelf,
+        clock,
+        journal,
+    } = run_script(alloc, shelf, script, out, clock, gate);
     let status = conclude(alloc, out, &end);
     Ran {
         status,

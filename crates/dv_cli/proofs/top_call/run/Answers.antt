@@ -1,115 +1,121 @@
-use Rattle.std.proofs.Common.{◌≡◌, ◌⊎◌, ◌∙◌, ap, sym, subst, ⊎_elim, List, ℕ, ◌≤◌, inl, inr, true, false, Bool, map, Ok, Err, arith}
-use Rattle.std.specs.Prelude.{Result, string_bytes}
+use Rattle.std.proofs.Common.{◌≡◌, ◌∙◌, ap, sym, subst, true, List, ℕ, map}
+use Rattle.std.specs.Prelude.{string_bytes}
 use Rattle.dv_model.specs.Counts.{Rose}
-use Rattle.dv_script.specs.declared.types.Line.{Line}
-use Rattle.dv_script.specs.declared.types.ScriptEnd.{ScriptEnd}
-use Rattle.dv_script.specs.declared.types.ScriptEnd.TheVariants as script_end
-use Rattle.dv_cli.specs.Scripts.{parsed}
+use Rattle.dv_formats.specs.Parsing.{parsed}
+use Rattle.dv_formats.specs.Scripts.{NamedLine}
+use Rattle.dv_cli.specs.Causes.{ComesFrom, Counts, counts_of}
 use Rattle.dv_cli.specs.Endings.{Concludes}
-use Rattle.dv_cli.specs.Found.{IsNew, FindsAt}
-use Rattle.dv_cli.specs.Running.{log_of}
-use Rattle.dv_cli.specs.Runs.{counts_of}
-use Rattle.dv_cli.proofs.Counted.{rose_earlier, rose_later}
-use Rattle.dv_cli.proofs.Ends.{refuses, unread, folder_serial, end_cause, ends_folder}
-use Rattle.dv_cli.proofs.Left.{folder_found, folder_left}
-use Rattle.dv_cli.proofs.Outputs.{zero_answered, answered_runs, not_answered, output_is, wrote_all, not_failed}
-use Rattle.dv_cli.proofs.Parsed.{parsed_served}
+use Rattle.dv_cli.specs.Running.{is_run}
+use Rattle.dv_cli.proofs.Statuses.{causes_of, comes_later, sink_cause}
+use Rattle.dv_cli.proofs.Takes.{status_takes}
+use Rattle.dv_cli.proofs.WholeRuns.{WellOr, ends_well, fault_is_told, lines_output, refused_output, script_output, start_is_served, words_output}
+use Rattle.dv_cli.proofs.top_call.run.Given as given
 use Rattle.dv_cli.proofs.top_call.run.Goals as goal
 
-pub returns-clause-refused_output : goal.returns-clause-refused_output
-returns-clause-refused_output g c = λ good tells out_tells fault is.
-    let bad = c.whole-end.ensures.refused good tells fault is in
-    refuses c.whole-end.result.end c.conclude-status.result (g.I.Source.left c.args.script.now) fault (g.I.Source.fault_count c.args.script.now) (g.I.Source.fault_count c.whole-end.new.script)
-    (g.O.Sink.taken c.args.out.now) (g.O.Sink.taken c.conclude-status.new.out) is bad.0
-    (subst (λ (l : List ℕ). Concludes c.whole-end.result.end c.conclude-status.result l (g.O.Sink.taken c.conclude-status.new.out)) (ap g.O.Sink.taken bad.1.out_stays) (c.conclude-status.ensures.text out_tells))
+-- ---- behind the last line
 
-pub returns-clause-serial : goal.returns-clause-serial
-returns-clause-serial g c = λ good tells clock_tells out_tells lines is.
-    let clock = g.C.Clock.upcoming c.args.clock in
-    let base = g.S.Shelf.fault_count c.args.shelf in
-    let counts = counts_of base (g.S.Shelf.fault_count c.whole-end.new.shelf) (g.I.Source.fault_count c.args.script.now) (g.I.Source.fault_count c.whole-end.new.script) in
-    let has_mailbox : Type 0 = g.S.Shelf.tells → IsNew (g.S.Shelf.files c.args.shelf) → ⊥ in
-    let new_there : Type 0 = g.S.Shelf.tells → IsNew (g.S.Shelf.files c.args.shelf) in
-    let served = parsed_served (g.I.Source.left c.args.script.now) lines is in
-    let small = c.whole-end.ensures.reading clock_tells in
-    let e = c.whole-end.result.end in
-    let status = c.conclude-status.result in
-    let journal = c.whole-end.result.journal in
-    let old = g.O.Sink.taken c.args.out.now in
-    let mid = g.O.Sink.taken c.whole-end.new.out in
-    let new = g.O.Sink.taken c.conclude-status.new.out in
-    let done = c.conclude-status.ensures.text out_tells in
-    ⊎_elim
-    (λ early. unread clock base counts has_mailbox lines served small c.whole-end.ensures.later.0 status journal old new e (g.I.Source.left c.args.script.now) is early.0 early.1.no_entries
-    (subst (λ (l : List ℕ). Concludes e status l new) (ap g.O.Sink.taken early.1.out_stays) done))
-    (λ run. folder_serial clock base counts has_mailbox lines served small c.whole-end.ensures.later.0 status journal (g.O.Sink.tells) (g.S.Shelf.tells) new_there
-    (g.O.Sink.fault_count c.args.out.now) (g.O.Sink.fault_count c.whole-end.new.out) old mid new (g.S.Shelf.files c.args.shelf) (g.S.Shelf.files c.whole-end.new.shelf) e run out_tells
-    (end_cause e counts (g.O.Sink.fault_count c.args.out.now) (g.O.Sink.fault_count c.whole-end.new.out) _ _ new_there has_mailbox c.whole-end.ensures.cause
-    (ends_folder clock lines e journal _ _ old mid _ _ run)) done)
-    (c.whole-end.ensures.run good tells clock_tells lines is)
+module _ (g : given.Over) (c : goal.After-conclude-status-2 g) where
+  abbrev before : Counts
+  before = counts_of (g.S.Shelf.fault_count c.args.shelf) (g.I.Source.fault_count c.args.script.now) (g.O.Sink.fault_count c.args.out.now)
 
-pub returns-clause-found : goal.returns-clause-found
-returns-clause-found g c = λ clock_tells tells script_tells zero.
-    let clock = g.C.Clock.upcoming c.args.clock in
-    let script = g.I.Source.left c.args.script.now in
-    let e = c.whole-end.result.end in
-    let answered = zero_answered e c.conclude-status.result c.conclude-status.ensures.status zero in
-    let good = answered_runs e _ _ _ _ _ _ _ c.whole-end.ensures.cause answered in
-    let Found : Type 0 = FindsAt (log_of clock c.whole-end.result.journal) (Rattle.std.proofs.Common.length c.whole-end.result.journal) (g.S.Shelf.files c.whole-end.new.shelf) in
-    let by : (r : Result (List Line) ScriptEnd) → parsed script ≡ r → Found = λ r is.
-    elim r as (λ (x : Result (List Line) ScriptEnd). parsed script ≡ x → Found) [
-      | Ok lines ↦ λ is. ⊎_elim (λ early. absurd (not_answered e script _ _ early.0 answered))
-          (λ run. folder_found clock lines (parsed_served script lines is) c.whole-end.result.journal (g.O.Sink.tells) (g.S.Shelf.tells) (g.O.Sink.taken c.args.out.now) (g.O.Sink.taken c.whole-end.new.out)
-          (g.S.Shelf.files c.args.shelf) (g.S.Shelf.files c.whole-end.new.shelf) e run tells answered)
-          (c.whole-end.ensures.run good script_tells clock_tells lines is)
-      | Err fault ↦ λ is. absurd (not_answered e script _ _ (c.whole-end.ensures.refused good script_tells fault is).0 answered)
-    ] is in
-    by (parsed script) Rattle.std.proofs.Common.refl
+  abbrev now : Counts
+  now = counts_of (g.S.Shelf.fault_count c.run_script-end.result.shelf) (g.I.Source.fault_count c.run_script-end.new.script) (g.O.Sink.fault_count c.conclude-status-2.new.out)
 
-pub returns-clause-folder : goal.returns-clause-folder
-returns-clause-folder g c = λ good script_tells clock_tells tells lines is.
-    let clock = g.C.Clock.upcoming c.args.clock in
-    let script = g.I.Source.left c.args.script.now in
-    ⊎_elim (λ early. inl (early.1.no_entries, ap g.S.Shelf.files early.1.shelf_stays))
-    (λ run. folder_left clock lines (parsed_served script lines is) c.whole-end.result.journal (g.O.Sink.tells) (g.S.Shelf.tells) (g.O.Sink.taken c.args.out.now) (g.O.Sink.taken c.whole-end.new.out)
-    (g.S.Shelf.files c.args.shelf) (g.S.Shelf.files c.whole-end.new.shelf) c.whole-end.result.end run tells c.conclude-status.result c.conclude-status.ensures.status)
-    (c.whole-end.ensures.run good script_tells clock_tells lines is)
+  comes : ComesFrom before now c.run_script-end.result.end
+  comes =
+      comes_later before _ _ (g.O.Sink.fault_count c.run_script-end.new.out) _ c.run_script-end.result.end
+      c.conclude-status-2.ensures.later c.run_script-end.ensures.cause.cause
+
+  sinks : c.conclude-status-2.result ≡ 7 → Rose before.output now.output
+  sinks seven =
+      sink_cause before
+      (counts_of (g.S.Shelf.fault_count c.run_script-end.result.shelf) (g.I.Source.fault_count c.run_script-end.new.script) (g.O.Sink.fault_count c.run_script-end.new.out))
+      now.output c.run_script-end.result.end c.run_script-end.ensures.cause.cause c.run_script-end.ensures.cause.later.2
+      c.conclude-status-2.ensures.later (c.conclude-status-2.ensures.cause seven)
+
+  well : g.I.Source.tells → (lines : List NamedLine)
+      → parsed (g.I.Source.left c.args.script.now) ≡ Rattle.std.proofs.Common.Ok lines
+      → WellOr c.conclude-status-2.result c.run_script-end.result.end before now
+  well script_tells lines is =
+      ends_well c.conclude-status-2.result before now (parsed (g.I.Source.left c.args.script.now)) lines
+      c.run_script-end.result.end is (c.run_script-end.ensures.script script_tells) comes c.conclude-status-2.ensures.status sinks
+
+-- ---- what is answered, written and left
+
+pub returns-clause-runs : goal.returns-clause-runs
+returns-clause-runs g c = λ good tells clock_tells script_tells settled true_folder lines is. record {
+  how = c.run_script-end.result.end;
+  between = g.O.Sink.taken c.run_script-end.new.out;
+  runs = c.run_script-end.ensures.runs tells clock_tells script_tells settled true_folder lines is;
+  cause = comes g c;
+  ended = c.conclude-status-2.ensures.status;
+  concludes = λ told. c.conclude-status-2.ensures.text told;
+}
+
+pub returns-clause-refused : goal.returns-clause-refused
+returns-clause-refused g c = λ good script_tells fault bad.
+    let refused = c.run_script-end.ensures.refused script_tells fault bad in
+    (refused.0, record {
+      how = c.run_script-end.result.end;
+      ends = refused.1;
+      cause = comes g c;
+      ended = c.conclude-status-2.ensures.status;
+      concludes = λ told.
+          subst (λ (taken : List ℕ). Concludes c.run_script-end.result.end c.conclude-status-2.result taken (g.O.Sink.taken c.conclude-status-2.new.out))
+          (ap g.O.Sink.taken refused.2) (c.conclude-status-2.ensures.text told);
+    })
+
+-- ---- what it comes from
+
+pub returns-clause-causes : goal.returns-clause-causes
+returns-clause-causes g c =
+    causes_of c.conclude-status-2.result (is_run (map string_bytes c.args.words.now)) (before g c) (now g c)
+    (g.S.Shelf.files c.args.shelf) (parsed (g.I.Source.left c.args.script.now)) g.S.Shelf.tells g.I.Source.tells
+    c.run_script-end.result.end c.conclude-status-2.ensures.status (comes g c) (sinks g c)
+    (λ tells. c.run_script-end.ensures.found tells) (λ tells. c.run_script-end.ensures.script tells)
+
+pub returns-clause-fault : goal.returns-clause-fault
+returns-clause-fault g c = λ good tells script_tells lines is has.
+    fault_is_told c.conclude-status-2.result (before g c) (now g c) (g.S.Shelf.files c.args.shelf)
+    c.run_script-end.result.end (c.run_script-end.ensures.found tells) has (well g c script_tells lines is)
+
+pub returns-clause-complete : goal.returns-clause-complete
+returns-clause-complete g c = λ good tells script_tells lines is start used starts.
+    start_is_served c.conclude-status-2.result (before g c) (now g c) (g.C.Clock.upcoming c.args.clock) (g.S.Shelf.files c.args.shelf)
+    start used c.run_script-end.result.end (c.run_script-end.ensures.found tells) starts (well g c script_tells lines is)
+
+pub returns-clause-unread : goal.returns-clause-unread
+returns-clause-unread g c = λ clock_tells.
+    status_takes _ _ c.conclude-status-2.result c.run_script-end.result.end c.conclude-status-2.ensures.status
+    (c.run_script-end.ensures.unread clock_tells)
+
+-- ---- what it is a function of
 
 pub returns-clause-output : goal.returns-clause-output
-returns-clause-output g c = λ script_tells tells clock_tells out_tells there new not-four shelf_stayed source_stayed out_stayed.
-    let e = c.whole-end.result.end in
-    let status = c.conclude-status.result in
-    let script = g.I.Source.left c.args.script.now in
+returns-clause-output g c = λ tells clock_tells script_tells out_tells settled true_folder not_four still.
+    let S = g.S.Shelf in
+    let O = g.O.Sink in
     let words = map string_bytes c.args.words.now in
-    let old = g.O.Sink.taken c.args.out.now in
-    let mid = g.O.Sink.taken c.whole-end.new.out in
-    let out = g.O.Sink.fault_count c.args.out.now in
-    let out_mid = g.O.Sink.fault_count c.whole-end.new.out in
-    let out_now = g.O.Sink.fault_count c.conclude-status.new.out in
-    let source = g.I.Source.fault_count c.args.script.now in
-    let source_now = g.I.Source.fault_count c.whole-end.new.script in
-    let counts = counts_of (g.S.Shelf.fault_count c.args.shelf) (g.S.Shelf.fault_count c.whole-end.new.shelf) source source_now in
-    let mid_stayed : Rose out out_mid → ⊥ = λ rose. out_stayed (rose_later out out_mid out_now c.conclude-status.ensures.later rose) in
-    let after_stayed : Rose out_mid out_now → ⊥ = λ rose. out_stayed (rose_earlier out out_mid out_now c.whole-end.ensures.later.1 rose) in
-    let refuses_by : ScriptEnd → Type 0 = λ f. g.I.Source.tells → (f ≡ script_end.NoMemory) ⊎ (parsed script ≡ Err f) in
-    let new_there : Type 0 = g.S.Shelf.tells → IsNew (g.S.Shelf.files c.args.shelf) in
-    let not_there : Type 0 = g.S.Shelf.tells → IsNew (g.S.Shelf.files c.args.shelf) → ⊥ in
-    let not_seven : status ≡ 7 → ⊥ = not_failed e status counts out out_mid out_now words refuses_by new_there not_there c.whole-end.ensures.cause mid_stayed after_stayed c.conclude-status.ensures.cause in
-    let wrote = wrote_all e status mid (g.O.Sink.taken c.conclude-status.new.out) not-four not_seven (c.conclude-status.ensures.text out_tells) in
-    output_is words script (g.C.Clock.upcoming c.args.clock) counts out out_mid source source_now refuses_by new_there not_there (g.O.Sink.tells) (g.S.Shelf.tells) c.whole-end.result.journal
-    old mid (g.O.Sink.taken c.conclude-status.new.out) (g.S.Shelf.files c.args.shelf) (g.S.Shelf.files c.whole-end.new.shelf) out_tells tells (λ f why. why script_tells) (λ is. is tells) (λ is. is tells)
-    shelf_stayed source_stayed mid_stayed there e new c.whole-end.ensures.cause
-    (λ bad. ap g.O.Sink.taken (c.whole-end.ensures.usage bad).1.out_stays)
-    (λ good fault is. ((c.whole-end.ensures.refused good script_tells fault is).0, ap g.O.Sink.taken (c.whole-end.ensures.refused good script_tells fault is).1.out_stays))
-    (λ good lines is. ⊎_elim (λ early. inl (early.0, ap g.O.Sink.taken early.1.out_stays)) (λ run. inr run) (c.whole-end.ensures.run good script_tells clock_tells lines is))
-    (λ four. not-four (wrote.0 ∙ four)) wrote.1
-
-pub returns-clause-crash : goal.returns-clause-crash
-returns-clause-crash g c = c.whole-end.ensures.crash
-
-pub returns-clause-durable : goal.returns-clause-durable
-returns-clause-durable g c = λ clock_tells tells zero.
-    c.whole-end.ensures.durable clock_tells tells (zero_answered c.whole-end.result.end c.conclude-status.result c.conclude-status.ensures.status zero)
-
-pub returns-clause-after : goal.returns-clause-after
-returns-clause-after g c = c.whole-end.ensures.after
+    let read = parsed (g.I.Source.left c.args.script.now) in
+    let clock = g.C.Clock.upcoming c.args.clock in
+    let folder = S.files c.args.shelf in
+    let e = c.run_script-end.result.end in
+    let status = c.conclude-status-2.result in
+    let old = O.taken c.args.out.now in
+    let mid = O.taken c.run_script-end.new.out in
+    let new = O.taken c.conclude-status-2.new.out in
+    let not_seven : status ≡ 7 → ⊥ = λ seven. still (Rattle.std.proofs.Common.inr (Rattle.std.proofs.Common.inr (sinks g c seven))) in
+    let good : is_run words ≡ true = sym c.is_run_word.ensures ∙ c.if-not-is_run_word.false in
+    words_output words read clock folder old new good
+    (script_output read clock folder old new
+    (λ lines is.
+    lines_output S.files S.may_leave S.moment S.left_since clock (g.C.Clock.upcoming c.run_script-end.result.clock)
+    (S.fault_count c.args.shelf) (S.fault_count c.run_script-end.result.shelf) lines c.run_script-end.result.journal O.tells old mid new
+    c.args.shelf c.run_script-end.result.shelf (λ rose. still (Rattle.std.proofs.Common.inl rose)) out_tells
+    e status (before g c) (now g c) (well g c script_tells lines is) still not_four not_seven
+    (c.conclude-status-2.ensures.text out_tells)
+    (c.run_script-end.ensures.runs tells clock_tells script_tells settled true_folder lines is))
+    (λ fault bad.
+    let refused = c.run_script-end.ensures.refused script_tells fault bad in
+    refused_output fault (before g c) (now g c) status e clock folder old new refused.1 (comes g c) not_four not_seven still
+    (subst (λ (taken : List ℕ). Concludes e status taken new) (ap O.taken refused.2) (c.conclude-status-2.ensures.text out_tells))))

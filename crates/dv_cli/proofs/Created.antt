@@ -1,0 +1,116 @@
+-- A run begins over a mailbox that is made.
+use Rattle.std.proofs.Common.{◌≡◌, ⊎_elim, inl, inr, ℕ, ◌≤◌, List, [], Option, None, Result, Ok, Err, refl, sym, ◌∙◌, ap, subst, arith}
+use Rattle.dv_model.specs.declared.types.Mailbox.{Mailbox}
+use Rattle.dv_model.specs.declared.types.Mark.{Mark}
+use Rattle.dv_model.specs.declared.types.OpenFault.{OpenFault}
+use Rattle.dv_model.specs.declared.types.OpenFault.TheVariants as fault
+use Rattle.dv_model.specs.Journals.{HasResets, IsU32, Log}
+use Rattle.dv_model.specs.Mailboxes.{IsValid}
+use Rattle.dv_shelf.specs.Clocks.{behind}
+use Rattle.dv_shelf.specs.Crashes.{LeavesOnly}
+use Rattle.dv_shelf.specs.Folders.{Folder}
+use Rattle.dv_shelf.proofs.Moments.{weaker}
+use Rattle.dv_logfile.specs.declared.commit.LogFile.{LogFile}
+use Rattle.dv_openings.specs.Openings.{Finds, Found, IsFound}
+use Rattle.dv_openings.specs.Rebuilds.{stamp_of}
+use Rattle.dv_chain.specs.declared.chain.Chain.{Chain}
+use Rattle.dv_chain.specs.Creations.{HasNone, IsFirst, IsOldOrCreated, LeavesCreated, created, first_mailbox}
+use Rattle.dv_chain.specs.Openings.{FaultFound, IsOutside, found_of}
+use Rattle.dv_rotation.specs.Texts.{place_of}
+use Rattle.dv_keeping.specs.Keeping.{Gives, Keeps}
+use Rattle.dv_store.specs.Opening.{IsFresh, OpensQuietly}
+use Rattle.dv_store.specs.States.{State}
+use Rattle.dv_cli.specs.Begins.{IsBegun, IsTyped}
+use Rattle.dv_cli.specs.Endings.{IsFault}
+use Rattle.dv_cli.specs.Runs.{IsUnopened, LeavesUnopened, MayLeave}
+use Rattle.dv_cli.specs.Starts.{IsNew, first_mark, new_log}
+use Rattle.dv_cli.proofs.Opened.{fresh_owes, fresh_rests, start_may}
+use Rattle.dv_cli.proofs.Starting.{keeps_none, sound_from}
+
+pub has_none : (folder : Folder) → IsNew folder → HasNone folder
+has_none folder new = record { index = new.index; log = new.log; log2 = new.log2 }
+
+-- memory ran out, or the disk failed: nothing is said of the folder
+pub outside_found : (f : OpenFault) (P : Found → Type 0) → IsOutside f → FaultFound f P
+outside_found (fault.Disk faults) P is = tt
+outside_found fault.NoMemory P is = tt
+outside_found fault.NoLog P is = absurd is
+outside_found fault.BadLogHeader P is = absurd is
+outside_found (fault.BadRecord offset) P is = absurd is
+outside_found fault.BadIndex P is = absurd is
+outside_found (fault.Gap index log) P is = absurd is
+
+pub outside_none : (f : OpenFault) → IsOutside f → IsFault f → ⊥
+outside_none (fault.Disk faults) is found = absurd (omega (arith, found))
+outside_none fault.NoMemory is found = absurd (omega (arith, found))
+outside_none fault.NoLog is found = absurd is
+outside_none fault.BadLogHeader is found = absurd is
+outside_none (fault.BadRecord offset) is found = absurd is
+outside_none fault.BadIndex is found = absurd is
+outside_none (fault.Gap index log) is found = absurd is
+
+module _ {S C : Type 0} (files : S → Folder) (may_leave : S → Folder → Type 0) (moment : S → ℕ) (left_since : S → ℕ → Folder → Type 0) (upcoming : C → ℕ → ℕ) (clock : ℕ → ℕ) (old : S) (new : IsNew (files old)) where
+  -- ---- a store
+
+  module _ (store : State S C) (first : IsFirst (stamp_of (clock 0)) store.chain) (found : IsFound (files store.shelf) (found_of store.chain)) (fresh : IsFresh store) (leaves : files store.shelf ≡ created (files old) (clock 0))
+      (quiet : OpensQuietly files may_leave moment left_since (λ (f : Folder). IsOldOrCreated f (clock 0)) old (Ok store)) (typed : IsTyped store.chain) (reads : upcoming store.clock ≡ behind clock 1) where
+    abbrev chain : Chain
+    chain = store.chain
+
+    abbrev number : ℕ
+    number = stamp_of (clock 0)
+
+    abbrev start : Log
+    start = new_log (clock 0) (files old)
+
+    mailbox : first_mailbox number ≡ chain.live.mailbox
+    mailbox = sym first.mailbox
+
+    mark : first_mark ≡ place_of chain
+    mark = ap (λ (log : LogFile). record { file_seq = log.file_seq; offset = log.end }) (sym first.log)
+
+    gives : (c : Folder) → c ≡ created (files old) (clock 0) → Gives start start.start start.start_mark c
+    gives c is = record {
+      opens = subst (λ (d : Folder). IsFound d (Finds (first_mailbox number) first_mark)) (leaves ∙ sym is)
+          (subst (λ (k : Mark). IsFound (files store.shelf) (Finds (first_mailbox number) k)) (sym mark) (subst (λ (m : Mailbox). IsFound (files store.shelf) (Finds m (place_of chain))) first.mailbox found));
+      keeps = keeps_none start number c;
+    }
+
+    may : (c : Folder) → IsOldOrCreated (files old) (clock 0) c → MayLeave (behind clock 1) start [] (files old) c
+    may c = ⊎_elim (λ same. inl (new, same)) (λ made. inr (start_may (behind clock 1) start c (gives c made)))
+
+    pub begun_made : IsBegun files may_leave moment left_since upcoming clock old store
+    begun_made = record {
+      start = start;
+      used = 1;
+      starts = inr (new, refl, refl);
+      sound = sound_from number (first_mailbox number) first_mark (files old) (subst IsValid first.mailbox typed.valid) (subst HasResets first.mailbox typed.resets) (omega arith, omega arith) (subst IsU32 first.indexid typed.indexid);
+      rests = fresh_rests files may_leave start store fresh (quiet.stands start (sym first.indexid) (subst (λ (m : Mailbox). Keeps start m (files old)) mailbox (keeps_none start number (files old))));
+      mailbox = mailbox;
+      mark = mark;
+      owed = fresh_owes store fresh;
+      readings = reads;
+      since = weaker moment left_since old store.shelf (IsOldOrCreated (files old) (clock 0)) (MayLeave (behind clock 1) start [] (files old)) quiet.since may;
+    }
+
+  -- ---- a fault
+
+  made_or_not : (f : OpenFault) (c : Folder) → LeavesCreated (files old) (clock 0) c (Err f) → IsOldOrCreated (files old) (clock 0) c
+  made_or_not (fault.Disk faults) c leaves = leaves
+  made_or_not fault.NoMemory c leaves = inl leaves
+  made_or_not fault.NoLog c leaves = absurd leaves
+  made_or_not fault.BadLogHeader c leaves = absurd leaves
+  made_or_not (fault.BadRecord offset) c leaves = absurd leaves
+  made_or_not fault.BadIndex c leaves = absurd leaves
+  made_or_not (fault.Gap index log) c leaves = absurd leaves
+
+  module _ (e : S × C × OpenFault) (outside : IsOutside e.2) (leaves : LeavesCreated (files old) (clock 0) (files e.0) (Err e.2)) (quiet : OpensQuietly files may_leave moment left_since (λ (f : Folder). IsOldOrCreated f (clock 0)) old (Err e))
+      (now : (t : ℕ) (c : Folder) → t ≤ moment e.0 → may_leave e.0 c → left_since e.0 t c) where
+    pub unopened_made : LeavesUnopened files may_leave moment left_since clock e.2 old e.0
+    unopened_made = record {
+      found = outside_found e.2 (IsFound (files old)) outside;
+      some = λ is none. outside_none e.2 outside is;
+      folder = inr (new, made_or_not e.2 (files e.0) leaves);
+      after = λ c left. inr (new, quiet.since.each c (now (moment old) c quiet.since.later left));
+      crash = weaker moment left_since old e.0 (IsOldOrCreated (files old) (clock 0)) (IsUnopened clock (files old)) quiet.since (λ c either. inr (new, either));
+    }

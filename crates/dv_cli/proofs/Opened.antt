@@ -1,0 +1,105 @@
+-- A run begins over a mailbox that was found.
+use Rattle.std.proofs.Common.{◌≡◌, inl, inr, ℕ, ◌≤◌, List, [], Option, None, Result, Ok, Err, refl, sym, ◌∙◌, ap, subst}
+use Rattle.dv_model.specs.declared.types.Mailbox.{Mailbox}
+use Rattle.dv_model.specs.declared.types.OpenFault.{OpenFault}
+use Rattle.dv_model.specs.declared.types.OpenFault.TheVariants as fault
+use Rattle.dv_model.specs.Journals.{Log}
+use Rattle.dv_shelf.specs.Clocks.{behind}
+use Rattle.dv_shelf.specs.Crashes.{LeavesOnly}
+use Rattle.dv_shelf.specs.Folders.{Folder}
+use Rattle.dv_shelf.proofs.Moments.{weaker}
+use Rattle.dv_openings.specs.Openings.{Finds, IsFound}
+use Rattle.dv_openings.specs.TrueCaches.{HasTrueCache}
+use Rattle.dv_chain.specs.declared.chain.Chain.{Chain}
+use Rattle.dv_chain.specs.Openings.{IsQuiet, LeavesFolder}
+use Rattle.dv_rotation.specs.Texts.{place_of}
+use Rattle.dv_keeping.specs.Debts.{Fits, Nothing, Stands}
+use Rattle.dv_keeping.specs.Keeping.{Gives, Keeps}
+use Rattle.dv_lookups.specs.Kept.{IsFileOf}
+use Rattle.dv_store.specs.Opening.{IsFresh, Opens, OpensQuietly}
+use Rattle.dv_store.specs.Rest.{IsAtRest}
+use Rattle.dv_store.specs.States.{State}
+use Rattle.dv_serial.specs.Places.{MayGive}
+use Rattle.dv_cli.specs.Begins.{IsBegun, IsTyped}
+use Rattle.dv_cli.specs.Endings.{IsFault}
+use Rattle.dv_cli.specs.Runs.{IsUnopened, LeavesUnopened, MayLeave}
+use Rattle.dv_cli.specs.Starts.{IsNamed, IsNew, IsTrueFolder, log_from}
+use Rattle.dv_cli.proofs.Starting.{behind_none, gives_quiet, keeps_itself, quiet_same, sound_from}
+
+-- ---- any start
+
+-- before the first line
+pub start_may : (clock : ℕ → ℕ) (start : Log) (c : Folder) → Gives start start.start start.start_mark c → MayGive clock start [] c
+start_may clock start c gives = record { front = []; back = []; lines = refl; gives = inl gives }
+
+-- a store that was opened just now owes nothing
+pub fresh_rests : {S C : Type 0} (files : S → Folder) (may_leave : S → Folder → Type 0) (log : Log) (store : State S C) → IsFresh store → Stands may_leave log Nothing store.chain store.shelf → IsAtRest files may_leave log Nothing store
+fresh_rests {S} {C} files may_leave log store fresh stands = record {
+  stands = stands;
+  fits = subst (λ (s : State S C). Fits s.owed Nothing) (sym fresh.is) tt;
+  cache = subst (λ (s : State S C). IsFileOf (files s.shelf) s.cache) (sym fresh.is) tt;
+}
+
+pub fresh_owes : {S C : Type 0} (store : State S C) → IsFresh store → store.owed ≡ None
+fresh_owes {S} {C} store fresh = ap (λ (s : State S C). s.owed) fresh.is
+
+module _ {S C : Type 0} (files : S → Folder) (may_leave : S → Folder → Type 0) (moment : S → ℕ) (left_since : S → ℕ → Folder → Type 0) (upcoming : C → ℕ → ℕ) (clock : ℕ → ℕ) (old : S) where
+  -- ---- a store
+
+  module _ (store : State S C) (opens : Opens (files old) (Ok store)) (fresh : IsFresh store) (quiet : OpensQuietly files may_leave moment left_since IsQuiet old (Ok store)) (typed : IsTyped store.chain) (is_true : IsTrueFolder (files old)) (reads : upcoming store.clock ≡ clock) where
+    abbrev chain : Chain
+    chain = store.chain
+
+    abbrev mailbox : Mailbox
+    mailbox = chain.live.mailbox
+
+    abbrev start : Log
+    start = log_from chain.indexid mailbox (place_of chain) (files old)
+
+    named : IsNamed (files old) chain.indexid
+    named = record { log = opens.chain.file; scanned = opens.chain.scanned; is = opens.chain.indexid }
+
+    cache : HasTrueCache (files old) chain.indexid mailbox
+    cache = is_true chain.indexid mailbox (place_of chain) named opens.found
+
+    keeps : Keeps start mailbox (files old)
+    keeps = keeps_itself chain.indexid mailbox (place_of chain) (files old) cache
+
+    may : (c : Folder) → IsQuiet (files old) c → MayLeave (behind clock 0) start [] (files old) c
+    may c same = inr (start_may (behind clock 0) start c (gives_quiet chain.indexid mailbox (place_of chain) (files old) c opens.found cache same))
+
+    pub begun_found : IsBegun files may_leave moment left_since upcoming clock old store
+    begun_found = record {
+      start = start;
+      used = 0;
+      starts = inl (record { indexid = chain.indexid; mailbox = mailbox; mark = place_of chain; named = named; found = opens.found; is = refl }, refl);
+      sound = sound_from chain.indexid mailbox (place_of chain) (files old) typed.valid typed.resets typed.place typed.indexid;
+      rests = fresh_rests files may_leave start store fresh (quiet.stands start refl keeps);
+      mailbox = refl;
+      mark = refl;
+      owed = fresh_owes store fresh;
+      readings = reads ∙ behind_none clock;
+      since = weaker moment left_since old store.shelf (IsQuiet (files old)) (MayLeave (behind clock 0) start [] (files old)) quiet.since may;
+    }
+
+  -- ---- a fault
+
+  fault_quiet : (f : OpenFault) (new : Folder) → LeavesFolder (files old) new (Err f) → IsQuiet (files old) new
+  fault_quiet (fault.Disk faults) new leaves = leaves
+  fault_quiet fault.NoMemory new leaves = quiet_same (files old) new leaves
+  fault_quiet fault.NoLog new leaves = quiet_same (files old) new leaves
+  fault_quiet fault.BadLogHeader new leaves = quiet_same (files old) new leaves
+  fault_quiet (fault.BadRecord offset) new leaves = quiet_same (files old) new leaves
+  fault_quiet fault.BadIndex new leaves = quiet_same (files old) new leaves
+  fault_quiet (fault.Gap index log) new leaves = quiet_same (files old) new leaves
+
+  module _ (e : S × C × OpenFault) (opens : Opens (files old) (Err e)) (leaves : LeavesFolder (files old) (files e.0) (Err e.2)) (quiet : OpensQuietly files may_leave moment left_since IsQuiet old (Err e)) (some : IsNew (files old) → ⊥)
+      (now : (t : ℕ) (c : Folder) → t ≤ moment e.0 → may_leave e.0 c → left_since e.0 t c) where
+    pub unopened_found : LeavesUnopened files may_leave moment left_since clock e.2 old e.0
+    unopened_found = record {
+      found = opens.found;
+      some = λ is new. some new;
+      folder = inl (fault_quiet e.2 (files e.0) leaves);
+      after = λ c left. inl (quiet.since.each c (now (moment old) c quiet.since.later left));
+      crash = weaker moment left_since old e.0 (IsQuiet (files old)) (IsUnopened clock (files old)) quiet.since (λ c same. inl same);
+    }

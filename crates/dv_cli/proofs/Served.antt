@@ -1,0 +1,247 @@
+-- Lines are served from where a run begins.
+use Rattle.std.proofs.Common.{◌≡◌, ◌⊎◌, ⊎_elim, inl, inr, ℕ, ◌+◌, ◌≤◌, ◌<◌, Bool, true, false, List, [], ◌∷◌, ◌++◌, append-nil, length, get_or, Option, None, Result, Ok, Err, refl, sym, ◌∙◌, ap, subst, arith}
+use Rattle.std.specs.Prelude.{replicate, if◌then◌else◌}
+use Rattle.std.proofs.lemmas.List.{get_or-replicate, length-replicate}
+use Rattle.std.proofs.lemmas.List.Elements.{All-nil, All-replicate, All-same}
+use Rattle.dv_model.specs.declared.types.Entry.{Entry}
+use Rattle.dv_model.specs.declared.types.Mark.{Mark}
+use Rattle.dv_model.specs.declared.types.Reply.{Reply}
+use Rattle.dv_model.specs.Journals.{Log}
+use Rattle.dv_model.specs.Sessions.{new_session}
+use Rattle.dv_model.specs.Transcripts.{Line, Serial, touches_disk}
+use Rattle.dv_shelf.specs.Clocks.{behind}
+use Rattle.dv_shelf.specs.Crashes.{LeavesOnly}
+use Rattle.dv_shelf.specs.Folders.{Folder}
+use Rattle.dv_shelf.proofs.Moments.{joined, weaker}
+use Rattle.dv_formats.specs.Scripts.{NamedLine}
+use Rattle.dv_keeping.specs.Debts.{Nothing}
+use Rattle.dv_answer.specs.Following.{Follower, IsAbreast, new_follower}
+use Rattle.dv_playing.specs.Laws.{IsAttempt, MayPlay, MayWrite, lines_of}
+use Rattle.dv_playing.specs.Playing.{Attempt, Outcome, Play, Served, begin, fared, refused_here, replies_to, step, stepped_by, with_group_here}
+use Rattle.dv_playing.proofs.Plays.{goes_on, leaves, serial}
+use Rattle.dv_store.specs.States.{State}
+use Rattle.dv_serial.specs.declared.lines.LineEnd.{LineEnd}
+use Rattle.dv_serial.specs.declared.lines.LineEnd.TheVariants as line_end
+use Rattle.dv_serial.specs.Following.{AreSeated, Follows, IsLeft, Keeps, MayBeLeft}
+use Rattle.dv_serial.specs.Places.{GivesBehind, MayGive, play_of}
+use Rattle.dv_serial.specs.Runs.{EndsWith, HasRead, IsCaused, Runs, Writes}
+use Rattle.dv_serial.specs.Scripts.{numbered}
+use Rattle.dv_serial.specs.Servings.{Serving, serving_over}
+use Rattle.dv_serial.proofs.Crashing.{keeps_behind, longer_may}
+use Rattle.dv_cli.specs.declared.ending.End.{End}
+use Rattle.dv_cli.specs.declared.ending.End.TheVariants as end
+use Rattle.dv_cli.specs.Begins.{IsBegun}
+use Rattle.dv_cli.specs.Behind.{end_behind}
+use Rattle.dv_cli.specs.Causes.{EndCause, EndsServing}
+use Rattle.dv_cli.specs.Runs.{EndsAt, IsAnswered, MayLeave, RunsOver, ServesLines, WritesLines}
+use Rattle.dv_cli.proofs.Starting.{IsBare, behind_both, behind_none, start_bare}
+
+-- ---- the first line that wasn't answered
+
+-- where it was served its group is in the log
+served_log : (clock : ℕ → ℕ) (play : Play) (a : Attempt) → a.outcome ≡ Served → MayWrite play a.line → (step clock play a).play.log ≡ (with_group_here clock play a.line).log
+served_log clock play a served write =
+    ap (λ (o : Option Reply). (stepped_by clock play a o).play.log) write.allowed ∙ ap (λ (o : Outcome). (fared clock play a.line o).play.log) (by_test (touches_disk a.line.1))
+  where
+    by_test : (b : Bool) → (if b then a.outcome else Served) ≡ Served
+    by_test true = served
+    by_test false = refl
+
+-- none, or the first of the rest
+abbrev IsFirst : (ℕ → ℕ) → ℕ → Play → List Attempt → List Line → Type 0
+IsFirst clock base play left rest = (left ≡ []) ⊎ ((line : Line) × (behind : List Line) × (rest ≡ line ∷ behind) × IsLeft clock base play line left)
+
+module _ (clock : ℕ → ℕ) (start : Log) (base faults : ℕ) (answered : List Attempt) (may : MayPlay clock start base faults answered) where
+  abbrev here : Play
+  here = play_of clock start answered
+
+  abbrev replies : List (List Reply)
+  replies = replies_to clock (begin start) answered
+
+  abbrev IsRun : Log → List Line → Type 0
+  IsRun log rest = Serial log base faults (lines_of answered ++ rest) replies
+
+  none_left : (rest : List Line) → IsRun (play_of clock start (answered ++ [])).log rest
+  none_left rest = subst (λ (as : List Attempt). IsRun (play_of clock start as).log rest) (sym (append-nil answered)) (serial clock start base faults answered may rest)
+
+  one_left : (a : Attempt) (line : Line) (behind : List Line) → a.line ≡ line → MayBeLeft clock base here a → IsRun (play_of clock start (answered ++ a ∷ [])).log (line ∷ behind)
+  one_left a line behind is left =
+      let last : (play_of clock start (answered ++ a ∷ [])).log ≡ (step clock here a).play.log = ap (λ (p : Play). p.log) (goes_on clock (begin start) answered a) in
+      ⊎_elim
+      (λ same. subst (λ (log : Log). IsRun log (line ∷ behind)) (sym (last ∙ same)) (serial clock start base faults answered may (line ∷ behind)))
+      (λ wrote.
+      subst (λ (log : Log). IsRun log (line ∷ behind)) (sym (last ∙ served_log clock here a wrote.0 wrote.1))
+      (subst (λ (l : Line). IsRun (with_group_here clock here a.line).log (l ∷ behind)) is (leaves clock start base faults answered may a.line behind wrote.1)))
+      left.log
+
+  first_left : (left : List Attempt) (line : Line) (behind : List Line) → IsLeft clock base here line left → IsRun (play_of clock start (answered ++ left)).log (line ∷ behind)
+  first_left [] line behind is = none_left (line ∷ behind)
+  first_left (a ∷ []) line behind is = one_left a line behind is.0 is.1
+  first_left (a ∷ b ∷ more) line behind is = absurd is
+
+  pub serial_left : (left : List Attempt) (rest : List Line) → IsFirst clock base here left rest → IsRun (play_of clock start (answered ++ left)).log rest
+  serial_left left rest =
+      ⊎_elim (λ none. subst (λ (as : List Attempt). IsRun (play_of clock start (answered ++ as)).log rest) (sym none) (none_left rest))
+      (λ first. subst (IsRun (play_of clock start (answered ++ left)).log) (sym first.2) (first_left left first.0 first.1 first.3))
+
+-- ---- ends
+
+first_of : (clock : ℕ → ℕ) (base : ℕ) (start : Log) (answered left : List Attempt) (rest : List Line) (result : Result (Unit {0}) LineEnd) → EndsWith clock base start answered left rest result → IsFirst clock base (play_of clock start answered) left rest
+first_of clock base start answered left rest (Ok done) ends = inl ends.1
+first_of clock base start answered left [] (Err e) ends = absurd ends
+first_of clock base start answered left (line ∷ behind) (Err e) ends = inr (line, behind, refl, ends)
+
+ends_at : (clock : ℕ → ℕ) (base : ℕ) (start : Log) (answered left : List Attempt) (rest : List Line) (result : Result (Unit {0}) LineEnd) (mark : Mark) (groups : ℕ) → (play_of clock start (answered ++ left)).mark ≡ mark → length (play_of clock start (answered ++ left)).log.entries ≡ groups
+    → EndsWith clock base start answered left rest result → EndsAt (end_behind result mark groups) clock base start answered left rest
+ends_at clock base start answered left rest (Ok done) mark groups at count ends =
+    let all : answered ++ left ≡ answered = ap (λ (as : List Attempt). answered ++ as) ends.1 ∙ append-nil answered in
+    (
+      ends.0,
+      ends.1,
+      sym at ∙ ap (λ (as : List Attempt). (play_of clock start as).mark) all,
+      sym count ∙ ap (λ (as : List Attempt). length (play_of clock start as).log.entries) all,
+    )
+ends_at clock base start answered left [] (Err e) mark groups at count ends = absurd ends
+ends_at clock base start answered left (line ∷ behind) (Err line_end.NoMemory) mark groups at count ends = ends
+ends_at clock base start answered left (line ∷ behind) (Err (line_end.Sink faults)) mark groups at count ends = ends
+
+writes_lines : (clock : ℕ → ℕ) (start : Log) (answered left : List Attempt) (lines : List NamedLine) (result : Result (Unit {0}) LineEnd) (mark : Mark) (groups : ℕ) (old new : List ℕ) → Writes clock start answered left lines result old new
+    → WritesLines (end_behind result mark groups) clock start answered left lines old new
+writes_lines clock start answered left lines (Ok done) mark groups old new writes = writes
+writes_lines clock start answered left lines (Err line_end.NoMemory) mark groups old new writes = writes
+writes_lines clock start answered left lines (Err (line_end.Sink faults)) mark groups old new writes = writes
+
+has_read : (clock : ℕ → ℕ) (used more : ℕ) (upcoming : ℕ → ℕ) (result : Result (Unit {0}) LineEnd) (mark : Mark) (groups : ℕ) → HasRead (behind clock used) more upcoming result → IsAnswered (end_behind result mark groups) → upcoming ≡ behind clock (used + more)
+has_read clock used more upcoming (Ok done) mark groups read answered = read ∙ behind_both clock used more
+has_read clock used more upcoming (Err line_end.NoMemory) mark groups read answered = absurd answered
+has_read clock used more upcoming (Err (line_end.Sink faults)) mark groups read answered = absurd answered
+
+pub ends_serving : (result : Result (Unit {0}) LineEnd) (mark : Mark) (groups : ℕ) → EndsServing (end_behind result mark groups)
+ends_serving (Ok done) mark groups = tt
+ends_serving (Err line_end.NoMemory) mark groups = tt
+ends_serving (Err (line_end.Sink faults)) mark groups = tt
+
+pub end_cause : (result : Result (Unit {0}) LineEnd) (mark : Mark) (groups shelf shelf_now out out_now : ℕ) → (shelf ≤ shelf_now) × (out ≤ out_now) → IsCaused out out_now result → EndCause shelf shelf_now out out_now (end_behind result mark groups)
+end_cause (Ok done) mark groups shelf shelf_now out out_now later cause = record { later = later; cause = tt }
+end_cause (Err line_end.NoMemory) mark groups shelf shelf_now out out_now later cause = record { later = later; cause = tt }
+end_cause (Err (line_end.Sink faults)) mark groups shelf shelf_now out out_now later cause = record { later = later; cause = cause.0 }
+
+-- ---- from a store from which a run begins
+
+module _ {S C : Type 0} (files : S → Folder) (may_leave : S → Folder → Type 0) (moment : S → ℕ) (left_since : S → ℕ → Folder → Type 0) (upcoming : C → ℕ → ℕ) (clock : ℕ → ℕ) (old : S) (store : State S C)
+    (begun : IsBegun files may_leave moment left_since upcoming clock old store) (base : ℕ) where
+  abbrev start : Log
+  start = begun.start
+
+  abbrev time : ℕ → ℕ
+  time = behind clock begun.used
+
+  bare : IsBare start
+  bare = start_bare clock (files old) start begun.used begun.starts
+
+  keeps_start : (seats : List Follower) → Keeps files may_leave time start [] (serving_over store seats)
+  keeps_start seats = record {
+    at = record { rotates = bare.rotates; journal = bare.entries; mailbox = begun.mailbox; mark = begun.mark; place = (sym begun.mark, begun.owed) };
+    debt = Nothing;
+    owed = tt;
+    rests = begun.rests;
+  }
+
+  may_start : (faults : ℕ) → base ≤ faults → MayPlay time start base faults []
+  may_start faults later = record { sound = begun.sound; new = bare.entries; each = All-nil (IsAttempt base); few = omega (arith, later) }
+
+  seated : (n : ℕ) (seats : List Follower) → seats ≡ replicate n new_follower → AreSeated store.chain.live.mailbox (λ s. new_session) seats
+  seated n seats is = subst (AreSeated store.chain.live.mailbox (λ s. new_session)) (sym is) (record {
+    abreast = All-replicate (IsAbreast store.chain.live.mailbox) n new_follower (λ selected. absurd cc);
+    states = λ k f lt. ap (λ (g : Follower). g.state) (get_or-replicate n k new_follower f (fewer k lt));
+  })
+    where
+      fewer : (k : ℕ) → k < length (replicate n new_follower) → k < n
+      fewer k lt = subst (λ (m : ℕ). k < m) (length-replicate n new_follower) lt
+
+  -- new sessions follow the play that is to come
+  pub follows_start : (n : ℕ) (seats : List Follower) (faults : ℕ) → base ≤ faults → seats ≡ replicate n new_follower → Follows files may_leave upcoming time start base faults [] (serving_over store seats)
+  follows_start n seats faults later is =
+      record { may = may_start faults later; keeps = keeps_start seats; readings = begun.readings ∙ behind_none time; seats = seated n seats is }
+
+  -- what a crash leaves before the first line it may leave among them
+  longer_leave : (attempts : List Attempt) (c : Folder) → MayLeave time start [] (files old) c → MayLeave time start attempts (files old) c
+  longer_leave attempts c = ⊎_elim inl (λ may. inr (longer_may time start [] c attempts may))
+
+  -- ---- the lines were served
+
+  module _ (faults : ℕ) (lines : List NamedLine) (told : Type 0) (taken taken_now : List ℕ) (seats : List Follower) (result : Result (Unit {0}) LineEnd) (new : Serving S C)
+      (runs : Runs files may_leave moment left_since upcoming time start base faults lines result told taken taken_now (serving_over store seats) new)
+      (there : may_leave new.store.shelf (files new.store.shelf)) where
+    abbrev all : List Attempt
+    all = runs.answered ++ runs.left
+
+    abbrev how : End
+    how = end_behind result new.mark (length new.journal)
+
+    kept : (c : Folder) → may_leave new.store.shelf c → GivesBehind time start all c
+    kept c left = keeps_behind files may_leave time start all new runs.leaves.keeps c left
+
+    pub serves_lines : ServesLines files may_leave moment left_since clock (upcoming new.store.clock) base faults lines how new.journal told taken taken_now old new.store.shelf
+    serves_lines = record {
+      start = start;
+      used = begun.used;
+      starts = begun.starts;
+      answered = runs.answered;
+      left = runs.left;
+      rest = runs.rest;
+      parts = runs.parts;
+      ends = ends_at time base start runs.answered runs.left runs.rest result new.mark (length new.journal) runs.leaves.keeps.at.mark (ap length runs.leaves.keeps.at.journal) runs.ends;
+      serial = subst (λ (ls : List Line). Serial (play_of time start all).log base faults ls (replies_to time (begin start) runs.answered)) (sym runs.parts)
+          (serial_left time start base faults runs.answered runs.may runs.left runs.rest (first_of time base start runs.answered runs.left runs.rest result runs.ends));
+      entries = sym runs.leaves.keeps.at.journal;
+      output = λ tells. writes_lines time start runs.answered runs.left lines result new.mark (length new.journal) taken taken_now (runs.output tells);
+      readings = has_read clock begun.used (play_of time start runs.answered).used (upcoming new.store.clock) result new.mark (length new.journal) runs.readings;
+      folder = kept (files new.store.shelf) there;
+      after = kept;
+      crash = joined moment left_since old store.shelf new.store.shelf (MayLeave time start all (files old))
+          (weaker moment left_since old store.shelf (MayLeave time start [] (files old)) (MayLeave time start all (files old)) begun.since (longer_leave all))
+          (weaker moment left_since store.shelf new.store.shelf (MayGive time start all) (MayLeave time start all (files old)) runs.leaves.since (λ c may. inr may));
+    }
+
+  -- ---- no line was
+
+  module _ (faults : ℕ) (later : base ≤ faults) (lines : List NamedLine) (told : Type 0) (taken : List ℕ) (there : may_leave store.shelf (files store.shelf)) where
+    none_kept : (c : Folder) → may_leave store.shelf c → GivesBehind time start [] c
+    none_kept c left = keeps_behind files may_leave time start [] (serving_over store []) (keeps_start []) c left
+
+    none_ends : (rest : List Line) → EndsAt end.NoMemory time base start [] [] rest
+    none_ends [] = refl
+    none_ends (line ∷ rest) = tt
+
+    pub serves_none : ServesLines files may_leave moment left_since clock (upcoming store.clock) base faults lines end.NoMemory [] told taken taken old store.shelf
+    serves_none = record {
+      start = start;
+      used = begun.used;
+      starts = begun.starts;
+      answered = [];
+      left = [];
+      rest = numbered lines;
+      parts = refl;
+      ends = none_ends (numbered lines);
+      serial = serial time start base faults [] (may_start faults later) (numbered lines);
+      entries = sym bare.entries;
+      output = λ tells. sym (append-nil taken);
+      readings = λ answered. absurd answered;
+      folder = none_kept (files store.shelf) there;
+      after = none_kept;
+      crash = begun.since;
+    }
+
+-- ---- a run over a folder
+
+module _ {S : Type 0} (files : S → Folder) (may_leave : S → Folder → Type 0) (moment : S → ℕ) (left_since : S → ℕ → Folder → Type 0) (clock clock_now : ℕ → ℕ) (base faults : ℕ) (lines : List NamedLine) (journal : List Entry) (told : Type 0) (taken taken_now : List ℕ) (old new : S) where
+  pub runs_serving : (e : End) → EndsServing e → ServesLines files may_leave moment left_since clock clock_now base faults lines e journal told taken taken_now old new
+      → RunsOver files may_leave moment left_since clock clock_now base faults lines e journal told taken taken_now old new
+  runs_serving (end.Answered mark groups) serving serves = serves
+  runs_serving end.Usage serving serves = absurd serving
+  runs_serving (end.Unopened f) serving serves = absurd serving
+  runs_serving end.NoMemory serving serves = serves
+  runs_serving (end.Script fault) serving serves = absurd serving
+  runs_serving (end.Source faulted) serving serves = absurd serving
+  runs_serving end.Sink serving serves = serves

@@ -1,0 +1,68 @@
+-- How often the clock was read.
+use Rattle.std.proofs.Common.{◌≡◌, ℕ, ◌+◌, ◌*◌, ◌≤◌, Result, Ok, Err, refl, sym, ◌∙◌, ap, subst, arith}
+use Rattle.std.specs.Prelude.{IfErr}
+use Rattle.dv_model.specs.declared.types.OpenFault.{OpenFault}
+use Rattle.dv_model.specs.declared.types.OpenFault.TheVariants as fault
+use Rattle.dv_shelf.specs.Clocks.{behind}
+use Rattle.dv_chain.specs.Openings.{IsOutside}
+use Rattle.dv_serial.specs.Serves.{TakesUpTo}
+use Rattle.dv_cli.specs.Causes.{EndsServing, TakesForOpening, TakesForRun, most_readings}
+use Rattle.dv_cli.specs.declared.ending.End.{End}
+use Rattle.dv_cli.specs.declared.ending.End.TheVariants as end
+use Rattle.dv_cli.proofs.Starting.{behind_both, behind_none}
+
+pub takes_none : (most : ℕ) (old new : ℕ → ℕ) → new ≡ old → TakesUpTo most old new
+takes_none most old new same = (0, omega arith, same ∙ behind_none old)
+
+-- ---- an opening
+
+module _ {A : Type 0} (old new : ℕ → ℕ) where
+  pub unread_opening : (result : Result A OpenFault) → new ≡ old → TakesForOpening old new result
+  unread_opening (Ok x) same = takes_none 1 old new same
+  unread_opening (Err (fault.Disk faults)) same = takes_none 1 old new same
+  unread_opening (Err fault.NoMemory) same = takes_none 1 old new same
+  unread_opening (Err fault.NoLog) same = same
+  unread_opening (Err fault.BadLogHeader) same = same
+  unread_opening (Err (fault.BadRecord offset)) same = same
+  unread_opening (Err fault.BadIndex) same = same
+  unread_opening (Err (fault.Gap index log)) same = same
+
+  pub read_once : (result : Result A OpenFault) → new ≡ behind old 1 → IfErr result IsOutside → TakesForOpening old new result
+  read_once (Ok x) is outside = (1, omega arith, is)
+  read_once (Err (fault.Disk faults)) is outside = (1, omega arith, is)
+  read_once (Err fault.NoMemory) is outside = (1, omega arith, is)
+  read_once (Err fault.NoLog) is outside = absurd outside
+  read_once (Err fault.BadLogHeader) is outside = absurd outside
+  read_once (Err (fault.BadRecord offset)) is outside = absurd outside
+  read_once (Err fault.BadIndex) is outside = absurd outside
+  read_once (Err (fault.Gap index log)) is outside = absurd outside
+
+-- ---- a run
+
+-- what an opening took, and what the lines took
+pub takes_both : (a b : ℕ) (old mid new : ℕ → ℕ) → TakesUpTo a old mid → TakesUpTo b mid new → TakesUpTo (a + b) old new
+takes_both a b old mid new first second =
+    (
+      first.0 + second.0,
+      omega (arith, first.1, second.1),
+      second.2 ∙ ap (λ (clock : ℕ → ℕ). behind clock second.0) first.2 ∙ behind_both old first.0 second.0,
+    )
+
+pub run_takes : (lines : ℕ) (old new : ℕ → ℕ) (e : End) → EndsServing e → TakesUpTo (most_readings lines) old new → TakesForRun lines old new e
+run_takes lines old new (end.Answered mark groups) serving takes = takes
+run_takes lines old new end.Usage serving takes = absurd serving
+run_takes lines old new (end.Unopened f) serving takes = absurd serving
+run_takes lines old new end.NoMemory serving takes = takes
+run_takes lines old new (end.Script fault) serving takes = absurd serving
+run_takes lines old new (end.Source faults) serving takes = absurd serving
+run_takes lines old new end.Sink serving takes = takes
+
+-- the fault alone says how often
+pub fault_takes : {A B : Type 0} (old new : ℕ → ℕ) (f : OpenFault) → TakesForOpening old new {A = A} (Err f) → TakesForOpening old new {A = B} (Err f)
+fault_takes old new (fault.Disk faults) takes = takes
+fault_takes old new fault.NoMemory takes = takes
+fault_takes old new fault.NoLog takes = takes
+fault_takes old new fault.BadLogHeader takes = takes
+fault_takes old new (fault.BadRecord offset) takes = takes
+fault_takes old new fault.BadIndex takes = takes
+fault_takes old new (fault.Gap index log) takes = takes

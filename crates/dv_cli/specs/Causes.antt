@@ -1,0 +1,187 @@
+-- What each end and each status of a run comes from, and how often the clock is read.
+use Rattle.std.specs.Prelude.{◌≡◌, ◌≢◌, ◌⊎◌, ◌≤◌, ◌+◌, ◌*◌, ℕ, Bool, true, false, List, [], Result, Ok, Err, ⊤}
+use Rattle.dv_model.specs.declared.types.OpenFault.{OpenFault}
+use Rattle.dv_model.specs.declared.types.OpenFault.TheVariants as fault
+use Rattle.dv_model.specs.Counts.{Rose}
+use Rattle.dv_script.specs.declared.types.ScriptEnd.{ScriptEnd}
+use Rattle.dv_script.specs.declared.types.ScriptEnd.TheVariants as script
+use Rattle.dv_shelf.specs.Clocks.{behind}
+use Rattle.dv_model.specs.declared.types.Entry.{Entry}
+use Rattle.dv_shelf.specs.Folders.{Folder}
+use Rattle.dv_formats.specs.Parsing.{ScriptFault}
+use Rattle.dv_formats.specs.Scripts.{NamedLine}
+use Rattle.dv_script.specs.declared.types.Line.{Line}
+use Rattle.dv_script.specs.Sources.{ScriptFails, all_named}
+use Rattle.dv_openings.specs.Openings.{IsFound}
+use Rattle.dv_chain.specs.Openings.{FaultFound}
+use Rattle.dv_serial.specs.Serves.{TakesUpTo}
+use Rattle.dv_cli.specs.Endings.{IsFault}
+use Rattle.dv_cli.specs.Starts.{IsNew}
+use Rattle.dv_cli.specs.declared.ending.End.{End}
+use Rattle.dv_cli.specs.declared.ending.End.TheVariants as end
+
+-- ---- the clock
+
+-- once at most, and not at all where a fault is found
+abbrev pub TakesForOpening : (ℕ → ℕ) → (ℕ → ℕ) → {A : Type 0} → Result A OpenFault → Type 0
+TakesForOpening old new (Ok store) = TakesUpTo 1 old new
+TakesForOpening old new (Err (fault.Disk faults)) = TakesUpTo 1 old new
+TakesForOpening old new (Err fault.NoMemory) = TakesUpTo 1 old new
+TakesForOpening old new (Err found) = new ≡ old
+
+-- once for a mailbox that is made, and twice at most for each line
+abbrev pub most_readings : ℕ → ℕ
+most_readings lines = 1 + 2 * lines
+
+-- so often over a folder
+abbrev pub TakesForRun : ℕ → (ℕ → ℕ) → (ℕ → ℕ) → End → Type 0
+TakesForRun lines old new (end.Unopened f) = TakesForOpening old new {A = Unit {0}} (Err f)
+TakesForRun lines old new e = TakesUpTo (most_readings lines) old new
+
+-- ---- the ends
+
+-- lines that are served end so
+abbrev pub EndsServing : End → Type 0
+EndsServing (end.Answered mark groups) = ⊤
+EndsServing end.NoMemory = ⊤
+EndsServing end.Sink = ⊤
+EndsServing e = ⊥
+
+-- the count of the folder's faults never falls, nor that of the output's; a disk's fault and a
+-- failed output come only where theirs rose
+abbrev pub FolderCause : ℕ → ℕ → ℕ → ℕ → End → Type 0
+FolderCause shelf shelf_now out out_now (end.Answered mark groups) = ⊤
+FolderCause shelf shelf_now out out_now (end.Unopened (fault.Disk faults)) =
+    Rose shelf shelf_now × (faults ≡ shelf_now)
+FolderCause shelf shelf_now out out_now (end.Unopened f) = ⊤
+FolderCause shelf shelf_now out out_now end.NoMemory = ⊤
+FolderCause shelf shelf_now out out_now end.Sink = Rose out out_now
+FolderCause shelf shelf_now out out_now e = ⊥
+
+pub record EndCause (shelf shelf_now out out_now : ℕ) (e : End) : Type 0 where
+  pub later : (shelf ≤ shelf_now) × (out ≤ out_now)
+  pub cause : FolderCause shelf shelf_now out out_now e
+
+-- a fault is found in a folder that has a file of a mailbox
+pub record HasFault (folder : Folder) : Type 0 where
+  pub fault : OpenFault
+  pub is : IsFault fault
+  pub found : FaultFound fault (IsFound folder)
+  pub some : IsNew folder → ⊥
+
+-- What the folder holds is told: a fault that is found, where it has a file of a mailbox; all lines
+-- are answered only where there is none.
+abbrev pub TellsFaults : Folder → End → Type 0
+TellsFaults folder (end.Unopened f) =
+    IsFault f → FaultFound f (IsFound folder) × (IsNew folder → ⊥)
+TellsFaults folder (end.Answered mark groups) = HasFault folder → ⊥
+TellsFaults folder e = ⊤
+
+-- ---- before the folder is touched
+
+-- the lines are those of the script, or its fault is told; the source failed, or memory ran out
+abbrev pub ScriptEnds : Result (List Line) End → Result (List NamedLine) ScriptFault → Type 0
+ScriptEnds (Ok lines) read = read ≡ Ok (all_named lines)
+ScriptEnds (Err (end.Script fault)) read = ScriptFails fault read
+ScriptEnds (Err (end.Source faults)) read = ⊤
+ScriptEnds (Err end.NoMemory) read = ⊤
+ScriptEnds (Err e) read = ⊥
+
+-- the same without what the script says
+abbrev pub IsReadEnd : End → ℕ → ℕ → Type 0
+IsReadEnd end.NoMemory before now = ⊤
+IsReadEnd (end.Script fault) before now = ⊤
+IsReadEnd (end.Source faults) before now = Rose before now × (faults ≡ now)
+IsReadEnd e before now = ⊥
+
+-- neither the folder nor the clock is touched, and no group is written
+pub record IsUntouched {S C : Type 0} (old new : S) (before now : C) (entries : List Entry)
+    : Type 0 where
+  pub shelf : new ≡ old
+  pub clock : now ≡ before
+  pub journal : entries ≡ []
+
+-- ---- a run before its last line
+
+-- how often the folder, the script's source and the output had failed before the run
+pub record Counts : Type 0 where
+  pub shelf : ℕ
+  pub source : ℕ
+  pub output : ℕ
+
+-- the three counts
+abbrev pub counts_of : ℕ → ℕ → ℕ → Counts
+counts_of shelf source output = record { shelf = shelf; source = source; output = output }
+
+-- each end has its cause: a failure of the disk or of the source, whose count is told, or one of the
+-- output
+abbrev pub ComesFrom : Counts → Counts → End → Type 0
+ComesFrom before now (end.Unopened (fault.Disk faults)) =
+    Rose before.shelf now.shelf × (faults ≡ now.shelf)
+ComesFrom before now (end.Source faults) =
+    Rose before.source now.source × (faults ≡ now.source)
+ComesFrom before now end.Sink = Rose before.output now.output
+ComesFrom before now end.Usage = ⊥
+ComesFrom before now e = ⊤
+
+-- no count falls, and the end has its cause
+pub record HasRunCause (before now : Counts) (e : End) : Type 0 where
+  pub later : (before.shelf ≤ now.shelf) × (before.source ≤ now.source)
+      × (before.output ≤ now.output)
+  pub cause : ComesFrom before now e
+
+-- what the script says is told: its fault, or lines, which alone are served
+abbrev pub TellsScript : Result (List NamedLine) ScriptFault → End → Type 0
+TellsScript read (end.Script fault) = ScriptFails fault read
+TellsScript read (end.Source faults) = ⊤
+TellsScript read end.NoMemory = ⊤
+TellsScript read end.Usage = ⊥
+TellsScript read e = (lines : List NamedLine) × (read ≡ Ok lines)
+
+-- a script that is refused ends a run so, unless it can't be read
+abbrev pub EndsRefused : ScriptFault → End → Type 0
+EndsRefused fault (end.Script e) = ScriptFails {Y = List NamedLine} e (Err fault)
+EndsRefused fault (end.Source faults) = ⊤
+EndsRefused fault end.NoMemory = ⊤
+EndsRefused fault e = ⊥
+
+-- where the clock isn't touched: wrong words, a script that isn't served, a fault in the folder; it
+-- is read at most once where the disk fails
+abbrev pub TakesByEnd : (ℕ → ℕ) → (ℕ → ℕ) → End → Type 0
+TakesByEnd old new end.Usage = new ≡ old
+TakesByEnd old new (end.Script fault) = new ≡ old
+TakesByEnd old new (end.Source faults) = new ≡ old
+TakesByEnd old new (end.Unopened f) = TakesForOpening old new {A = Unit {0}} (Err f)
+TakesByEnd old new e = ⊤
+
+-- ---- the statuses
+
+-- The clock isn't read where words or folder are refused, or the script is or can't be read; it is
+-- read at most once where the disk fails before the first line.
+pub record TakesByStatus (status : ℕ) (old new : ℕ → ℕ) : Type 0 where
+  pub usage : status ≡ 1 → new ≡ old
+  pub disk : status ≡ 2 → TakesUpTo 1 old new
+  pub found : status ≡ 3 → new ≡ old
+  pub script : status ≡ 5 → new ≡ old
+  pub source : status ≡ 6 → new ≡ old
+
+-- one of them rose
+abbrev pub AnyRose : Counts → Counts → Type 0
+AnyRose before now = Rose before.shelf now.shelf ⊎ Rose before.source now.source
+    ⊎ Rose before.output now.output
+
+-- Each status comes only from its cause: wrong words, a failure of the disk, a fault that is found in
+-- the folder, a script that is refused, and failures of the source and of the output.
+pub record HasCauses (status : ℕ) (good : Bool) (before now : Counts) (finds : Type 0)
+    (refuses : Type 0) : Type 0 where
+  pub small : status ≤ 7
+  pub usage : status ≡ 1 → good ≡ false
+  pub disk : status ≡ 2 → Rose before.shelf now.shelf
+  pub found : status ≡ 3 → finds
+  pub script : status ≡ 5 → refuses
+  pub source : status ≡ 6 → Rose before.source now.source
+  pub output : status ≡ 7 → Rose before.output now.output
+
+-- the status is this one, unless memory ran out or something outside failed
+abbrev pub IsOr : ℕ → ℕ → Counts → Counts → Type 0
+IsOr wanted status before now = (status ≡ wanted) ⊎ (status ≡ 4) ⊎ AnyRose before now

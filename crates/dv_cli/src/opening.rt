@@ -1,0 +1,124 @@
+//! The mailbox of a folder is opened, or made where there is none.
+
+ghost use Rattle.std.specs.Prelude.{◌≡◌, IfErr, IfOk, MatchBool};
+ghost use Rattle.dv_model.specs.Journals.{IsU32};
+ghost use Rattle.dv_shelf.specs.Crashes.{IsSettled};
+ghost use Rattle.dv_shelf.specs.declared.shelf.Name.{Name};
+ghost use Rattle.dv_chain.specs.Openings.{HasCause, IsOutside, OnlyLooks};
+ghost use Rattle.dv_store.specs.Opening.{answered, clock_behind, shelf_behind};
+ghost use Rattle.dv_cli.specs.Begins.{Begins, IsTyped};
+ghost use Rattle.dv_cli.specs.Causes.{TakesForOpening};
+ghost use Rattle.dv_cli.specs.Starts.{IsNew, IsTrueFolder, is_of_mailbox};
+
+use dv_model::OpenFault;
+use dv_shelf::{Clock, Name, Shelf, ShelfFault};
+use dv_store::Store;
+use std::alloc::Global;
+
+/// Whether a file is one of a mailbox's. A cache file alone makes none.
+fn is_of_mailbox(name: &Name) -> bool
+    ensures { result ≡ is_of_mailbox name.now }
+{
+    match name {
+        Name::Index | Name::Log | Name::Log2 | Name::Mail(_) => true,
+        Name::Cache => false,
+    }
+}
+
+/// Whether the folder has a file of a mailbox.
+fn has_mailbox<S: Shelf>(alloc: Global, shelf: &mut S) -> Result<bool, OpenFault>
+    ensures is { S.tells → IfOk result (λ has.
+        MatchBool has (IsNew (S.files shelf.old) → ⊥) (IsNew (S.files shelf.old))) }
+    ensures looks { S.tells →
+        OnlyLooks S.files S.may_leave S.moment S.left_since shelf.old shelf.new }
+    ensures err { IfErr result IsOutside }
+    ensures cause { HasCause (S.fault_count shelf.old) (S.fault_count shelf.new) result }
+{
+    match shelf.list(alloc) {
+        Ok(names) => Ok(names.as_slice().iter().any(is_of_mailbox)),
+        Err(ShelfFault::Failed) => Err(OpenFault::Disk(shelf.faults())),
+        Err(ShelfFault::NoMemory) => Err(OpenFault::NoMemory),
+    }
+}
+
+/// A number of 32 bits is one.
+fn is_number(n: u32)
+    ensures { IsU32 n }
+{}
+
+/// The mailbox of a store is valid, and its numbers are those of their types. Nothing is computed.
+fn have_types<S, C>(store: &Store<S, C>)
+    ensures { IsTyped store.now.chain }
+{
+    let live = store.live();
+    let _next = live.next_uid();
+    let mark = store.mark();
+    is_number(mark.file_seq);
+    is_number(mark.offset);
+    is_number(store.indexid());
+    for extension in live.extensions().list().as_slice() {
+        is_number(extension.reset_id);
+    }
+}
+
+/// Opens the mailbox of a folder that has a file of one.
+fn open_found<S: Shelf, C: Clock>(
+    alloc: Global,
+    shelf: S,
+    clock: C,
+) -> Result<Store<S, C>, (S, C, OpenFault)>
+    ensures begins { S.tells → IsSettled S.files S.may_leave shelf →
+        IsTrueFolder (S.files shelf) → (IsNew (S.files shelf) → ⊥) →
+        Begins S.files S.may_leave S.moment S.left_since C.upcoming (C.upcoming clock) shelf result }
+    ensures clock { clock_behind result ≡ clock }
+    ensures cause { HasCause (S.fault_count shelf) (S.fault_count (shelf_behind result))
+        (answered result) }
+{
+    let store = Store::open(alloc, shelf, clock)?;
+    have_types(&store);
+    Ok(store)
+}
+
+/// Makes the mailbox of a folder that has none.
+fn make_new<S: Shelf, C: Clock>(
+    alloc: Global,
+    shelf: S,
+    clock: C,
+) -> Result<Store<S, C>, (S, C, OpenFault)>
+    ensures begins { S.tells → C.tells → IsSettled S.files S.may_leave shelf →
+        IsNew (S.files shelf) →
+        Begins S.files S.may_leave S.moment S.left_since C.upcoming (C.upcoming clock) shelf result }
+    ensures clock { C.tells →
+        TakesForOpening (C.upcoming clock) (C.upcoming (clock_behind result)) (answered result) }
+    ensures cause { HasCause (S.fault_count shelf) (S.fault_count (shelf_behind result))
+        (answered result) }
+{
+    let store = Store::create(alloc, shelf, clock)?;
+    have_types(&store);
+    Ok(store)
+}
+
+/// Opens the mailbox of a folder, or makes one where the folder has no file of a mailbox. The folder
+/// and the clock are handed back with a fault.
+pub fn open_folder<S: Shelf, C: Clock>(
+    alloc: Global,
+    mut shelf: S,
+    clock: C,
+) -> Result<Store<S, C>, (S, C, OpenFault)>
+    // Of a settled folder with a true cache: the log that it starts from, what is left, and what a
+    // crash leaves at any moment.
+    ensures begins { S.tells → C.tells → IsSettled S.files S.may_leave shelf →
+        IsTrueFolder (S.files shelf) → Begins S.files S.may_leave S.moment S.left_since C.upcoming
+        (C.upcoming clock) shelf result }
+    // The clock is read at most once, where a mailbox is made; a fault of the disk has its cause.
+    ensures clock { C.tells →
+        TakesForOpening (C.upcoming clock) (C.upcoming (clock_behind result)) (answered result) }
+    ensures cause { HasCause (S.fault_count shelf) (S.fault_count (shelf_behind result))
+        (answered result) }
+{
+    match has_mailbox(alloc, &mut shelf) {
+        Ok(true) => open_found(alloc, shelf, clock),
+        Ok(false) => make_new(alloc, shelf, clock),
+        Err(fault) => Err((shelf, clock, fault)),
+    }
+}
