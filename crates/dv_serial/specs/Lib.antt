@@ -7,3 +7,4 @@ pub mod Writes
 pub mod Scripts
 pub mod Runs
 pub mod Numbering
+pub mod Others
