@@ -3,12 +3,14 @@
 ghost use Rattle.std.specs.Prelude.{◌≡◌, ◌+◌, ◌<◌, ◌≤◌, ℕ, List, IfOk, None, OnErr, OnOk, length, true, false};
 ghost use Rattle.dv_model.specs.Journals.{Log};
 ghost use Rattle.dv_model.specs.Sessions.{is_write};
+ghost use Rattle.dv_shelf.specs.declared.shelf.Name.{Name};
 ghost use Rattle.dv_shelf.specs.Crashes.{LeavesOnly};
 ghost use Rattle.dv_keeping.specs.Debts.{Debt};
 ghost use Rattle.dv_answer.specs.Following.{Leads};
 ghost use Rattle.dv_answer.specs.Refusing.{own_refusal};
 ghost use Rattle.dv_plans.specs.Faults.{HasStoreCause};
 ghost use Rattle.dv_playing.specs.Playing.{Attempt};
+ghost use Rattle.dv_store.specs.Commits.{MayWrite};
 ghost use Rattle.dv_store.specs.Rest.{IsAtRest};
 ghost use Rattle.dv_serial.specs.Following.{Follows};
 ghost use Rattle.dv_serial.specs.Places.{play_of};
@@ -41,6 +43,12 @@ impl<S: Shelf, C: Clock> Serial<S, C> {
             (S.fault_count self.old.store.shelf) attempts self.old → number ≡ at + 1 →
             Commits S.files S.may_leave S.moment S.left_since C.upcoming clock start attempts
             (number, c.now) self.old result self.new }
+        // Files that the command doesn't write stay.
+        ensures others { S.tells → C.tells → (clock : ℕ → ℕ) (start : Log) (base : ℕ)
+            (attempts : List Attempt) → Follows S.files S.may_leave C.upcoming clock start base
+            (S.fault_count self.old.store.shelf) attempts self.old → (n : Name) →
+            (MayWrite c.now self.old.store.chain.live.mailbox n → ⊥) →
+            S.files self.new.store.shelf n ≡ S.files self.old.store.shelf n }
         // The sessions stay, and are to be told of what changes; a fault of the disk has its cause.
         ensures seats { self.new.seats ≡ self.old.seats }
         ensures leads { IfOk result (Leads self.old.store.chain.live.mailbox

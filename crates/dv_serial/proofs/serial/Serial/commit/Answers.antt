@@ -3,6 +3,7 @@ use Rattle.std.proofs.lemmas.List.{get_or_read}
 use Rattle.std.proofs.lemmas.Result.{err_from_is_err_and}
 use Rattle.dv_model.specs.declared.types.Entry.{Entry}
 use Rattle.dv_answer.specs.Following.{Follower, new_follower}
+use Rattle.dv_serial.specs.Places.{play_of}
 use Rattle.dv_serial.proofs.Answered.{fails, not_both, pushed, unready, writes_entry, writes_none}
 use Rattle.dv_serial.proofs.Led.{few_taken, receipt_leads}
 use Rattle.dv_serial.proofs.serial.Serial.commit.Goals.{then-not-is_empty, else-not-is_empty}
@@ -77,4 +78,16 @@ returns-clause-readings g c = rw (← c.self.view_is) (λ reads.
     elim c.if-not-is_empty.branch [
       | then-not-is_empty w ↦ rw w.self-is few
       | else-not-is_empty w ↦ rw w.self-is few
+    ])
+
+pub returns-in_err-receipt-clause-others : goal.returns-in_err-receipt-clause-others
+returns-in_err-receipt-clause-others g c = rw (← c.self.view_is) (λ tells reads clock start base attempts follows n outside.
+    (c.in_err-receipt.ensures.gives tells reads (play_of clock start attempts).log follows.keeps.debt c.args.number follows.keeps.rests).others n outside)
+
+pub returns-clause-others : goal.returns-clause-others
+returns-clause-others g c = rw (← c.self.view_is) (λ tells reads clock start base attempts follows n outside.
+    let stays = (c.in_ok-receipt.ensures.gives tells reads (play_of clock start attempts).log follows.keeps.debt c.args.number follows.keeps.rests).others n outside in
+    elim c.if-not-is_empty.branch [
+      | then-not-is_empty w ↦ rw w.self-is stays
+      | else-not-is_empty w ↦ rw w.self-is stays
     ])
