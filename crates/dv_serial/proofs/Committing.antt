@@ -1,17 +1,15 @@
 -- What comes of a write that its session doesn't refuse: its group is written, or it has none, or a
 -- limit refuses it, or memory ends it.
-use Rattle.std.proofs.Common.{◌≡◌, ◌⊎◌, inl, inr, ⊎_elim, ℕ, ◌+◌, ◌≤◌, ◌<◌, Bool, true, false, List, [], ◌∷◌, ◌++◌, length, nat_eq, Option, Some, None, Result, Ok, Err, refl, sym, ◌∙◌, ap, subst, arith}
-use Rattle.std.specs.Prelude.{if◌then◌else◌}
+use Rattle.std.proofs.Common.{◌≡◌, ℕ, ◌≤◌, Bool, true, false, List, [], ◌∷◌, ◌++◌, length, nat_eq, Some, None, Result, Ok, Err, refl, sym, ◌∙◌, ap, subst, arith}
 use Rattle.std.proofs.lemmas.Bool.Decides.{nat_tests}
 use Rattle.dv_model.specs.declared.types.Entry.{Entry}
 use Rattle.dv_model.specs.declared.types.Group.{Group}
-use Rattle.dv_model.specs.declared.types.Mailbox.{Mailbox}
 use Rattle.dv_model.specs.declared.types.Mark.{Mark}
 use Rattle.dv_model.specs.declared.types.Record.{Record}
 use Rattle.dv_model.specs.declared.types.Reply.{Reply}
 use Rattle.dv_model.specs.declared.types.Reply.TheVariants as reply
 use Rattle.dv_model.specs.Effects.{applied}
-use Rattle.dv_model.specs.Journals.{IsSound, Log}
+use Rattle.dv_model.specs.Journals.{Log}
 use Rattle.dv_model.specs.Sessions.{State as SessionState, is_write}
 use Rattle.dv_model.specs.Transcripts.{Line}
 use Rattle.dv_shelf.specs.Clocks.{behind}
@@ -20,14 +18,14 @@ use Rattle.dv_shelf.specs.Folders.{Folder}
 use Rattle.dv_shelf.proofs.Moments.{started, weaker}
 use Rattle.dv_groups.specs.Groups.{HasSizes}
 use Rattle.dv_rotation.specs.Texts.{place_of}
-use Rattle.dv_keeping.specs.Debts.{Debt, Nothing}
+use Rattle.dv_keeping.specs.Debts.{Nothing}
 use Rattle.dv_answer.specs.Following.{Leads}
 use Rattle.dv_answer.specs.Refusing.{own_refusal}
 use Rattle.dv_plans.specs.declared.fault.StoreFault.{StoreFault}
 use Rattle.dv_plans.specs.declared.fault.StoreFault.TheVariants as fault
-use Rattle.dv_plans.specs.Begins.{readings_of, turns}
+use Rattle.dv_plans.specs.Begins.{readings_of}
 use Rattle.dv_plans.specs.Overs.{group_over, limit_over}
-use Rattle.dv_writes.specs.Writes.{Write, group_by, log_with}
+use Rattle.dv_writes.specs.Writes.{Write}
 use Rattle.dv_playing.specs.Laws.{IsLine, MayWrite}
 use Rattle.dv_playing.specs.Playing.{Attempt, Play, Served, group_here, is_empty, refused_here, with_group_here}
 use Rattle.dv_playing.proofs.Plays as plays
@@ -35,7 +33,7 @@ use Rattle.dv_store.specs.declared.receipt.Receipt.{Receipt}
 use Rattle.dv_store.specs.Commits.{Commits, CommitsQuietly, IsIdle, IsUnwritten, TakesFor, TakesReadings, end_with, write_of}
 use Rattle.dv_store.specs.Rest.{IsAtRest}
 use Rattle.dv_store.specs.States.{State}
-use Rattle.dv_serial.specs.Following.{Follows, IsAt, Keeps, Leaves, with_line}
+use Rattle.dv_serial.specs.Following.{Follows, IsAt, Leaves, with_line}
 use Rattle.dv_serial.specs.Places.{IsOwedBehind, MayGive, StandsAt, play_of}
 use Rattle.dv_serial.specs.Servings.{Serving}
 use Rattle.dv_serial.specs.Writes.{IsDone, IsFailedBy, IsRefusedBy, StandsAs}
@@ -48,7 +46,7 @@ use Rattle.dv_serial.proofs.Places.{Meets, begin_here, clock_here, group_by_met,
 
 -- ---- groups
 
-pub not_empty : (g : Group) → 1 ≤ length g.records → is_empty g ≡ false
+not_empty : (g : Group) → 1 ≤ length g.records → is_empty g ≡ false
 not_empty g more = by_records g.records more
   where
     by_records : (rs : List Record) → 1 ≤ length rs → nat_eq (length rs) 0 ≡ false

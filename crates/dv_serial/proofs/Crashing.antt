@@ -26,7 +26,7 @@ use Rattle.dv_keeping.specs.Debts as debts
 use Rattle.dv_keeping.specs.Keeping.{Gives}
 use Rattle.dv_keeping.proofs.Resting.{rests_give}
 use Rattle.dv_plans.specs.Begins.{turns}
-use Rattle.dv_writes.specs.Writes.{IsAfter, Write, group_by, log_with}
+use Rattle.dv_writes.specs.Writes.{Write, group_by, log_with}
 use Rattle.dv_playing.specs.Laws.{MayWrite}
 use Rattle.dv_playing.specs.Playing.{Attempt, Failed, Outcome, Play, Rotation, Served, behind_failure, begin, fared, group_here, is_empty, refused_here, stepped_by, told, with_group_here}
 use Rattle.dv_playing.proofs.Plays.{goes_on}

@@ -238,29 +238,28 @@ module _ {S C : Type 0} (clock : ℕ → ℕ) (start : Log) (attempts : List Att
 
 module _ {S C : Type 0} (files : S → Folder) (may_leave : S → Folder → Type 0) (moment : S → ℕ) (left_since : S → ℕ → Folder → Type 0) (upcoming : C → ℕ → ℕ) (clock : ℕ → ℕ) (start : Log) (attempts : List Attempt) (line : Line) (write : Write) (old : Serving S C)
     (at : IsAt (play_of clock start attempts) old) (debt : Debt) (owed : IsOwedBehind clock start attempts (place_of old.store.chain) debt) (fits : Fits old.store.owed debt) (is : IsWriteAt clock (play_of clock start attempts) line write old.store.owed old.store.chain)
-    (may : MayWrite (play_of clock start attempts) line) (new : Serving S C) (mark : new.mark ≡ old.mark) (journal : new.journal ≡ old.journal) (faults : ℕ) where
+    (may : MayWrite (play_of clock start attempts) line) (new : State S C) (faults : ℕ) where
   abbrev play : Play
   play = play_of clock start attempts
 
-  abbrev Since : Folder → Type 0
-  Since = MayGiveCommit play.log debt write old.store.owed old.store.chain
+  abbrev behind_all : Serving S C
+  behind_all = record old { store = new }
 
-  -- the store stands where the play does behind the failure, with what is owed then
-  pub failed_by : new.store.chain.live.mailbox ≡ old.store.chain.live.mailbox → upcoming new.store.clock ≡ behind clock (used_by play line) → LeavesOnly moment left_since old.store.shelf new.store.shelf Since
-      → ((now : Debt) × IsLeftAt play.log debt write old.store new.store now × IsAtRest files may_leave play.log now new.store) → IsFailedBy files may_leave moment left_since upcoming clock start attempts line faults old new
+  pub failed_by : new.chain.live.mailbox ≡ old.store.chain.live.mailbox → upcoming new.clock ≡ behind clock (used_by play line) → LeavesOnly moment left_since old.store.shelf new.shelf (MayGiveCommit play.log debt write old.store.owed old.store.chain)
+      → ((now : Debt) × IsLeftAt play.log debt write old.store new now × IsAtRest files may_leave play.log now new) → IsFailedBy files may_leave moment left_since upcoming clock start attempts line faults old behind_all
   failed_by mailbox readings since err =
-      let left : IsLeftSo clock start attempts line faults new.store err.0 = left_behind clock start attempts line write old.store debt faults is at.rotates at.place owed may new.store err.0 err.1 in
+      let left : IsLeftSo clock start attempts line faults new err.0 = left_behind clock start attempts line write old.store debt faults is at.rotates at.place owed may new err.0 err.1 in
       record {
         allowed = may.allowed;
         mailbox = mailbox;
         rotation = left.rotation;
         stands = record {
-          at = record { rotates = at.rotates; journal = at.journal ∙ sym journal; mailbox = at.mailbox ∙ sym mailbox; mark = at.mark ∙ sym mark; place = left.place };
+          at = record { rotates = at.rotates; journal = at.journal; mailbox = at.mailbox ∙ sym mailbox; mark = at.mark; place = left.place };
           debt = err.0;
           owed = left.owes;
           rests = err.2;
           readings = readings;
-          since = weaker moment left_since old.store.shelf new.store.shelf Since (MayGive clock start (with_line attempts line (Failed faults left.rotation))) since
+          since = weaker moment left_since old.store.shelf new.shelf (MayGiveCommit play.log debt write old.store.owed old.store.chain) (MayGive clock start (with_line attempts line (Failed faults left.rotation))) since
               (λ c. failed_gives clock start attempts line write old.store.owed old.store.chain is debt at.rotates at.place fits owed may c faults left.rotation);
         };
       }

@@ -1,5 +1,5 @@
 -- The flags that a script names are a byte, and its keywords are names, no more than it has bytes.
-use Rattle.std.proofs.Common.{◌≡◌, inl, inr, ℕ, suc, ◌+◌, ◌^◌, ◌<◌, ◌≤◌, Bool, true, false, cond, List, [], ◌∷◌, ◌++◌, length, All, Option, Some, None, codes, fold, refl, sym, ◌∙◌, ap, subst, arith, length-append}
+use Rattle.std.proofs.Common.{◌≡◌, inl, inr, ℕ, suc, ◌+◌, ◌^◌, ◌<◌, ◌≤◌, Bool, true, false, cond, List, [], ◌∷◌, ◌++◌, length, All, Option, Some, None, codes, fold, refl, ◌∙◌, ap, subst, arith, length-append}
 use Rattle.std.specs.Prelude.{bit_or}
 use Rattle.std.specs.List.{list_any}
 use Rattle.std.specs.Str.{bytes_eq}
@@ -36,9 +36,10 @@ one_more count s word is so_far = by_bit (flag_bit word) refl
 
     by_known : (t : Bool) → IsName word → All IsName (known t) × (length (known t) ≤ suc count)
     by_known true name = (so_far.names, omega (arith, so_far.few))
-    by_known false name =
-        (All-append IsName s.1 (word ∷ []) so_far.names (All-cons IsName word [] name (All-nil IsName)),
-        omega (arith, so_far.few, length-append s.1 (word ∷ [])))
+    by_known false name = (
+      All-append IsName s.1 (word ∷ []) so_far.names (All-cons IsName word [] name (All-nil IsName)),
+      omega (arith, so_far.few, length-append s.1 (word ∷ [])),
+    )
 
     is_name : IsFlag word → flag_bit word ≡ None → IsName word
     is_name (inl (n, e)) none = absurd cc

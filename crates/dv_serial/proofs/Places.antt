@@ -1,6 +1,6 @@
 -- Where a play's log ends and where its store's chain stands: both agree on the next group.
-use Rattle.std.proofs.Common.{◌≡◌, ◌⊎◌, inl, inr, ℕ, ◌+◌, ◌≤◌, ◌<◌, Bool, true, false, not, ◌&&◌, cond, List, [], ◌∷◌, ◌++◌, length, nat_eq, nat_le, nat_lt, Option, Some, None, refl, sym, ◌∙◌, ap, subst, arith}
-use Rattle.std.specs.Prelude.{IsSome, flat_map, is_none, is_some, if◌then◌else◌, unwrap_or}
+use Rattle.std.proofs.Common.{◌≡◌, ◌⊎◌, inl, inr, ℕ, ◌+◌, Bool, true, false, not, ◌&&◌, List, [], ◌∷◌, ◌++◌, length, nat_eq, nat_le, nat_lt, Option, Some, None, refl, sym, ◌∙◌, ap, arith}
+use Rattle.std.specs.Prelude.{IsSome, flat_map, is_none, if◌then◌else◌, unwrap_or}
 use Rattle.std.proofs.lemmas.Bool.Decides.{nat_tests}
 use Rattle.dv_model.specs.declared.types.Command.{Command}
 use Rattle.dv_model.specs.declared.types.Group.{Group}
@@ -10,7 +10,7 @@ use Rattle.dv_model.specs.declared.types.Record.{Record}
 use Rattle.dv_model.specs.declared.types.Reply.{Reply}
 use Rattle.dv_model.specs.declared.types.Reply.TheVariants as reply
 use Rattle.dv_model.specs.Effects.{applied}
-use Rattle.dv_model.specs.Journals.{Log, header_size, is_rotation_due, last_file_seq, mark_behind, rotate_at}
+use Rattle.dv_model.specs.Journals.{header_size, is_rotation_due, last_file_seq, mark_behind, rotate_at}
 use Rattle.dv_logfile.specs.Layout.{closing}
 use Rattle.dv_model.specs.Sessions.{end_of_uids, group_limit, group_of, is_append, is_log_full, limit_of, log_limit, message_limit, message_of}
 use Rattle.dv_model.specs.Spelling.{group_text, written}

@@ -1,10 +1,10 @@
 -- Lines of a script are served one after another.
-use Rattle.std.proofs.Common.{◌≡◌, ◌⊎◌, inl, inr, ℕ, suc, ◌+◌, ◌<◌, ◌≤◌, Bool, true, false, List, [], ◌∷◌, ◌++◌, length, get_or, take, drop, map, Option, Some, None, Ok, Err, Result, refl, sym, ◌∙◌, ap, subst, arith, append_assoc, length-append}
-use Rattle.std.specs.Prelude.{◌||◌, All, if◌then◌else◌, min}
+use Rattle.std.proofs.Common.{◌≡◌, ◌⊎◌, inl, inr, ℕ, suc, ◌+◌, ◌<◌, ◌≤◌, Bool, true, false, List, [], ◌∷◌, ◌++◌, length, get_or, take, drop, map, Option, Some, None, Ok, Err, Result, refl, sym, ◌∙◌, ap, subst, arith, append_assoc}
+use Rattle.std.specs.Prelude.{◌||◌, All, if◌then◌else◌}
 use Rattle.std.proofs.Math.Path.{fun_ext}
 use Rattle.std.specs.Result.{IsErr, IsErrAnd}
 use Rattle.std.proofs.lemmas.List.{append-nil, drop_more, length-map, length-take-le, map-append, take_all}
-use Rattle.std.proofs.lemmas.List.Elements.{All-append, All-head, All-tail}
+use Rattle.std.proofs.lemmas.List.Elements.{All-head, All-tail}
 use Rattle.dv_model.specs.declared.types.Reply.{Reply}
 use Rattle.dv_model.specs.Journals.{Log}
 use Rattle.dv_model.specs.Sessions.{is_write, reads_mail}
@@ -17,11 +17,11 @@ use Rattle.dv_shelf.specs.Streams.{Appends, AppendsFront}
 use Rattle.dv_shelf.proofs.Moments.{joined}
 use Rattle.dv_formats.specs.Scripts.{NamedLine, sessions_of}
 use Rattle.dv_playing.specs.Laws.{IsAttempt, MayPlay, MayWrite, lines_of}
-use Rattle.dv_playing.specs.Playing.{Attempt, Failed, Outcome, Play, Served, Step, begin, fared, group_here, is_empty, refused_here, replies_to, step, stepped_by, with_group_here}
+use Rattle.dv_playing.specs.Playing.{Attempt, Failed, Outcome, Play, Served, begin, fared, group_here, is_empty, refused_here, replies_to, step, stepped_by}
 use Rattle.dv_playing.proofs.Plays.{replies_go_on}
 use Rattle.dv_serial.specs.declared.lines.LineEnd.{LineEnd}
 use Rattle.dv_serial.specs.declared.lines.LineEnd.TheVariants as line_end
-use Rattle.dv_serial.specs.Following.{EndsAt, Follows, Keeps, Leaves, MayBeLeft, with_line}
+use Rattle.dv_serial.specs.Following.{EndsAt, Follows, Leaves, MayBeLeft}
 use Rattle.dv_serial.specs.Others.{KeepsOthers, MayTouch}
 use Rattle.dv_serial.specs.Places.{MayGive, play_of}
 use Rattle.dv_serial.specs.Runs.{IsTried, Runs, RunsLine}
@@ -134,9 +134,11 @@ pub takes_none : (upcoming : ℕ → ℕ) → TakesUpTo 0 upcoming upcoming
 takes_none upcoming = (0, omega arith, fun_ext (λ k. ap upcoming (omega arith)))
 
 pub takes_more : (m n most : ℕ) (old mid new : ℕ → ℕ) → TakesUpTo m old mid → TakesUpTo n mid new → m + n ≤ most → TakesUpTo most old new
-takes_more m n most old mid new first second less =
-    (first.0 + second.0, omega (arith, first.1, second.1, less),
-    fun_ext (λ k. ap (λ (f : ℕ → ℕ). f k) second.2 ∙ ap (λ (f : ℕ → ℕ). f (second.0 + k)) first.2 ∙ ap old (omega arith)))
+takes_more m n most old mid new first second less = (
+  first.0 + second.0,
+  omega (arith, first.1, second.1, less),
+  fun_ext (λ k. ap (λ (f : ℕ → ℕ). f k) second.2 ∙ ap (λ (f : ℕ → ℕ). f (second.0 + k)) first.2 ∙ ap old (omega arith)),
+)
 
 -- ---- files that stay
 

@@ -3,6 +3,7 @@ use Rattle.std.proofs.Common.{◌≡◌, ◌≢◌, ℕ, ◌+◌, ◌<◌, Bool,
 use Rattle.std.specs.Prelude.{All, slice_set}
 use Rattle.std.proofs.lemmas.Bool.{eqb-true}
 use Rattle.std.proofs.lemmas.Bool.Decides.{nat_tests}
+use Rattle.std.proofs.lemmas.List.{get_or_default}
 use Rattle.std.proofs.lemmas.List.Elements.{All-get_or, All-set}
 use Rattle.dv_model.specs.declared.types.Mailbox.{Mailbox}
 use Rattle.dv_model.specs.Sessions.{State}
@@ -45,3 +46,28 @@ module _ (m : Mailbox) (states : ℕ → State) (seats : List Follower) (is : Ar
     abreast = all;
     states = λ k f inside. let less : k < length seats = omega (arith, inside, has.count) in has.states k f less ∙ is.states k f less;
   }
+
+-- ---- the same states
+
+pub states_refl : (seats : List Follower) → HasStates seats seats
+states_refl seats = record { count = refl; states = λ k f inside. refl }
+
+-- one that has its state is written over one
+pub states_set : (before now : List Follower) (at : ℕ) (f g : Follower) → HasStates before now → at < length now → g.state ≡ (get_or now at f).state → HasStates before (slice_set now at g)
+states_set before now at f g has less same = record {
+  count = length-set now at g ∙ has.count;
+  states = λ k d inside. by_test k d inside (nat_eq at k) refl;
+}
+  where
+    by_test : (k : ℕ) (d : Follower) → k < length before → (b : Bool) → nat_eq at k ≡ b → (get_or (slice_set now at g) k d).state ≡ (get_or before k d).state
+    by_test k d inside true e =
+        let here : at ≡ k = eqb-true at k e in
+        ap (λ (n : ℕ). (get_or (slice_set now at g) n d).state) (sym here)
+        ∙ ap (λ (h : Follower). h.state) (get_or-set_same now at g d less)
+        ∙ same
+        ∙ ap (λ (h : Follower). h.state) (get_or_default now at f d less)
+        ∙ has.states at d (omega (arith, less, has.count))
+        ∙ ap (λ (n : ℕ). (get_or before n d).state) here
+    by_test k d inside false e =
+        let other : k ≢ at = grind (arith, nat_tests) in
+        ap (λ (h : Follower). h.state) (get_or-set_other now at k g d other) ∙ has.states k d inside

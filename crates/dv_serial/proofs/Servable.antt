@@ -1,10 +1,10 @@
 -- Each command of a script may be served.
-use Rattle.std.proofs.Common.{◌≡◌, inl, inr, ℕ, ◌+◌, ◌^◌, ◌<◌, ◌≤◌, List, [], ◌∷◌, ◌++◌, length, All, Ok, Err, IfOk, Result, codes, decimal, sym, ap, subst, arith, length-append, append_assoc}
+use Rattle.std.proofs.Common.{◌≡◌, inl, inr, ℕ, ◌≤◌, List, [], ◌∷◌, ◌++◌, length, All, Ok, Err, IfOk, Result, codes, decimal, sym, ap, subst, arith, length-append}
 use Rattle.std.proofs.lemmas.List.Concat.{flat_map-cons}
 use Rattle.std.proofs.lemmas.List.Elements.{All-append, All-cons, All-head, All-nil, All-tail}
 use Rattle.dv_model.specs.declared.types.Command.{Command}
 use Rattle.dv_model.specs.declared.types.Command.TheVariants as command
-use Rattle.dv_formats.specs.Scripts.{IsAppendStart, IsCommand, IsEmptyLiteral, IsLine, IsLiteralStart, IsPiece, IsScript, IsShortLine, IsStore, NamedLine, Piece, how_text, line_limit, pieces_lines, uid_text}
+use Rattle.dv_formats.specs.Scripts.{IsCommand, IsLine, IsLiteralStart, IsPiece, IsScript, IsShortLine, IsStore, NamedLine, Piece, how_text, line_limit, pieces_lines, uid_text}
 use Rattle.dv_search.proofs.Depths.{sought_levels}
 use Rattle.dv_script.specs.declared.types.Line.{Line}
 use Rattle.dv_script.specs.declared.types.ScriptEnd.{ScriptEnd}

@@ -1,5 +1,5 @@
 -- What becomes of the lines of a script, one after another.
-use Rattle.std.specs.Prelude.{◌≡◌, ◌⊎◌, ◌≤◌, ◌++◌, ℕ, List, [], ◌∷◌, drop, length, Result, Ok, Err, ⊤}
+use Rattle.std.specs.Prelude.{◌≡◌, ◌++◌, ℕ, List, [], ◌∷◌, drop, length, Result, Ok, Err, ⊤}
 use Rattle.dv_model.specs.declared.types.Reply.{Reply}
 use Rattle.dv_model.specs.Counts.{Rose}
 use Rattle.dv_model.specs.Journals.{Log}

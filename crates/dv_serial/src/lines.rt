@@ -38,12 +38,7 @@ impl From<NoMemory> for LineEnd {
 impl<S: Shelf, C: Clock> Serial<S, C> {
     /// Serves one line of the script, which the session of this number gives, and writes its
     /// replies.
-    fn serve_line<O: Sink>(
-        &mut self,
-        session: u32,
-        line: &Line,
-        out: &mut O,
-    ) -> Result<(), LineEnd>
+    fn serve_line<O: Sink>(&mut self, session: u32, line: &Line, out: &mut O) -> Result<(), LineEnd>
         requires seat { IsSeat session self.old.seats }
         requires line { IsServable line.now.command }
         requires abreast { AreAbreast self.old }

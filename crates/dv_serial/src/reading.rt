@@ -100,8 +100,9 @@ impl<S: Shelf, C: Clock> Serial<S, C> {
             (S.fault_count self.old.store.shelf) attempts self.old →
             Serves S.files S.may_leave S.moment S.left_since C.upcoming clock start base
             (S.fault_count self.new.store.shelf) attempts (at + 1, c.now) result self.old self.new }
-        // The sessions keep up with the mailbox.
-        ensures seats { length self.new.seats ≡ length self.old.seats }
+        // There are as many sessions, which keep up with the mailbox, and the clock isn't read.
+        ensures stays { (length self.new.seats ≡ length self.old.seats)
+            × (self.new.store.clock ≡ self.old.store.clock) }
         ensures abreast { OnOk result (AreAbreast self.new) }
         // The disk's failure is told only where it failed.
         ensures later { S.fault_count self.old.store.shelf ≤ S.fault_count self.new.store.shelf }

@@ -1,5 +1,5 @@
 -- The session of the line is found among those seen, or added to them.
-use Rattle.std.proofs.Common.{◌≡◌, ℕ, ◌+◌, ap, sym, ◌∙◌, arith, get_or, subst, refl}
+use Rattle.std.proofs.Common.{ℕ, ◌+◌, ap, sym, ◌∙◌, arith, refl}
 use Rattle.std.specs.Prelude.{bytes_eq, position}
 use Rattle.dv_serial.specs.declared.numbers.Seen.{Seen}
 use Rattle.dv_serial.proofs.Numbering.{absent_seen, absent_turn, found, known_count, known_seen, known_turn, lacking, set_there}

@@ -1,6 +1,6 @@
 -- Each line has its turn behind those before it.
-use Rattle.std.proofs.Common.{◌≡◌, ◌<◌, ◌≤◌, length, take, ◌∙◌, arith}
-use Rattle.dv_script.specs.Sources.{all_named, named}
+use Rattle.std.proofs.Common.{take, ◌∙◌, arith}
+use Rattle.dv_script.specs.Sources.{all_named}
 use Rattle.dv_serial.proofs.Turns.{named_length, seen_commands, seen_more, seen_sessions, turns_more}
 use Rattle.dv_serial.proofs.numbers.number_lines.Goals as goal
 

@@ -1,0 +1,108 @@
+-- What is looked up for a session is of the log's messages, and it is met and supplied where the session stands.
+use Rattle.std.proofs.Common.{◌≡◌, inl, ℕ, ◌++◌, Bool, true, false, List, take, drop, length, Result, Ok, Err, refl, sym, ◌∙◌, ap, subst, length-set}
+use Rattle.std.specs.Prelude.{All, OnOk}
+use Rattle.std.proofs.lemmas.List.{take_at}
+use Rattle.dv_model.specs.declared.types.Command.{Command}
+use Rattle.dv_model.specs.declared.types.Command.TheVariants as command
+use Rattle.dv_model.specs.declared.types.Mailbox.{Mailbox}
+use Rattle.dv_model.specs.Journals.{Log, Mail}
+use Rattle.dv_model.specs.Sessions.{State as SessionState, is_write, reads_mail}
+use Rattle.dv_shelf.specs.Folders.{Folder}
+use Rattle.dv_shelf.proofs.Moments.{started}
+use Rattle.dv_chain.specs.declared.chain.Chain.{Chain}
+use Rattle.dv_keeping.specs.Debts.{Debt}
+use Rattle.dv_lookups.specs.Founds.{AreMessages}
+use Rattle.dv_responses.specs.Met.{met_of}
+use Rattle.dv_responses.specs.Supplied.{AreSupplied}
+use Rattle.dv_responses.specs.declared.meeting.Met.{Met}
+use Rattle.dv_search.specs.declared.facts.MailFacts.{MailFacts}
+use Rattle.dv_answer.specs.Following.{Follower, IsAbreast}
+use Rattle.dv_store.specs.Rest.{IsAtRest, OnlyReads, RestKnows}
+use Rattle.dv_store.specs.States.{State}
+use Rattle.dv_store.proofs.Known.{rest_knows}
+use Rattle.dv_serial.specs.Following.{HasStates}
+use Rattle.dv_serial.specs.Serves.{AreAbreast, OnlyLooksAt, seat_at, with_seat}
+use Rattle.dv_serial.specs.Servings.{Serving}
+use Rattle.dv_serial.proofs.Seated.{abreast_with}
+
+-- a write reads no message
+pub writes_unread : (c : Command) → is_write c ≡ true → reads_mail c ≡ false
+writes_unread (command.Fetch by_uid set items) write = absurd cc
+writes_unread (command.Search by_uid key) write = absurd cc
+writes_unread c write = refl
+
+pub unread_supplied : (mail : ℕ → Mail) (c : Command) (x : SessionState) (m : Mailbox) (facts : List MailFacts) → reads_mail c ≡ false → AreSupplied mail c x.view m facts
+unread_supplied mail c x m facts unread = λ reads. let no : ◌≡◌ {A = Bool} true false = sym reads ∙ unread in absurd cc
+
+module _ {S C : Type 0} (files : S → Folder) (may_leave : S → Folder → Type 0) where
+  module _ (log : Log) (debt : Debt) (store : State S C) (there : may_leave store.shelf (files store.shelf)) (rest : IsAtRest files may_leave log debt store) where
+    pub known_here : RestKnows (files store.shelf) log store
+    known_here = rest_knows files may_leave log debt store there rest
+
+    pub messages_known : AreMessages (files store.shelf) store.chain.live.mailbox log.mail
+    messages_known row within = ((rest.stands.keeps (files store.shelf) there).messages row within).held
+
+  -- nothing was read
+  pub reads_nothing : (moment : S → ℕ) (left_since : S → ℕ → Folder → Type 0) (store : State S C) → ((c : Folder) → left_since store.shelf (moment store.shelf) c → may_leave store.shelf c) → OnlyReads files may_leave moment left_since store store
+  reads_nothing moment left_since store now = record {
+    looks = record { same = refl; crash = λ c left. left; since = started moment left_since store.shelf (may_leave store.shelf) now };
+    file = λ is. is;
+    rests = λ log debt rest. rest;
+  }
+
+-- ---- where only the folder was read
+
+module _ {S C : Type 0} (old mid : Serving S C) (looks : OnlyLooksAt old mid) where
+  pub looked_mailbox : mid.store.chain.live.mailbox ≡ old.store.chain.live.mailbox
+  looked_mailbox = ap (λ (x : Chain). x.live.mailbox) looks.store.chain
+
+  pub looked_met : (c : Command) (x : SessionState) (met : Met) → met ≡ met_of c x.view mid.store.chain.live.mailbox → met ≡ met_of c x.view old.store.chain.live.mailbox
+  looked_met c x met is = is ∙ ap (λ (m : Mailbox). met_of c x.view m) looked_mailbox
+
+  pub looked_supplied : (mail : ℕ → Mail) (c : Command) (at : ℕ) (facts : List MailFacts) → AreSupplied mail c (seat_at old.seats at).state.view old.store.chain.live.mailbox facts
+      → AreSupplied mail c (seat_at mid.seats at).state.view mid.store.chain.live.mailbox facts
+  looked_supplied mail c at facts supplied =
+      subst (λ (m : Mailbox). AreSupplied mail c (seat_at mid.seats at).state.view m facts) (sym looked_mailbox)
+      (subst (λ (fs : List Follower). AreSupplied mail c (seat_at fs at).state.view old.store.chain.live.mailbox facts) (sym looks.seats) supplied)
+
+  pub looked_abreast : AreAbreast old → AreAbreast mid
+  looked_abreast all =
+      subst (λ (m : Mailbox). All (IsAbreast m) mid.seats) (sym looked_mailbox) (subst (λ (fs : List Follower). All (IsAbreast old.store.chain.live.mailbox) fs) (sym looks.seats) all)
+
+-- ---- one session answered
+
+module _ {S C : Type 0} (at : ℕ) (mid new : Serving S C) (only : with_seat at (seat_at new.seats at) mid ≡ new) where
+  -- the sessions keep up with the mailbox
+  pub answered_abreast : AreAbreast mid → IsAbreast new.store.chain.live.mailbox (seat_at new.seats at) → AreAbreast new
+  answered_abreast all abreast =
+      subst (λ (s : Serving S C). AreAbreast s) only
+      (abreast_with mid.store.chain.live.mailbox mid.seats at (seat_at new.seats at) all (subst (λ (s : Serving S C). IsAbreast s.store.chain.live.mailbox (seat_at new.seats at)) (sym only) abreast))
+
+-- what holds anyway holds behind Ok
+pub on_ok : {A E : Type 0} (result : Result A E) (P : Type 0) → P → OnOk result P
+on_ok (Ok x) P p = p
+on_ok (Err e) P p = tt
+
+-- as many sessions are there, and the clock isn't read
+pub answered_stays : {S C : Type 0} (at : ℕ) (old mid new : Serving S C) → OnlyLooksAt old mid → with_seat at (seat_at new.seats at) mid ≡ new → (length new.seats ≡ length old.seats) × (new.store.clock ≡ old.store.clock)
+answered_stays {S} {C} at old mid new looks only = (
+  ap (λ (s : Serving S C). length s.seats) (sym only) ∙ length-set mid.seats at (seat_at new.seats at) ∙ ap (λ (fs : List Follower). length fs) looks.seats,
+  ap (λ (s : Serving S C). s.store.clock) (sym only) ∙ looks.store.clock,
+)
+
+-- ---- sessions that were told
+
+module _ (before items slice now : List Follower) (len : ℕ) (same : slice ≡ before) (many : length slice ≡ len) (has : HasStates slice now) where
+  -- those that are written back
+  abbrev pub back : List Follower
+  back = take len (now ++ drop (length now) items)
+
+  back_is : back ≡ now
+  back_is = take_at now (drop (length now) items) len (has.count ∙ many)
+
+  pub told_states : HasStates before back
+  told_states = subst (λ (fs : List Follower). HasStates before fs) (sym back_is) (subst (λ (fs : List Follower). HasStates fs now) same has)
+
+  pub told_abreast : (m n : Mailbox) → All (IsAbreast m) before → (All (IsAbreast m) slice → All (IsAbreast n) now) → All (IsAbreast n) back
+  told_abreast m n all told =
+      subst (λ (fs : List Follower). All (IsAbreast n) fs) (sym back_is) (told (subst (λ (fs : List Follower). All (IsAbreast m) fs) (sym same) all))
