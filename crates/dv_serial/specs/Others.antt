@@ -1,9 +1,13 @@
 -- Which files the writes of lines may change.
-use Rattle.std.specs.Prelude.{◌≡◌, ◌++◌, ℕ, true, List, ◌∷◌}
+use Rattle.std.specs.Prelude.{◌≡◌, ◌++◌, ℕ, true, List, ◌∷◌, Result, Ok, Err}
+use Rattle.dv_model.specs.declared.types.Command.{Command}
+use Rattle.dv_model.specs.declared.types.Mailbox.{Mailbox}
 use Rattle.dv_model.specs.Journals.{Log}
 use Rattle.dv_model.specs.Sessions.{is_write}
 use Rattle.dv_shelf.specs.declared.shelf.Name.{Name}
 use Rattle.dv_shelf.specs.Folders.{Folder}
+use Rattle.dv_plans.specs.declared.fault.StoreFault.{StoreFault}
+use Rattle.dv_plans.specs.declared.fault.StoreFault.TheVariants as fault
 use Rattle.dv_playing.specs.Playing.{Attempt}
 use Rattle.dv_store.specs.Commits.{MayWrite}
 use Rattle.dv_serial.specs.Places.{play_of}
@@ -22,3 +26,11 @@ pub record MayTouch (clock : ℕ → ℕ) (start : Log) (attempts : List Attempt
 abbrev pub KeepsOthers : (ℕ → ℕ) → Log → List Attempt → Folder → Folder → Type 0
 KeepsOthers clock start attempts old new =
     (n : Name) → (MayTouch clock start attempts n → ⊥) → new n ≡ old n
+
+-- files that a command doesn't write stay; behind an error but the disk's all do
+abbrev pub LeavesOthers : {A : Type 0} → Command → Mailbox → Result A StoreFault → Folder → Folder
+    → Type 0
+LeavesOthers c m (Ok x) old new = (n : Name) → (MayWrite c m n → ⊥) → new n ≡ old n
+LeavesOthers c m (Err (fault.Disk faults)) old new =
+    (n : Name) → (MayWrite c m n → ⊥) → new n ≡ old n
+LeavesOthers c m (Err e) old new = new ≡ old
