@@ -90,7 +90,7 @@ module _ {S C : Type 0} (files : S → Folder) (may_leave : S → Folder → Typ
 
   module _ (write : is_write c ≡ true) (mid : Serving S C) where
     pub seat_unwritten : {A E : Type 0} (faults : ℕ) (f : StoreFault) (result : Result (List Reply) E) → Commits files may_leave moment left_since upcoming clock start attempts line old (Err f) mid → HasStoreCause {A = A} before faults (Err f) → mid.seats ≡ old.seats
-        → IfOk result (IsFaultLine f) → Serves files may_leave moment left_since upcoming clock start base faults attempts line result old mid
+        → LeavesOthers {A = A} c old.store.chain.live.mailbox (Err f) (files old.store.shelf) (files mid.store.shelf) → IfOk result (IsFaultLine f) → Serves files may_leave moment left_since upcoming clock start base faults attempts line result old mid
     seat_unwritten faults f result commits cause seats others is =
         write_failed files may_leave moment left_since upcoming clock start base attempts before faults line old follows good cause.later write mid f result commits cause seats others is
 

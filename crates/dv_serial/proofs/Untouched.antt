@@ -17,11 +17,11 @@ use Rattle.dv_serial.specs.Others.{KeepsOthers, LeavesOthers}
 use Rattle.dv_serial.specs.Places.{play_of}
 
 -- behind an error, which wrote nothing but where the disk failed
-pub error_others : {A : Type 0} (e : StoreFault) (c : Command) (m : Mailbox) (old new : Folder) → ((n : Name) → (MayWrite c m n → ⊥) → new n ≡ old n) → (IsUnwritten (Err e) → new ≡ old) → LeavesOthers {A = A} c m (Err e) old new
-error_others (fault.Disk faults) c m old new others same = others
-error_others fault.UidsUsedUp c m old new others same = same tt
-error_others (fault.TooLong bytes) c m old new others same = same tt
-error_others fault.NoMemory c m old new others same = same tt
+pub error_others : (A : Type 0) (e : StoreFault) (c : Command) (m : Mailbox) (old new : Folder) → ((n : Name) → (MayWrite c m n → ⊥) → new n ≡ old n) → (IsUnwritten (Err e) → new ≡ old) → LeavesOthers {A = A} c m (Err e) old new
+error_others A (fault.Disk faults) c m old new others same = others
+error_others A fault.UidsUsedUp c m old new others same = same tt
+error_others A (fault.TooLong bytes) c m old new others same = same tt
+error_others A fault.NoMemory c m old new others same = same tt
 
 module _ (clock : ℕ → ℕ) (start : Log) (old new : Folder) where
   -- nothing was written

@@ -1,4 +1,4 @@
-use Rattle.std.proofs.Common.{List, [], ◌∷◌, ◌++◌, Err, Ok, refl, ◌∙◌, ap, arith}
+use Rattle.std.proofs.Common.{ℕ, List, [], ◌∷◌, ◌++◌, Err, Ok, refl, ◌∙◌, ap, arith}
 use Rattle.std.proofs.lemmas.List.{get_or_read}
 use Rattle.std.proofs.lemmas.Result.{err_from_is_err_and}
 use Rattle.dv_model.specs.declared.types.Entry.{Entry}
@@ -32,7 +32,7 @@ returns-in_err-receipt-clause-commits g c =
     let quiet = did.gives tells reads (play_of clock start attempts).log follows.keeps.debt c.args.number follows.keeps.rests in
     (fails S.files S.may_leave S.moment S.left_since g.C.Clock.upcoming clock start base _ attempts _ follows c.args.at c.args.number c.args.c.now number_is less (omega (arith, c.ranges.number.fits)) c.requires.line c.requires.write own
     c.view.result.now seen c.commit_command.new.self c.in_err-receipt.field-0.0 did.value did.idle (did.looks tells) (did.gives tells reads) (did.clock reads) c.reserve.new.self.items c.reserve.ensures.items,
-    error_others c.in_err-receipt.field-0.0 c.args.c.now c.self.inside.store.chain.live.mailbox (S.files c.self.inside.store.shelf) (S.files c.commit_command.new.self.shelf) quiet.others (λ none. (did.looks tells none).same)))
+    error_others (List ℕ) c.in_err-receipt.field-0.0 c.args.c.now c.self.inside.store.chain.live.mailbox (S.files c.self.inside.store.shelf) (S.files c.commit_command.new.self.shelf) quiet.others (λ none. (did.looks tells none).same)))
 
 pub returns-in_err-receipt-clause-readings : goal.returns-in_err-receipt-clause-readings
 returns-in_err-receipt-clause-readings g c = rw (← c.self.view_is) (λ reads.
