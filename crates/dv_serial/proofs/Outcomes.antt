@@ -1,6 +1,5 @@
 -- What became of a line is a step of the play that the serving follows.
-use Rattle.std.proofs.Common.{◌≡◌, ◌⊎◌, inl, inr, ℕ, ◌+◌, ◌<◌, ◌≤◌, Bool, true, false, List, [], ◌∷◌, ◌++◌, length, Option, Some, None, Result, Ok, Err, refl, sym, ◌∙◌, ap, subst}
-use Rattle.std.specs.Prelude.{IfOk, OnErr}
+use Rattle.std.proofs.Common.{◌≡◌, ◌⊎◌, ℕ, ◌+◌, ◌<◌, ◌≤◌, Bool, true, false, List, [], ◌∷◌, ◌++◌, length, Option, Some, None, refl, sym, ◌∙◌, ap, subst}
 use Rattle.std.proofs.lemmas.List.{append-nil}
 use Rattle.dv_model.specs.declared.types.Mailbox.{Mailbox}
 use Rattle.dv_model.specs.declared.types.Mark.{Mark}
@@ -8,28 +7,23 @@ use Rattle.dv_model.specs.declared.types.Reply.{Reply}
 use Rattle.dv_model.specs.declared.types.Reply.TheVariants as reply
 use Rattle.dv_model.specs.Counts.{Rose, RoseBy}
 use Rattle.dv_model.specs.Journals.{Log}
-use Rattle.dv_model.specs.Sessions.{Answer, State as SessionState, answer, is_write}
-use Rattle.dv_model.specs.Transcripts.{Line, is_unavailable, touches_disk, unavailable_count, with_state}
+use Rattle.dv_model.specs.Sessions.{Answer, State as SessionState, answer}
+use Rattle.dv_model.specs.Transcripts.{Line, touches_disk, unavailable_count, with_state}
 use Rattle.dv_shelf.specs.Clocks.{behind}
-use Rattle.dv_shelf.specs.Crashes.{LeavesOnly}
 use Rattle.dv_shelf.specs.Folders.{Folder}
 use Rattle.dv_chain.specs.declared.chain.Chain.{Chain}
 use Rattle.dv_rotation.specs.declared.texts.Turn.{Turn}
 use Rattle.dv_rotation.specs.Texts.{place_of}
 use Rattle.dv_answer.specs.Following.{Follower, IsAbreast}
-use Rattle.dv_plans.specs.declared.fault.StoreFault.{StoreFault}
-use Rattle.dv_plans.specs.declared.fault.StoreFault.TheVariants as fault
-use Rattle.dv_plans.specs.Faults.{HasStoreCause}
-use Rattle.dv_playing.specs.Laws.{IsAbove, IsAttempt, IsLine, MayPlay, MayWrite}
-use Rattle.dv_playing.specs.Playing.{Attempt, DueAgain, Failed, Outcome, Play, Rotation, Served, Step, behind_failure, group_here, is_empty, refused_here, step, told, with_group_here}
+use Rattle.dv_playing.specs.Laws.{IsAttempt, IsLine, MayPlay, MayWrite}
+use Rattle.dv_playing.specs.Playing.{Attempt, Failed, Outcome, Play, Rotation, Served, Step, behind_failure, group_here, is_empty, refused_here, step, told, with_group_here}
 use Rattle.dv_store.specs.Rest.{IsAtRest, OnlyReads}
-use Rattle.dv_serial.specs.Following.{AreSeated, EndsAt, Follows, IsAt, Keeps, Leaves, with_line}
-use Rattle.dv_serial.specs.Lines.{IsFaultLine}
+use Rattle.dv_serial.specs.Following.{AreSeated, EndsAt, Follows, Keeps, Leaves, with_line}
 use Rattle.dv_serial.specs.Others.{KeepsOthers}
 use Rattle.dv_serial.specs.Places.{IsOwedBehind, StandsAt, play_of}
-use Rattle.dv_serial.specs.Serves.{IsServed, OnlyLooksAt, Serves, seat_at, with_seat}
+use Rattle.dv_serial.specs.Serves.{IsServed, OnlyLooksAt, seat_at, with_seat}
 use Rattle.dv_serial.specs.Servings.{Serving}
-use Rattle.dv_serial.specs.Writes.{Commits, StandsAs}
+use Rattle.dv_serial.specs.Writes.{StandsAs}
 use Rattle.dv_serial.proofs.Counting.{AreAvailable, answer_available, counts_none, one_available, rose_none, rose_since}
 use Rattle.dv_serial.proofs.Crashing.{looks_may, more_may, stays_may}
 use Rattle.dv_serial.proofs.Failing.{owed_longer}
@@ -37,7 +31,7 @@ use Rattle.dv_serial.proofs.Going.{WritesNothing, at_on, refused_stays, same_wri
 use Rattle.dv_serial.proofs.Refusals.{refused_available}
 use Rattle.dv_serial.proofs.Seated.{seated_with, state_at}
 use Rattle.dv_serial.proofs.Untouched.{same_others}
-use Rattle.dv_serial.proofs.Stepping.{attempt, failed_stays, failed_step, may_on, play_on, read_stays, refused_step, served_step}
+use Rattle.dv_serial.proofs.Stepping.{attempt, failed_step, may_on, play_on, refused_step, served_step}
 
 -- a group changes no session
 group_states : (clock : ℕ → ℕ) (play : Play) (line : Line) → (with_group_here clock play line).states ≡ play.states

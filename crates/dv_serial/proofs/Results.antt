@@ -1,12 +1,12 @@
 -- What a line's result says of the play.
-use Rattle.std.proofs.Common.{◌≡◌, ◌⊎◌, inl, inr, ℕ, ◌+◌, ◌<◌, ◌≤◌, Bool, true, false, ◌||◌, List, [], ◌∷◌, ◌++◌, length, Option, Some, None, Result, Ok, Err, refl, sym, ◌∙◌, ap, subst}
-use Rattle.std.specs.Prelude.{All, IfOk, OnErr, ⊤}
-use Rattle.dv_model.specs.declared.types.Mailbox.{Mailbox}
+use Rattle.std.proofs.Common.{◌≡◌, ◌⊎◌, inl, inr, ℕ, ◌+◌, ◌<◌, ◌≤◌, Bool, true, false, ◌||◌, List, [], ◌∷◌, length, Some, None, Result, Ok, Err, refl, sym, ◌∙◌, ap, subst}
+use Rattle.std.specs.Prelude.{All, IfOk, OnErr}
 use Rattle.dv_model.specs.declared.types.Reply.{Reply}
 use Rattle.dv_model.specs.declared.types.Reply.TheVariants as reply
+use Rattle.dv_model.specs.Counts.{Rose}
 use Rattle.dv_model.specs.Journals.{Log}
-use Rattle.dv_model.specs.Sessions.{State as SessionState, answer, is_write, reads_mail}
-use Rattle.dv_model.specs.Transcripts.{Line, touches_disk, with_state}
+use Rattle.dv_model.specs.Sessions.{answer, is_write, reads_mail}
+use Rattle.dv_model.specs.Transcripts.{Line, touches_disk}
 use Rattle.dv_shelf.specs.declared.shelf.Name.{Name}
 use Rattle.dv_shelf.specs.Folders.{Folder}
 use Rattle.dv_chain.specs.declared.chain.Chain.{Chain}
@@ -15,16 +15,16 @@ use Rattle.dv_answer.specs.Refusing.{own_refusal}
 use Rattle.dv_plans.specs.declared.fault.StoreFault.{StoreFault}
 use Rattle.dv_plans.specs.declared.fault.StoreFault.TheVariants as fault
 use Rattle.dv_plans.specs.Faults.{HasStoreCause}
-use Rattle.dv_playing.specs.Laws.{IsAttempt, IsLine, MayWrite}
-use Rattle.dv_playing.specs.Playing.{Attempt, DueAgain, Failed, Outcome, Play, Rotation, Served, Step, behind_failure, group_here, is_empty, refused_here, step, told, with_group_here}
+use Rattle.dv_playing.specs.Laws.{IsAbove, IsLine, MayWrite}
+use Rattle.dv_playing.specs.Playing.{Attempt, DueAgain, Failed, Play, Rotation, Served, Step, behind_failure, group_here, is_empty, refused_here, step, told, with_group_here}
 use Rattle.dv_store.specs.Commits as writing
 use Rattle.dv_store.specs.Faults.{IsFailure}
 use Rattle.dv_store.specs.Rest.{OnlyReads}
-use Rattle.dv_serial.specs.Following.{AreSeated, EndsAt, Follows, HasStates, with_line}
+use Rattle.dv_serial.specs.Following.{EndsAt, Follows, HasStates, with_line}
 use Rattle.dv_serial.specs.Lines.{IsFaultLine}
 use Rattle.dv_serial.specs.Others.{KeepsOthers, LeavesOthers}
 use Rattle.dv_serial.specs.Places.{play_of}
-use Rattle.dv_serial.specs.Serves.{IsServed, OnlyLooksAt, Serves, seat_at, with_seat}
+use Rattle.dv_serial.specs.Serves.{OnlyLooksAt, Serves, seat_at, with_seat}
 use Rattle.dv_serial.specs.Servings.{Serving}
 use Rattle.dv_serial.specs.Writes.{Commits, IsDone, StandsAs}
 use Rattle.dv_serial.proofs.Counting.{rose_since}
@@ -138,8 +138,8 @@ module _ {S C : Type 0} (files : S → Folder) (may_leave : S → Folder → Typ
         (inl (ap (λ (s : Step). s.play.log) steps))
         (write_others clock start (files old.store.shelf) (files mid.store.shelf) attempts line (Failed count commits.rotation) old.store.chain.live.mailbox write follows.keeps.at.mailbox others) commits.stands
       where
-        rose_so : (n : ℕ) (turned : Rotation) → (n ≡ faults) × Rattle.dv_model.specs.Counts.Rose before faults → Rattle.dv_playing.specs.Laws.IsAbove base (Failed n turned)
-        rose_so n turned both = subst (Rattle.dv_model.specs.Counts.Rose base) (sym both.0) (rose_since _ base before faults follows.may.few both.1)
+        rose_so : (n : ℕ) (turned : Rotation) → (n ≡ faults) × Rose before faults → IsAbove base (Failed n turned)
+        rose_so n turned both = subst (Rose base) (sym both.0) (rose_since _ base before faults follows.may.few both.1)
     write_failed fault.UidsUsedUp (Ok lines) commits cause seats others is =
         refused_serves files may_leave moment left_since upcoming clock start base attempts before faults line old follows good later reply.UidsUsedUp mid lines commits.refused seats commits.mailbox is (same_others clock start (files old.store.shelf) (files mid.store.shelf) (with_line attempts line Served) others) commits.stands
     write_failed (fault.TooLong bytes) (Ok lines) commits cause seats others is =

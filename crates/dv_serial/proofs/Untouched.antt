@@ -1,5 +1,5 @@
 -- Files that a line doesn't write stay.
-use Rattle.std.proofs.Common.{◌≡◌, ℕ, true, List, [], ◌∷◌, ◌++◌, Err, refl, sym, ap, subst}
+use Rattle.std.proofs.Common.{◌≡◌, ℕ, true, List, [], Err, refl, sym, ap, subst}
 use Rattle.dv_model.specs.declared.types.Command.{Command}
 use Rattle.dv_model.specs.declared.types.Mailbox.{Mailbox}
 use Rattle.dv_model.specs.Journals.{Log}
@@ -10,7 +10,6 @@ use Rattle.dv_shelf.specs.Folders.{Folder}
 use Rattle.dv_plans.specs.declared.fault.StoreFault.{StoreFault}
 use Rattle.dv_plans.specs.declared.fault.StoreFault.TheVariants as fault
 use Rattle.dv_playing.specs.Playing.{Attempt, Outcome}
-use Rattle.dv_store.specs.declared.receipt.Receipt.{Receipt}
 use Rattle.dv_store.specs.Commits.{IsUnwritten, MayWrite}
 use Rattle.dv_serial.specs.Following.{with_line}
 use Rattle.dv_serial.specs.Others.{KeepsOthers, LeavesOthers}

@@ -35,8 +35,8 @@ impl<S: Shelf, C: Clock> Serial<S, C> {
         requires line { IsServable c.now }
         requires write { is_write c.now ≡ true }
         requires allowed { own_refusal (seat_at self.old.seats at).state c.now ≡ None }
-        // The group is one entry more, or nothing is written; what is owed then; what a crash leaves
-        // at any moment; and files that the command doesn't write stay.
+        // The group is one entry more, or nothing is written; what is owed then, and what a crash
+        // leaves at any moment. Files that the command doesn't write stay.
         ensures commits { S.tells → C.tells → (clock : ℕ → ℕ) (start : Log) (base : ℕ)
             (attempts : List Attempt) → Follows S.files S.may_leave C.upcoming clock start base
             (S.fault_count self.old.store.shelf) attempts self.old → number ≡ at + 1 →
