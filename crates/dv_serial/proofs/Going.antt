@@ -1,5 +1,5 @@
 -- What goes on over a line that writes no group.
-use Rattle.std.proofs.Common.{◌≡◌, inl, inr, ⊎_elim, ℕ, Bool, true, List, [], ◌∷◌, ◌++◌, Option, Some, None, refl, sym, ◌∙◌, ap, subst}
+use Rattle.std.proofs.Common.{◌≡◌, inl, inr, ⊎_elim, ℕ, Bool, true, List, [], ◌∷◌, ◌++◌, Option, Some, refl, sym, ◌∙◌, ap, subst}
 use Rattle.dv_model.specs.declared.types.Mailbox.{Mailbox}
 use Rattle.dv_model.specs.declared.types.Mark.{Mark}
 use Rattle.dv_model.specs.declared.types.Reply.{Reply}
@@ -7,7 +7,7 @@ use Rattle.dv_model.specs.Journals.{Log, is_rotation_due}
 use Rattle.dv_shelf.specs.Folders.{Folder}
 use Rattle.dv_rotation.specs.Texts.{place_of}
 use Rattle.dv_keeping.specs.Keeping.{Gives}
-use Rattle.dv_playing.specs.Playing.{Attempt, Play, begin, refused_here, step, stepped_by}
+use Rattle.dv_playing.specs.Playing.{Attempt, Play, begin, refused_here, stepped_by}
 use Rattle.dv_playing.proofs.Plays.{goes_on}
 use Rattle.dv_store.specs.Rest.{IsAtRest}
 use Rattle.dv_serial.specs.Following.{IsAt, Keeps}

@@ -21,3 +21,4 @@ pub mod Turns
 pub mod Looking
 pub mod Served
 pub mod Running
+pub mod Untouched

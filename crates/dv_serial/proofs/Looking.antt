@@ -1,5 +1,5 @@
 -- What is looked up for a session is of the log's messages, and it is met and supplied where the session stands.
-use Rattle.std.proofs.Common.{◌≡◌, inl, ℕ, ◌++◌, Bool, true, false, List, take, drop, length, Result, Ok, Err, refl, sym, ◌∙◌, ap, subst, length-set}
+use Rattle.std.proofs.Common.{◌≡◌, ℕ, ◌++◌, Bool, true, false, List, take, drop, length, Result, Ok, Err, refl, sym, ◌∙◌, ap, subst, length-set}
 use Rattle.std.specs.Prelude.{All, OnOk}
 use Rattle.std.proofs.lemmas.List.{take_at}
 use Rattle.dv_model.specs.declared.types.Command.{Command}

@@ -1,6 +1,5 @@
 -- What became of a line is a step of the play that the serving follows.
-use Rattle.std.proofs.Common.{◌≡◌, ◌⊎◌, inl, inr, ℕ, ◌+◌, ◌<◌, ◌≤◌, Bool, true, false, List, [], ◌∷◌, ◌++◌, length, Option, Some, None, Result, Ok, Err, refl, sym, ◌∙◌, ap, subst}
-use Rattle.std.specs.Prelude.{IfOk, OnErr}
+use Rattle.std.proofs.Common.{◌≡◌, ◌⊎◌, ℕ, ◌+◌, ◌<◌, ◌≤◌, Bool, true, false, List, [], ◌∷◌, ◌++◌, length, Option, Some, None, refl, sym, ◌∙◌, ap, subst}
 use Rattle.std.proofs.lemmas.List.{append-nil}
 use Rattle.dv_model.specs.declared.types.Mailbox.{Mailbox}
 use Rattle.dv_model.specs.declared.types.Mark.{Mark}
@@ -8,34 +7,31 @@ use Rattle.dv_model.specs.declared.types.Reply.{Reply}
 use Rattle.dv_model.specs.declared.types.Reply.TheVariants as reply
 use Rattle.dv_model.specs.Counts.{Rose, RoseBy}
 use Rattle.dv_model.specs.Journals.{Log}
-use Rattle.dv_model.specs.Sessions.{Answer, State as SessionState, answer, is_write}
-use Rattle.dv_model.specs.Transcripts.{Line, is_unavailable, touches_disk, unavailable_count, with_state}
+use Rattle.dv_model.specs.Sessions.{Answer, State as SessionState, answer}
+use Rattle.dv_model.specs.Transcripts.{Line, touches_disk, unavailable_count, with_state}
 use Rattle.dv_shelf.specs.Clocks.{behind}
-use Rattle.dv_shelf.specs.Crashes.{LeavesOnly}
 use Rattle.dv_shelf.specs.Folders.{Folder}
 use Rattle.dv_chain.specs.declared.chain.Chain.{Chain}
 use Rattle.dv_rotation.specs.declared.texts.Turn.{Turn}
 use Rattle.dv_rotation.specs.Texts.{place_of}
 use Rattle.dv_answer.specs.Following.{Follower, IsAbreast}
-use Rattle.dv_plans.specs.declared.fault.StoreFault.{StoreFault}
-use Rattle.dv_plans.specs.declared.fault.StoreFault.TheVariants as fault
-use Rattle.dv_plans.specs.Faults.{HasStoreCause}
-use Rattle.dv_playing.specs.Laws.{IsAbove, IsAttempt, IsLine, MayPlay, MayWrite}
-use Rattle.dv_playing.specs.Playing.{Attempt, DueAgain, Failed, Outcome, Play, Rotation, Served, Step, behind_failure, group_here, is_empty, refused_here, step, told, with_group_here}
+use Rattle.dv_playing.specs.Laws.{IsAttempt, IsLine, MayPlay, MayWrite}
+use Rattle.dv_playing.specs.Playing.{Attempt, Failed, Outcome, Play, Rotation, Served, Step, behind_failure, group_here, is_empty, refused_here, step, told, with_group_here}
 use Rattle.dv_store.specs.Rest.{IsAtRest, OnlyReads}
-use Rattle.dv_serial.specs.Following.{AreSeated, EndsAt, Follows, IsAt, Keeps, Leaves, with_line}
-use Rattle.dv_serial.specs.Lines.{IsFaultLine}
+use Rattle.dv_serial.specs.Following.{AreSeated, EndsAt, Follows, Keeps, Leaves, with_line}
+use Rattle.dv_serial.specs.Others.{KeepsOthers}
 use Rattle.dv_serial.specs.Places.{IsOwedBehind, StandsAt, play_of}
-use Rattle.dv_serial.specs.Serves.{IsServed, OnlyLooksAt, Serves, seat_at, with_seat}
+use Rattle.dv_serial.specs.Serves.{IsServed, OnlyLooksAt, seat_at, with_seat}
 use Rattle.dv_serial.specs.Servings.{Serving}
-use Rattle.dv_serial.specs.Writes.{Commits, StandsAs}
+use Rattle.dv_serial.specs.Writes.{StandsAs}
 use Rattle.dv_serial.proofs.Counting.{AreAvailable, answer_available, counts_none, one_available, rose_none, rose_since}
 use Rattle.dv_serial.proofs.Crashing.{looks_may, more_may, stays_may}
 use Rattle.dv_serial.proofs.Failing.{owed_longer}
 use Rattle.dv_serial.proofs.Going.{WritesNothing, at_on, refused_stays, same_writes_nothing}
 use Rattle.dv_serial.proofs.Refusals.{refused_available}
 use Rattle.dv_serial.proofs.Seated.{seated_with, state_at}
-use Rattle.dv_serial.proofs.Stepping.{attempt, failed_stays, failed_step, may_on, play_on, read_stays, refused_step, served_step}
+use Rattle.dv_serial.proofs.Untouched.{same_others}
+use Rattle.dv_serial.proofs.Stepping.{attempt, failed_step, may_on, play_on, refused_step, served_step}
 
 -- a group changes no session
 group_states : (clock : ℕ → ℕ) (play : Play) (line : Line) → (with_group_here clock play line).states ≡ play.states
@@ -142,23 +138,26 @@ module _ {S C : Type 0} (files : S → Folder) (may_leave : S → Folder → Typ
 
     -- ---- memory ended it
 
-    pub ends_here : (line : Line) (old new : Serving S C) → Leaves files may_leave moment left_since clock start attempts old new → EndsAt files may_leave moment left_since clock start base attempts line old new
-    ends_here line old new leaves = record {
+    pub ends_here : (line : Line) (old new : Serving S C) → files new.store.shelf ≡ files old.store.shelf → Leaves files may_leave moment left_since clock start attempts old new → EndsAt files may_leave moment left_since clock start base attempts line old new
+    ends_here line old new stays leaves = record {
       left = [];
       is = tt;
       leaves = subst (λ (lines : List Attempt). Leaves files may_leave moment left_since clock start lines old new) (sym (append-nil attempts)) leaves;
+      others = same_others clock start (files old.store.shelf) (files new.store.shelf) (attempts ++ []) stays;
     }
 
-    pub ends_stands : (line : Line) (old new : Serving S C) → StandsAs files may_leave moment left_since upcoming clock start attempts here old new → EndsAt files may_leave moment left_since clock start base attempts line old new
-    ends_stands line old new is = ends_here line old new (stands_leaves attempts here here.states old new refl is)
+    pub ends_stands : (line : Line) (old new : Serving S C) → files new.store.shelf ≡ files old.store.shelf → StandsAs files may_leave moment left_since upcoming clock start attempts here old new → EndsAt files may_leave moment left_since clock start base attempts line old new
+    ends_stands line old new stays is = ends_here line old new stays (stands_leaves attempts here here.states old new refl is)
 
     pub ends_behind : (line : Line) (outcome : Outcome) (play : Play) (states : ℕ → SessionState) (old new : Serving S C) → (step clock here (attempt line outcome)).play ≡ record play { states = states } → IsAttempt base (attempt line outcome)
         → ((step clock here (attempt line outcome)).play.log ≡ here.log) ⊎ ((outcome ≡ Served) × MayWrite here line)
+        → KeepsOthers clock start (with_line attempts line outcome) (files old.store.shelf) (files new.store.shelf)
         → StandsAs files may_leave moment left_since upcoming clock start (with_line attempts line outcome) play old new → EndsAt files may_leave moment left_since clock start base attempts line old new
-    ends_behind line outcome play states old new same good log is = record {
+    ends_behind line outcome play states old new same good log others is = record {
       left = attempt line outcome ∷ [];
       is = (refl, record { attempt = good; log = log });
       leaves = stands_leaves (with_line attempts line outcome) play states old new (play_on clock start base attempts (attempt line outcome) ∙ same) is;
+      others = others;
     }
 
     -- ---- the line is served
@@ -166,9 +165,10 @@ module _ {S C : Type 0} (files : S → Folder) (may_leave : S → Folder → Typ
     -- where the step stands
     served_on : (faults : ℕ) (line : Line) (outcome : Outcome) (play : Play) (states : ℕ → SessionState) (replies : List Reply) (old new : Serving S C) → step clock here (attempt line outcome) ≡ record { replies = replies; play = record play { states = states } }
         → MayPlay clock start base faults (with_line attempts line outcome) → AreSeated new.store.chain.live.mailbox states new.seats
+        → KeepsOthers clock start (with_line attempts line outcome) (files old.store.shelf) (files new.store.shelf)
         → StandsAs files may_leave moment left_since upcoming clock start (with_line attempts line outcome) play old new
         → IsServed files may_leave moment left_since upcoming clock start base faults attempts line replies old new
-    served_on faults line outcome play states replies old new steps may seated is =
+    served_on faults line outcome play states replies old new steps may seated others is =
         let same : play_of clock start (with_line attempts line outcome) ≡ record play { states = states } = play_on clock start base attempts (attempt line outcome) ∙ ap (λ (s : Step). s.play) steps in
         record {
           outcome = outcome;
@@ -180,6 +180,7 @@ module _ {S C : Type 0} (files : S → Folder) (may_leave : S → Folder → Typ
             seats = subst (λ (p : Play). AreSeated new.store.chain.live.mailbox p.states new.seats) (sym same) seated;
           };
           since = is.since;
+          others = others;
         }
 
     module _ (before faults : ℕ) (line : Line) (old : Serving S C) (follows : Follows files may_leave upcoming clock start base before attempts old) (good : IsLine line) (later : before ≤ faults) where
@@ -196,39 +197,40 @@ module _ {S C : Type 0} (files : S → Folder) (may_leave : S → Folder → Typ
 
       -- it is refused
       pub refused_serves : (r : Reply) (new : Serving S C) (replies : List Reply) → refused_here here line ≡ Some r → new.seats ≡ old.seats → new.store.chain.live.mailbox ≡ old.store.chain.live.mailbox → replies ≡ r ∷ []
+          → KeepsOthers clock start (with_line attempts line Served) (files old.store.shelf) (files new.store.shelf)
           → StandsAs files may_leave moment left_since upcoming clock start attempts here old new → IsServed files may_leave moment left_since upcoming clock start base faults attempts line replies old new
-      refused_serves r new replies refused seats mailbox lines is =
+      refused_serves r new replies refused seats mailbox lines others is =
           let steps = refused_step clock here line Served r refused in
           let available : AreAvailable (r ∷ []) = one_available r (refused_available here line r refused) in
           let stays = refused_stays clock start attempts (attempt line Served) r refused in
           subst (λ (rs : List Reply). IsServed files may_leave moment left_since upcoming clock start base faults attempts line rs old new) (sym lines)
-          (served_on faults line Served here here.states (r ∷ []) old new steps (may_quietly (r ∷ []) here steps available) (seated_same new seats mailbox)
+          (served_on faults line Served here here.states (r ∷ []) old new steps (may_quietly (r ∷ []) here steps available) (seated_same new seats mailbox) others
           (stands_on line Served here old new refl (same_writes_nothing here (play_of clock start (with_line attempts line Served)) stays) is))
 
       module _ (allowed : refused_here here line ≡ None) where
         -- the disk failed it
         pub failed_serves : (count : ℕ) (rotation : Rotation) (new : Serving S C) (replies : List Reply) → touches_disk line.1 ≡ true → count ≡ faults → Rose before faults → new.seats ≡ old.seats → new.store.chain.live.mailbox ≡ old.store.chain.live.mailbox
-            → replies ≡ reply.Unavailable count ∷ [] → StandsAs files may_leave moment left_since upcoming clock start (with_line attempts line (Failed count rotation)) (behind_failure here line rotation) old new
+            → replies ≡ reply.Unavailable count ∷ [] → KeepsOthers clock start (with_line attempts line (Failed count rotation)) (files old.store.shelf) (files new.store.shelf) → StandsAs files may_leave moment left_since upcoming clock start (with_line attempts line (Failed count rotation)) (behind_failure here line rotation) old new
             → IsServed files may_leave moment left_since upcoming clock start base faults attempts line replies old new
-        failed_serves count rotation new replies touches is_count rose seats mailbox lines is =
+        failed_serves count rotation new replies touches is_count rose seats mailbox lines others is =
             let steps = failed_step clock here line count rotation allowed touches in
             subst (λ (rs : List Reply). IsServed files may_leave moment left_since upcoming clock start base faults attempts line rs old new) (sym lines)
             (served_on faults line (Failed count rotation) (behind_failure here line rotation) here.states (reply.Unavailable count ∷ []) old new steps
             (may_on clock start base attempts before faults (attempt line (Failed count rotation)) follows.may (failed_attempt count rotation is_count rose)
             (subst (λ (n : ℕ). RoseBy n before faults) (sym (ap (λ (s : Step). unavailable_count (s.replies ∷ [])) steps)) rose))
-            (seated_same new seats mailbox) is)
+            (seated_same new seats mailbox) others is)
           where
             failed_attempt : (n : ℕ) (turned : Rotation) → n ≡ faults → Rose before faults → IsAttempt base (attempt line (Failed n turned))
             failed_attempt n turned e r = record { line = good; count = subst (Rose base) (sym e) (rose_since _ base before faults follows.may.few r) }
 
         -- it is told
-        pub told_serves : (at : ℕ) (mid new : Serving S C) (replies : List Reply) → line.0 ≡ at + 1 → at < length mid.seats
+        pub told_serves : (at : ℕ) (mid new : Serving S C) (replies : List Reply) → line.0 ≡ at + 1 → at < length mid.seats → KeepsOthers clock start (with_line attempts line Served) (files old.store.shelf) (files mid.store.shelf)
             → StandsAs files may_leave moment left_since upcoming clock start (with_line attempts line Served) (with_group_here clock here line) old mid
             → AreSeated mid.store.chain.live.mailbox here.states mid.seats → IsAbreast mid.store.chain.live.mailbox (seat_at new.seats at)
             → record { replies = replies; next = (seat_at new.seats at).state }
             ≡ answer (with_group_here clock here line).log.mail (seat_at mid.seats at).state line.1 old.store.chain.live.mailbox (length mid.journal) mid.store.chain.live.mailbox mid.mark
             → with_seat at (seat_at new.seats at) mid ≡ new → IsServed files may_leave moment left_since upcoming clock start base faults attempts line replies old new
-        told_serves at mid new replies number less is seated abreast answered only =
+        told_serves at mid new replies number less others is seated abreast answered only =
             let play : Play = with_group_here clock here line in
             let f : Follower = seat_at new.seats at in
             let m : Mailbox = mid.store.chain.live.mailbox in
@@ -245,5 +247,5 @@ module _ {S C : Type 0} (files : S → Folder) (may_leave : S → Folder → Typ
             (subst (λ (n : Serving S C). IsServed files may_leave moment left_since upcoming clock start base faults attempts line a.replies old n) only
             (served_on faults line Served play (with_state play.states line.0 a.next) a.replies old (with_seat at f mid) steps
             (may_quietly a.replies (told here line play).play steps (answer_available play.log.mail (here.states line.0) line.1 here.mailbox (length play.log.entries) play.mailbox play.mark))
-            (subst (λ (st : ℕ → SessionState). AreSeated m st (with_seat at f mid).seats) states_are (seated_with m here.states mid.seats seated at f less abreast))
+            (subst (λ (st : ℕ → SessionState). AreSeated m st (with_seat at f mid).seats) states_are (seated_with m here.states mid.seats seated at f less abreast)) others
             (stands_seats (with_line attempts line Served) play old mid (with_seat at f mid).seats is)))

@@ -5,7 +5,7 @@ use Rattle.std.specs.Option.{option_or}
 use Rattle.dv_model.specs.declared.types.Command.{Command}
 use Rattle.dv_model.specs.declared.types.Reply.{Reply}
 use Rattle.dv_model.specs.declared.types.Reply.TheVariants as reply
-use Rattle.dv_model.specs.Sessions.{State, group_of, is_select, is_write, limit_of, missing_number}
+use Rattle.dv_model.specs.Sessions.{State, is_select, is_write, limit_of, missing_number}
 use Rattle.dv_model.specs.Transcripts.{Line, is_unavailable}
 use Rattle.dv_answer.specs.Refusing.{own_refusal}
 use Rattle.dv_answer.proofs.Limits.{refusal_goes_on}

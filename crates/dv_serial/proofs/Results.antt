@@ -1,12 +1,13 @@
 -- What a line's result says of the play.
-use Rattle.std.proofs.Common.{◌≡◌, ◌⊎◌, inl, inr, ℕ, ◌+◌, ◌<◌, ◌≤◌, Bool, true, false, ◌||◌, List, [], ◌∷◌, ◌++◌, length, Option, Some, None, Result, Ok, Err, refl, sym, ◌∙◌, ap, subst}
-use Rattle.std.specs.Prelude.{All, IfOk, OnErr, ⊤}
-use Rattle.dv_model.specs.declared.types.Mailbox.{Mailbox}
+use Rattle.std.proofs.Common.{◌≡◌, ◌⊎◌, inl, inr, ℕ, ◌+◌, ◌<◌, ◌≤◌, Bool, true, false, ◌||◌, List, [], ◌∷◌, length, Some, None, Result, Ok, Err, refl, sym, ◌∙◌, ap, subst}
+use Rattle.std.specs.Prelude.{All, IfOk, OnErr}
 use Rattle.dv_model.specs.declared.types.Reply.{Reply}
 use Rattle.dv_model.specs.declared.types.Reply.TheVariants as reply
+use Rattle.dv_model.specs.Counts.{Rose}
 use Rattle.dv_model.specs.Journals.{Log}
-use Rattle.dv_model.specs.Sessions.{State as SessionState, answer, is_write, reads_mail}
-use Rattle.dv_model.specs.Transcripts.{Line, touches_disk, with_state}
+use Rattle.dv_model.specs.Sessions.{answer, is_write, reads_mail}
+use Rattle.dv_model.specs.Transcripts.{Line, touches_disk}
+use Rattle.dv_shelf.specs.declared.shelf.Name.{Name}
 use Rattle.dv_shelf.specs.Folders.{Folder}
 use Rattle.dv_chain.specs.declared.chain.Chain.{Chain}
 use Rattle.dv_answer.specs.Following.{Follower, IsAbreast}
@@ -14,14 +15,16 @@ use Rattle.dv_answer.specs.Refusing.{own_refusal}
 use Rattle.dv_plans.specs.declared.fault.StoreFault.{StoreFault}
 use Rattle.dv_plans.specs.declared.fault.StoreFault.TheVariants as fault
 use Rattle.dv_plans.specs.Faults.{HasStoreCause}
-use Rattle.dv_playing.specs.Laws.{IsAttempt, IsLine, MayWrite}
-use Rattle.dv_playing.specs.Playing.{Attempt, DueAgain, Failed, Outcome, Play, Rotation, Served, Step, behind_failure, group_here, is_empty, refused_here, step, told, with_group_here}
+use Rattle.dv_playing.specs.Laws.{IsAbove, IsLine, MayWrite}
+use Rattle.dv_playing.specs.Playing.{Attempt, DueAgain, Failed, Play, Rotation, Served, Step, behind_failure, group_here, is_empty, refused_here, step, told, with_group_here}
+use Rattle.dv_store.specs.Commits as writing
 use Rattle.dv_store.specs.Faults.{IsFailure}
 use Rattle.dv_store.specs.Rest.{OnlyReads}
-use Rattle.dv_serial.specs.Following.{AreSeated, EndsAt, Follows, HasStates, with_line}
+use Rattle.dv_serial.specs.Following.{EndsAt, Follows, HasStates, with_line}
 use Rattle.dv_serial.specs.Lines.{IsFaultLine}
+use Rattle.dv_serial.specs.Others.{KeepsOthers, LeavesOthers}
 use Rattle.dv_serial.specs.Places.{play_of}
-use Rattle.dv_serial.specs.Serves.{IsServed, OnlyLooksAt, Serves, seat_at, with_seat}
+use Rattle.dv_serial.specs.Serves.{OnlyLooksAt, Serves, seat_at, with_seat}
 use Rattle.dv_serial.specs.Servings.{Serving}
 use Rattle.dv_serial.specs.Writes.{Commits, IsDone, StandsAs}
 use Rattle.dv_serial.proofs.Counting.{rose_since}
@@ -31,6 +34,7 @@ use Rattle.dv_serial.proofs.Outcomes.{ends_behind, ends_here, ends_stands, faile
 use Rattle.dv_serial.proofs.Refusals.{own_refuses}
 use Rattle.dv_serial.proofs.Seated.{seated_told}
 use Rattle.dv_serial.proofs.Stepping.{attempt, failed_stays, failed_step, play_on, read_stays, served_step}
+use Rattle.dv_serial.proofs.Untouched.{same_others, write_others}
 
 module _ {S C : Type 0} (files : S → Folder) (may_leave : S → Folder → Type 0) (moment : S → ℕ) (left_since : S → ℕ → Folder → Type 0) (upcoming : C → ℕ → ℕ) (clock : ℕ → ℕ) (start : Log) (base : ℕ) (attempts : List Attempt)
     (before faults : ℕ) (line : Line) (old : Serving S C) (follows : Follows files may_leave upcoming clock start base before attempts old) (good : IsLine line) (later : before ≤ faults) where
@@ -45,10 +49,10 @@ module _ {S C : Type 0} (files : S → Folder) (may_leave : S → Folder → Typ
   pub own_result : {E : Type 0} (r : Reply) (result : Result (List Reply) E) → own_refusal (here.states line.0) line.1 ≡ Some r
       → ((c : Folder) → left_since old.store.shelf (moment old.store.shelf) c → may_leave old.store.shelf c) → IfOk result (λ lines. lines ≡ r ∷ []) → IsResult result old
   own_result r (Ok lines) own now is =
-      refused_serves files may_leave moment left_since upcoming clock start base attempts before faults line old follows good later r old lines (own_refuses here line r own) refl refl is
+      refused_serves files may_leave moment left_since upcoming clock start base attempts before faults line old follows good later r old lines (own_refuses here line r own) refl refl is (λ n none. refl)
       (stands_still files may_leave moment left_since upcoming clock start base attempts before old follows now)
   own_result r (Err e) own now is =
-      ends_stands files may_leave moment left_since upcoming clock start base attempts line old old (stands_still files may_leave moment left_since upcoming clock start base attempts before old follows now)
+      ends_stands files may_leave moment left_since upcoming clock start base attempts line old old refl (stands_still files may_leave moment left_since upcoming clock start base attempts before old follows now)
 
   module _ (allowed : refused_here here line ≡ None) where
     -- ---- a read
@@ -88,12 +92,12 @@ module _ {S C : Type 0} (files : S → Folder) (may_leave : S → Folder → Typ
       pub read_failed : {A E : Type 0} (f : StoreFault) (result : Result (List Reply) E) → reads_mail line.1 ≡ true → IsFailure f → HasStoreCause {A = A} before faults (Err f) → IfOk result (IsFaultLine f) → IsResult result mid
       read_failed (fault.Disk count) (Ok lines) mails failure cause is =
           let touches : touches_disk line.1 ≡ true = ap (λ (b : Bool). b || reads_mail line.1) read ∙ mails in
-          failed_serves files may_leave moment left_since upcoming clock start base attempts before faults line old follows good later allowed count DueAgain mid lines touches cause.rose.0 cause.rose.1 looks.seats same_mailbox is
+          failed_serves files may_leave moment left_since upcoming clock start base attempts before faults line old follows good later allowed count DueAgain mid lines touches cause.rose.0 cause.rose.1 looks.seats same_mailbox is (same_others clock start (files old.store.shelf) (files mid.store.shelf) (with_line attempts line (Failed count DueAgain)) reads.looks.same)
           (stands_on files may_leave moment left_since upcoming clock start base attempts line (Failed count DueAgain) (behind_failure here line DueAgain) old mid (failed_stays clock here line read DueAgain) (failed_nothing count touches) stands)
       read_failed fault.NoMemory (Ok lines) mails failure cause is = absurd is
       read_failed fault.UidsUsedUp result mails failure cause is = absurd failure
       read_failed (fault.TooLong bytes) result mails failure cause is = absurd failure
-      read_failed f (Err e) mails failure cause is = ends_stands files may_leave moment left_since upcoming clock start base attempts line old mid stands
+      read_failed f (Err e) mails failure cause is = ends_stands files may_leave moment left_since upcoming clock start base attempts line old mid reads.looks.same stands
 
       -- it is answered
       pub read_told : {E : Type 0} (at : ℕ) (new : Serving S C) (result : Result (List Reply) E) → line.0 ≡ at + 1 → at < length mid.seats → IsAbreast mid.store.chain.live.mailbox (seat_at new.seats at)
@@ -101,50 +105,52 @@ module _ {S C : Type 0} (files : S → Folder) (may_leave : S → Folder → Typ
           ≡ answer here.log.mail (seat_at mid.seats at).state line.1 old.store.chain.live.mailbox (length mid.journal) mid.store.chain.live.mailbox mid.mark)
           → with_seat at (seat_at new.seats at) mid ≡ new → OnErr result (new ≡ mid) → IsResult result new
       read_told at new (Ok replies) number less abreast answered only stays =
-          told_serves files may_leave moment left_since upcoming clock start base attempts before faults line old follows good later allowed at mid new replies number less
+          told_serves files may_leave moment left_since upcoming clock start base attempts before faults line old follows good later allowed at mid new replies number less (same_others clock start (files old.store.shelf) (files mid.store.shelf) (with_line attempts line Served) reads.looks.same)
           (stands_on files may_leave moment left_since upcoming clock start base attempts line Served (with_group_here clock here line) old mid (read_stays clock here line read) told_nothing stands)
           (seated_same files may_leave moment left_since upcoming clock start base attempts before faults line old follows good later mid looks.seats same_mailbox) abreast
           (subst (λ (p : Play). record { replies = replies; next = (seat_at new.seats at).state } ≡ answer p.log.mail (seat_at mid.seats at).state line.1 old.store.chain.live.mailbox (length mid.journal) mid.store.chain.live.mailbox mid.mark)
           (sym (read_stays clock here line read)) answered)
           only
       read_told at new (Err e) number less abreast answered only stays =
-          subst (λ (n : Serving S C). EndsAt files may_leave moment left_since clock start base attempts line old n) (sym stays) (ends_stands files may_leave moment left_since upcoming clock start base attempts line old mid stands)
+          subst (λ (n : Serving S C). EndsAt files may_leave moment left_since clock start base attempts line old n) (sym stays) (ends_stands files may_leave moment left_since upcoming clock start base attempts line old mid reads.looks.same stands)
 
       -- memory ended it
       pub read_ended : EndsAt files may_leave moment left_since clock start base attempts line old mid
-      read_ended = ends_stands files may_leave moment left_since upcoming clock start base attempts line old mid stands
+      read_ended = ends_stands files may_leave moment left_since upcoming clock start base attempts line old mid reads.looks.same stands
 
   -- ---- a write
 
   -- memory ends it before anything is done
   pub ended_still : ((c : Folder) → left_since old.store.shelf (moment old.store.shelf) c → may_leave old.store.shelf c) → EndsAt files may_leave moment left_since clock start base attempts line old old
-  ended_still now = ends_stands files may_leave moment left_since upcoming clock start base attempts line old old (stands_still files may_leave moment left_since upcoming clock start base attempts before old follows now)
+  ended_still now = ends_stands files may_leave moment left_since upcoming clock start base attempts line old old refl (stands_still files may_leave moment left_since upcoming clock start base attempts before old follows now)
 
   module _ (write : is_write line.1 ≡ true) (mid : Serving S C) where
     -- nothing is written
     pub write_failed : {A E : Type 0} (f : StoreFault) (result : Result (List Reply) E) → Commits files may_leave moment left_since upcoming clock start attempts line old (Err f) mid → HasStoreCause {A = A} before faults (Err f) → mid.seats ≡ old.seats
-        → IfOk result (IsFaultLine f) → IsResult result mid
-    write_failed (fault.Disk count) (Ok lines) commits cause seats is =
+        → LeavesOthers {A = A} line.1 old.store.chain.live.mailbox (Err f) (files old.store.shelf) (files mid.store.shelf) → IfOk result (IsFaultLine f) → IsResult result mid
+    write_failed (fault.Disk count) (Ok lines) commits cause seats others is =
         failed_serves files may_leave moment left_since upcoming clock start base attempts before faults line old follows good later commits.allowed count commits.rotation mid lines (write_touches line write) cause.rose.0 cause.rose.1 seats commits.mailbox is
-        commits.stands
-    write_failed (fault.Disk count) (Err e) commits cause seats is =
+        (write_others clock start (files old.store.shelf) (files mid.store.shelf) attempts line (Failed count commits.rotation) old.store.chain.live.mailbox write follows.keeps.at.mailbox others) commits.stands
+    write_failed (fault.Disk count) (Err e) commits cause seats others is =
         let steps = failed_step clock here line count commits.rotation commits.allowed (write_touches line write) in
         ends_behind files may_leave moment left_since upcoming clock start base attempts line (Failed count commits.rotation) (behind_failure here line commits.rotation) here.states old mid (ap (λ (s : Step). s.play) steps)
         (record { line = good; count = rose_so count commits.rotation cause.rose })
-        (inl (ap (λ (s : Step). s.play.log) steps)) commits.stands
+        (inl (ap (λ (s : Step). s.play.log) steps))
+        (write_others clock start (files old.store.shelf) (files mid.store.shelf) attempts line (Failed count commits.rotation) old.store.chain.live.mailbox write follows.keeps.at.mailbox others) commits.stands
       where
-        rose_so : (n : ℕ) (turned : Rotation) → (n ≡ faults) × Rattle.dv_model.specs.Counts.Rose before faults → Rattle.dv_playing.specs.Laws.IsAbove base (Failed n turned)
-        rose_so n turned both = subst (Rattle.dv_model.specs.Counts.Rose base) (sym both.0) (rose_since _ base before faults follows.may.few both.1)
-    write_failed fault.UidsUsedUp (Ok lines) commits cause seats is =
-        refused_serves files may_leave moment left_since upcoming clock start base attempts before faults line old follows good later reply.UidsUsedUp mid lines commits.refused seats commits.mailbox is commits.stands
-    write_failed (fault.TooLong bytes) (Ok lines) commits cause seats is =
-        refused_serves files may_leave moment left_since upcoming clock start base attempts before faults line old follows good later (reply.TooLong bytes) mid lines commits.refused seats commits.mailbox is commits.stands
-    write_failed fault.UidsUsedUp (Err e) commits cause seats is = ends_stands files may_leave moment left_since upcoming clock start base attempts line old mid commits.stands
-    write_failed (fault.TooLong bytes) (Err e) commits cause seats is = ends_stands files may_leave moment left_since upcoming clock start base attempts line old mid commits.stands
-    write_failed fault.NoMemory (Ok lines) commits cause seats is = absurd is
-    write_failed fault.NoMemory (Err e) commits cause seats is = ends_here files may_leave moment left_since upcoming clock start base attempts line old mid commits
+        rose_so : (n : ℕ) (turned : Rotation) → (n ≡ faults) × Rose before faults → IsAbove base (Failed n turned)
+        rose_so n turned both = subst (Rose base) (sym both.0) (rose_since _ base before faults follows.may.few both.1)
+    write_failed fault.UidsUsedUp (Ok lines) commits cause seats others is =
+        refused_serves files may_leave moment left_since upcoming clock start base attempts before faults line old follows good later reply.UidsUsedUp mid lines commits.refused seats commits.mailbox is (same_others clock start (files old.store.shelf) (files mid.store.shelf) (with_line attempts line Served) others) commits.stands
+    write_failed (fault.TooLong bytes) (Ok lines) commits cause seats others is =
+        refused_serves files may_leave moment left_since upcoming clock start base attempts before faults line old follows good later (reply.TooLong bytes) mid lines commits.refused seats commits.mailbox is (same_others clock start (files old.store.shelf) (files mid.store.shelf) (with_line attempts line Served) others) commits.stands
+    write_failed fault.UidsUsedUp (Err e) commits cause seats others is = ends_stands files may_leave moment left_since upcoming clock start base attempts line old mid others commits.stands
+    write_failed (fault.TooLong bytes) (Err e) commits cause seats others is = ends_stands files may_leave moment left_since upcoming clock start base attempts line old mid others commits.stands
+    write_failed fault.NoMemory (Ok lines) commits cause seats others is = absurd is
+    write_failed fault.NoMemory (Err e) commits cause seats others is = ends_here files may_leave moment left_since upcoming clock start base attempts line old mid others commits
 
-    module _ (touched : List ℕ) (done : IsDone files may_leave moment left_since upcoming clock start attempts line touched old mid) (seats : List Follower) where
+    module _ (touched : List ℕ) (done : IsDone files may_leave moment left_since upcoming clock start attempts line touched old mid)
+        (others : (n : Name) → (writing.MayWrite line.1 old.store.chain.live.mailbox n → ⊥) → files mid.store.shelf n ≡ files old.store.shelf n) (seats : List Follower) where
       -- some sessions were told
       abbrev part : Serving S C
       part = record mid { seats = seats }
@@ -158,6 +164,9 @@ module _ {S C : Type 0} (files : S → Folder) (may_leave : S → Folder → Typ
       steps : step clock here (attempt line Served) ≡ told here line group
       steps = served_step clock here line done.allowed
 
+      kept : KeepsOthers clock start (with_line attempts line Served) (files old.store.shelf) (files mid.store.shelf)
+      kept = write_others clock start (files old.store.shelf) (files mid.store.shelf) attempts line Served old.store.chain.live.mailbox write follows.keeps.at.mailbox others
+
       -- it wrote nothing, or its group is the last
       left_log : ((step clock here (attempt line Served)).play.log ≡ here.log) ⊎ ((Served ≡ Served) × MayWrite here line)
       left_log = by (is_empty (group_here here line)) refl
@@ -169,7 +178,7 @@ module _ {S C : Type 0} (files : S → Folder) (may_leave : S → Folder → Typ
       -- memory ended it behind the write
       pub write_ended : EndsAt files may_leave moment left_since clock start base attempts line old part
       write_ended =
-          ends_behind files may_leave moment left_since upcoming clock start base attempts line Served group (told here line group).play.states old part (ap (λ (s : Step). s.play) steps) (record { line = good; count = tt }) left_log part_stands
+          ends_behind files may_leave moment left_since upcoming clock start base attempts line Served group (told here line group).play.states old part (ap (λ (s : Step). s.play) steps) (record { line = good; count = tt }) left_log kept part_stands
 
       -- it is answered
       pub write_told : {E : Type 0} (at : ℕ) (new : Serving S C) (result : Result (List Reply) E) → line.0 ≡ at + 1 → at < length seats → HasStates old.seats seats → All (IsAbreast mid.store.chain.live.mailbox) seats
@@ -178,7 +187,7 @@ module _ {S C : Type 0} (files : S → Folder) (may_leave : S → Folder → Typ
           ≡ answer group.log.mail (seat_at seats at).state line.1 old.store.chain.live.mailbox (length mid.journal) mid.store.chain.live.mailbox mid.mark)
           → with_seat at (seat_at new.seats at) part ≡ new → OnErr result (new ≡ part) → IsResult result new
       write_told at new (Ok replies) number less has all abreast answered only stays =
-          told_serves files may_leave moment left_since upcoming clock start base attempts before faults line old follows good later done.allowed at part new replies number less part_stands
+          told_serves files may_leave moment left_since upcoming clock start base attempts before faults line old follows good later done.allowed at part new replies number less kept part_stands
           (seated_told old.store.chain.live.mailbox here.states old.seats follows.seats mid.store.chain.live.mailbox seats has all) abreast answered only
       write_told at new (Err e) number less has all abreast answered only stays =
           subst (λ (n : Serving S C). EndsAt files may_leave moment left_since clock start base attempts line old n) (sym stays) write_ended

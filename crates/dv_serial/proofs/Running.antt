@@ -10,6 +10,7 @@ use Rattle.dv_model.specs.Journals.{Log}
 use Rattle.dv_model.specs.Sessions.{is_write, reads_mail}
 use Rattle.dv_model.specs.Transcripts as transcripts
 use Rattle.dv_model.specs.Transcripts.{touches_disk, unavailable_count}
+use Rattle.dv_shelf.specs.declared.shelf.Name.{Name}
 use Rattle.dv_shelf.specs.Crashes.{LeavesOnly}
 use Rattle.dv_shelf.specs.Folders.{Folder}
 use Rattle.dv_shelf.specs.Streams.{Appends, AppendsFront}
@@ -21,6 +22,7 @@ use Rattle.dv_playing.proofs.Plays.{replies_go_on}
 use Rattle.dv_serial.specs.declared.lines.LineEnd.{LineEnd}
 use Rattle.dv_serial.specs.declared.lines.LineEnd.TheVariants as line_end
 use Rattle.dv_serial.specs.Following.{EndsAt, Follows, Leaves, MayBeLeft}
+use Rattle.dv_serial.specs.Others.{KeepsOthers, MayTouch}
 use Rattle.dv_serial.specs.Places.{MayGive, play_of}
 use Rattle.dv_serial.specs.Runs.{IsTried, Runs, RunsLine}
 use Rattle.dv_serial.specs.Scripts.{answer_text, numbered, numbered_by, replies_text}
@@ -109,7 +111,7 @@ module _ {S C : Type 0} (files : S → Folder) (may_leave : S → Folder → Typ
   served_leaves = record { keeps = served.follows.keeps; since = served.since }
 
   pub served_ends : EndsAt files may_leave moment left_since clock start base attempts line old new
-  served_ends = record { left = attempt ∷ []; is = (refl, served_attempt); leaves = served_leaves }
+  served_ends = record { left = attempt ∷ []; is = (refl, served_attempt); leaves = served_leaves; others = served.others }
 
 -- want of memory ended a line of which nothing was written
 pub line_ended : {S C : Type 0} (files : S → Folder) (may_leave : S → Folder → Type 0) (moment : S → ℕ) (left_since : S → ℕ → Folder → Type 0) (upcoming : C → ℕ → ℕ) (clock : ℕ → ℕ) (start : Log) (base faults : ℕ) (attempts : List Attempt)
@@ -138,6 +140,24 @@ takes_more m n most old mid new first second less = (
   fun_ext (λ k. ap (λ (f : ℕ → ℕ). f k) second.2 ∙ ap (λ (f : ℕ → ℕ). f (second.0 + k)) first.2 ∙ ap old (omega arith)),
 )
 
+-- ---- files that stay
+
+touch_longer : (clock : ℕ → ℕ) (start : Log) (attempts more : List Attempt) (n : Name) → MayTouch clock start attempts n → MayTouch clock start (attempts ++ more) n
+touch_longer clock start attempts more n touch = record {
+  front = touch.front;
+  back = touch.back ++ more;
+  attempt = touch.attempt;
+  parts = ap (λ l. l ++ more) touch.parts ∙ append_assoc touch.front (touch.attempt ∷ touch.back) more;
+  write = touch.write;
+  writes = touch.writes;
+}
+
+-- over some lines, and then over more
+keep_both : (clock : ℕ → ℕ) (start : Log) (attempts more : List Attempt) (old mid new : Folder) → KeepsOthers clock start attempts old mid → KeepsOthers clock start (attempts ++ more) mid new
+    → KeepsOthers clock start (attempts ++ more) old new
+keep_both clock start attempts more old mid new first second n none =
+    second n none ∙ first n (λ touch. none (touch_longer clock start attempts more n touch))
+
 -- ---- up to a line
 
 module _ {S C : Type 0} (files : S → Folder) (may_leave : S → Folder → Type 0) (moment : S → ℕ) (left_since : S → ℕ → Folder → Type 0)
@@ -148,6 +168,7 @@ module _ {S C : Type 0} (files : S → Folder) (may_leave : S → Folder → Typ
     pub numbers : lines_of answered ≡ map (numbered_by (sessions_of lines)) (take count lines)
     pub follows : Follows files may_leave upcoming clock start base faults answered new
     pub since : LeavesOnly moment left_since old.store.shelf new.store.shelf (MayGive clock start answered)
+    pub others : KeepsOthers clock start answered (files old.store.shelf) (files new.store.shelf)
     pub output : told → Appends taken taken_now (replies_text lines (replies_to clock (begin start) answered))
 
   -- none is yet
@@ -158,6 +179,7 @@ module _ {S C : Type 0} (files : S → Folder) (may_leave : S → Folder → Typ
     numbers = refl;
     follows = follows;
     since = since;
+    others = λ n none. refl;
     output = λ tells. sym (ap (λ t. taken ++ t) (no_texts lines) ∙ append-nil taken);
   }
 
@@ -172,6 +194,7 @@ module _ {S C : Type 0} (files : S → Folder) (may_leave : S → Folder → Typ
     may = so_far.follows.may;
     ends = (refl, refl);
     leaves = subst (λ (all : List Attempt). Leaves files may_leave moment left_since clock start all old new) (sym (append-nil so_far.answered)) (record { keeps = so_far.follows.keeps; since = so_far.since });
+    others = subst (λ (all : List Attempt). KeepsOthers clock start all (files old.store.shelf) (files new.store.shelf)) (sym (append-nil so_far.answered)) so_far.others;
     readings = so_far.follows.readings;
     output = so_far.output;
   }
@@ -211,6 +234,9 @@ module _ {S C : Type 0} (files : S → Folder) (may_leave : S → Folder → Typ
         joined moment left_since old.store.shelf mid.store.shelf new.store.shelf (MayGive clock start (answered ++ more))
         (more_may moment left_since old.store.shelf mid.store.shelf clock start answered more so_far.since) since
 
+    others_both : (more : List Attempt) → KeepsOthers clock start (answered ++ more) (files mid.store.shelf) (files new.store.shelf) → KeepsOthers clock start (answered ++ more) (files old.store.shelf) (files new.store.shelf)
+    others_both more others = keep_both clock start answered more (files old.store.shelf) (files mid.store.shelf) (files new.store.shelf) so_far.others others
+
     -- memory ended it
     pub to_ended : EndsAt files may_leave moment left_since clock start base answered (session, line.1) mid new → (told → taken_now ≡ taken_then) → before ≤ faults
         → Runs files may_leave moment left_since upcoming clock start base faults lines (Err line_end.NoMemory) told taken taken_now old new
@@ -222,6 +248,7 @@ module _ {S C : Type 0} (files : S → Folder) (may_leave : S → Folder → Typ
       may = may_later later;
       ends = ends.is;
       leaves = record { keeps = ends.leaves.keeps; since = since_both ends.left ends.leaves.since };
+      others = others_both ends.left ends.others;
       readings = tt;
       output = λ tells. none tells ∙ so_far.output tells;
     }
@@ -238,6 +265,7 @@ module _ {S C : Type 0} (files : S → Folder) (may_leave : S → Folder → Typ
         numbers = map-append (λ (a : Attempt). a.line) answered (one ∷ []) ∙ ap (λ ls. ls ++ (session, line.1) ∷ []) so_far.numbers ∙ sym (numbers_more lines count session line next);
         follows = served.follows;
         since = since_both (one ∷ []) served.since;
+        others = others_both (one ∷ []) served.others;
         output = λ tells. output tells ∙ ap (λ t. t ++ answer_text line replies) (so_far.output tells) ∙ append_assoc taken (replies_text lines (replies_to clock (begin start) answered)) (answer_text line replies) ∙ ap (λ t. taken ++ t) (sym text);
       }
         where
@@ -258,6 +286,7 @@ module _ {S C : Type 0} (files : S → Folder) (may_leave : S → Folder → Typ
         may = may_later later;
         ends = (refl, served_attempt files may_leave moment left_since upcoming clock start base faults answered (session, line.1) replies mid new served);
         leaves = record { keeps = served.follows.keeps; since = since_both (one ∷ []) served.since };
+        others = others_both (one ∷ []) served.others;
         readings = tt;
         output = λ tells. (answer_text line (step clock (play_of clock start answered) one).replies, tried, front tells);
       }

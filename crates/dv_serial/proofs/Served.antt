@@ -1,5 +1,5 @@
 -- The line of the session at a place, read or written.
-use Rattle.std.proofs.Common.{◌≡◌, ℕ, ◌+◌, ◌^◌, ◌<◌, ◌≤◌, true, false, List, [], ◌∷◌, length, Option, Some, None, Result, Ok, Err, refl, sym, ◌∙◌, ap, subst, arith}
+use Rattle.std.proofs.Common.{◌≡◌, ℕ, ◌+◌, ◌^◌, ◌<◌, ◌≤◌, true, false, List, [], ◌∷◌, length, Option, Some, None, Result, Err, sym, ◌∙◌, ap, subst, arith}
 use Rattle.std.specs.Prelude.{All, IfOk, OnErr}
 use Rattle.dv_model.specs.declared.types.Command.{Command}
 use Rattle.dv_model.specs.declared.types.Mailbox.{Mailbox}
@@ -7,6 +7,7 @@ use Rattle.dv_model.specs.declared.types.Reply.{Reply}
 use Rattle.dv_model.specs.Journals.{Log, Mail}
 use Rattle.dv_model.specs.Sessions.{IsCommand, State as SessionState, answer, is_write, reads_mail}
 use Rattle.dv_model.specs.Transcripts.{Line}
+use Rattle.dv_shelf.specs.declared.shelf.Name.{Name}
 use Rattle.dv_shelf.specs.Folders.{Folder}
 use Rattle.dv_responses.specs.Met.{met_of}
 use Rattle.dv_responses.specs.Supplied.{AreSupplied}
@@ -18,10 +19,12 @@ use Rattle.dv_plans.specs.declared.fault.StoreFault.{StoreFault}
 use Rattle.dv_plans.specs.Faults.{HasStoreCause}
 use Rattle.dv_playing.specs.Laws.{IsLine}
 use Rattle.dv_playing.specs.Playing.{Attempt, Play, refused_here, with_group_here}
+use Rattle.dv_store.specs.Commits.{MayWrite}
 use Rattle.dv_store.specs.Faults.{IsFailure}
 use Rattle.dv_store.specs.Rest.{OnlyReads}
 use Rattle.dv_serial.specs.Following.{EndsAt, Follows, HasStates}
 use Rattle.dv_serial.specs.Lines.{IsFaultLine}
+use Rattle.dv_serial.specs.Others.{LeavesOthers}
 use Rattle.dv_serial.specs.Places.{play_of}
 use Rattle.dv_serial.specs.Serves.{OnlyLooksAt, Serves, seat_at, with_seat}
 use Rattle.dv_serial.specs.Servings.{Serving}
@@ -87,13 +90,14 @@ module _ {S C : Type 0} (files : S → Folder) (may_leave : S → Folder → Typ
 
   module _ (write : is_write c ≡ true) (mid : Serving S C) where
     pub seat_unwritten : {A E : Type 0} (faults : ℕ) (f : StoreFault) (result : Result (List Reply) E) → Commits files may_leave moment left_since upcoming clock start attempts line old (Err f) mid → HasStoreCause {A = A} before faults (Err f) → mid.seats ≡ old.seats
-        → IfOk result (IsFaultLine f) → Serves files may_leave moment left_since upcoming clock start base faults attempts line result old mid
-    seat_unwritten faults f result commits cause seats is =
-        write_failed files may_leave moment left_since upcoming clock start base attempts before faults line old follows good cause.later write mid f result commits cause seats is
+        → LeavesOthers {A = A} c old.store.chain.live.mailbox (Err f) (files old.store.shelf) (files mid.store.shelf) → IfOk result (IsFaultLine f) → Serves files may_leave moment left_since upcoming clock start base faults attempts line result old mid
+    seat_unwritten faults f result commits cause seats others is =
+        write_failed files may_leave moment left_since upcoming clock start base attempts before faults line old follows good cause.later write mid f result commits cause seats others is
 
-    module _ (touched : List ℕ) (done : IsDone files may_leave moment left_since upcoming clock start attempts line touched old mid) (seats : List Follower) where
+    module _ (touched : List ℕ) (done : IsDone files may_leave moment left_since upcoming clock start attempts line touched old mid)
+        (others : (n : Name) → (MayWrite c old.store.chain.live.mailbox n → ⊥) → files mid.store.shelf n ≡ files old.store.shelf n) (seats : List Follower) where
       pub seat_untold : EndsAt files may_leave moment left_since clock start base attempts line old (record mid { seats = seats })
-      seat_untold = write_ended files may_leave moment left_since upcoming clock start base attempts before before line old follows good (omega arith) write mid touched done seats
+      seat_untold = write_ended files may_leave moment left_since upcoming clock start base attempts before before line old follows good (omega arith) write mid touched done others seats
 
       pub seat_wrote : {E : Type 0} (faults : ℕ) (new : Serving S C) (result : Result (List Reply) E) (facts : List MailFacts) (met : Met) → before ≤ faults → HasStates old.seats seats → All (IsAbreast mid.store.chain.live.mailbox) seats
           → met ≡ met_of c (seat_at old.seats at).state.view old.store.chain.live.mailbox
@@ -104,7 +108,7 @@ module _ {S C : Type 0} (files : S → Folder) (may_leave : S → Folder → Typ
       seat_wrote faults new result facts met later has all is answered abreast only stays =
           let same : (seat_at old.seats at).state ≡ (seat_at seats at).state = sym (has.states at new_follower less) in
           let mail : ℕ → Mail = (with_group_here clock here line).log.mail in
-          write_told files may_leave moment left_since upcoming clock start base attempts before faults line old follows good later write mid touched done seats at new result number_is
+          write_told files may_leave moment left_since upcoming clock start base attempts before faults line old follows good later write mid touched done others seats at new result number_is
           (subst (λ (n : ℕ). at < n) (sym has.count) less) has all (subst (λ (s : Serving S C). IsAbreast s.store.chain.live.mailbox (seat_at new.seats at)) (sym only) abreast)
           (answered mail old.store.chain.live.mailbox (is ∙ ap (λ (x : SessionState). met_of c x.view old.store.chain.live.mailbox) same)
           (unread_supplied mail c (seat_at seats at).state mid.store.chain.live.mailbox facts (writes_unread c write)))

@@ -1,19 +1,18 @@
 -- A play goes on by one line: refused, failed or told.
-use Rattle.std.proofs.Common.{◌≡◌, ℕ, ◌+◌, ◌≤◌, Bool, true, false, cond, not, ◌&&◌, ◌||◌, List, [], ◌∷◌, ◌++◌, length, Option, Some, None, refl, sym, ◌∙◌, ap, subst, arith}
-use Rattle.std.specs.Prelude.{All}
+use Rattle.std.proofs.Common.{◌≡◌, ℕ, Bool, true, false, cond, ◌||◌, List, [], ◌∷◌, ◌++◌, Some, None, refl, sym, ◌∙◌, ap, subst}
 use Rattle.std.proofs.lemmas.List.Elements.{All-push}
 use Rattle.dv_model.specs.declared.types.Command.{Command}
 use Rattle.dv_model.specs.declared.types.Command.TheVariants as command
 use Rattle.dv_model.specs.declared.types.Mailbox.{Mailbox}
 use Rattle.dv_model.specs.declared.types.Reply.{Reply}
 use Rattle.dv_model.specs.declared.types.Reply.TheVariants as reply
-use Rattle.dv_model.specs.Counts.{Rose, RoseBy}
+use Rattle.dv_model.specs.Counts.{RoseBy}
 use Rattle.dv_model.specs.Journals.{Log}
-use Rattle.dv_model.specs.Sessions.{State, group_of, is_write}
+use Rattle.dv_model.specs.Sessions.{group_of, is_write}
 use Rattle.dv_model.specs.Transcripts.{Line, touches_disk, unavailable_count}
 use Rattle.dv_model.specs.Views.{View}
 use Rattle.dv_playing.specs.Laws.{IsAttempt, MayPlay}
-use Rattle.dv_playing.specs.Playing.{Attempt, Failed, Outcome, Play, Rotation, Served, Step, begin, behind_failure, fared, group_here, is_empty, played, refused_here, replies_to, step, stepped_by, told, with_group_here}
+use Rattle.dv_playing.specs.Playing.{Attempt, Failed, Outcome, Play, Rotation, Served, begin, behind_failure, fared, group_here, is_empty, played, refused_here, replies_to, step, stepped_by, told, with_group_here}
 use Rattle.dv_playing.proofs.Plays.{goes_on, replies_go_on}
 use Rattle.dv_serial.proofs.Counting.{one_more, rose_sum}
 

@@ -14,6 +14,7 @@ use Rattle.dv_answer.specs.Following.{Follower, IsAbreast}
 use Rattle.dv_playing.specs.Laws.{IsAttempt, MayPlay, MayWrite}
 use Rattle.dv_playing.specs.Playing.{Attempt, Outcome, Play, Served, step}
 use Rattle.dv_store.specs.Rest.{IsAtRest}
+use Rattle.dv_serial.specs.Others.{KeepsOthers}
 use Rattle.dv_serial.specs.Places.{IsOwedBehind, MayGive, StandsAt, play_of}
 use Rattle.dv_serial.specs.Servings.{Serving}
 
@@ -89,3 +90,5 @@ module _ {S C : Type 0} where
     pub left : List Attempt
     pub is : IsLeft clock base (play_of clock start attempts) line left
     pub leaves : Leaves files may_leave moment left_since clock start (attempts ++ left) old new
+    pub others : KeepsOthers clock start (attempts ++ left) (files old.store.shelf)
+        (files new.store.shelf)

@@ -8,3 +8,4 @@ pub mod Scripts
 pub mod Runs
 pub mod Numbering
 pub mod Laws
+pub mod Others

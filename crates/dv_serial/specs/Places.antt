@@ -9,7 +9,7 @@ use Rattle.dv_model.specs.Transcripts.{Line}
 use Rattle.dv_shelf.specs.Folders.{Folder}
 use Rattle.dv_logfile.specs.Layout.{closing}
 use Rattle.dv_rotation.specs.declared.texts.Turn.{Turn}
-use Rattle.dv_keeping.specs.Debts.{Debt, Last, Nothing, Pending}
+use Rattle.dv_keeping.specs.Debts.{Debt, Pending}
 use Rattle.dv_keeping.specs.Keeping.{Gives}
 use Rattle.dv_playing.specs.Laws.{MayWrite}
 use Rattle.dv_playing.specs.Playing.{Attempt, Failed, Play, Rotation, begin, group_here, played, with_group_here}

@@ -13,6 +13,7 @@ use Rattle.dv_playing.specs.Playing.{Attempt, begin, replies_to, step}
 use Rattle.dv_serial.specs.declared.lines.LineEnd.{LineEnd}
 use Rattle.dv_serial.specs.declared.lines.LineEnd.TheVariants as line_end
 use Rattle.dv_serial.specs.Following.{EndsAt, IsLeft, Leaves}
+use Rattle.dv_serial.specs.Others.{KeepsOthers}
 use Rattle.dv_serial.specs.Places.{play_of}
 use Rattle.dv_serial.specs.Scripts.{answer_text, numbered, replies_text}
 use Rattle.dv_serial.specs.Serves.{IsServed}
@@ -82,7 +83,7 @@ module _ {S C : Type 0} where
   -- The first lines were answered, each as a step of one play, and the text of their replies
   -- written. The first of the others may have left its group, or be one that the disk failed. What
   -- is left keeps the play's log behind these lines; so does what a crash leaves, behind some of
-  -- them.
+  -- them. Files that none of them writes stay.
   pub record Runs (files : S → Folder) (may_leave : S → Folder → Type 0) (moment : S → ℕ)
       (left_since : S → ℕ → Folder → Type 0) (upcoming : C → ℕ → ℕ) (clock : ℕ → ℕ) (start : Log)
       (base faults : ℕ) (lines : List NamedLine) (result : Result (Unit {0}) LineEnd)
@@ -94,6 +95,8 @@ module _ {S C : Type 0} where
     pub may : MayPlay clock start base faults answered
     pub ends : EndsWith clock base start answered left rest result
     pub leaves : Leaves files may_leave moment left_since clock start (answered ++ left) old new
+    pub others : KeepsOthers clock start (answered ++ left) (files old.store.shelf)
+        (files new.store.shelf)
     pub readings : HasRead clock (play_of clock start answered).used (upcoming new.store.clock)
         result
     pub output : told → Writes clock start answered left lines result taken taken_now

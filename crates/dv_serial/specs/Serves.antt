@@ -1,5 +1,5 @@
 -- What becomes of one line.
-use Rattle.std.specs.Prelude.{◌≡◌, ◌≤◌, ◌++◌, ℕ, List, [], ◌∷◌, All, get_or, length, slice_set, Result, Ok, Err}
+use Rattle.std.specs.Prelude.{◌≡◌, ◌≤◌, ℕ, List, [], ◌∷◌, All, get_or, length, slice_set, Result, Ok, Err}
 use Rattle.dv_model.specs.declared.types.Command.{Command}
 use Rattle.dv_model.specs.declared.types.Reply.{Reply}
 use Rattle.dv_model.specs.Journals.{Log}
@@ -15,6 +15,7 @@ use Rattle.dv_answer.specs.Following.{Follower, IsAbreast, new_follower}
 use Rattle.dv_store.specs.Rest.{IsLookedAt}
 use Rattle.dv_playing.specs.Playing.{Attempt, Outcome, step}
 use Rattle.dv_serial.specs.Following.{EndsAt, Follows, with_line}
+use Rattle.dv_serial.specs.Others.{KeepsOthers}
 use Rattle.dv_serial.specs.Places.{MayGive, play_of}
 use Rattle.dv_serial.specs.Servings.{Serving}
 
@@ -60,7 +61,7 @@ module _ {S C : Type 0} where
 
   -- The line is one step of the play, with what came of it, and has the replies of that. A crash at
   -- any moment leaves the log behind some of the lines, or with the group of one that the disk
-  -- failed.
+  -- failed; files that no line writes stay.
   pub record IsServed (files : S → Folder) (may_leave : S → Folder → Type 0) (moment : S → ℕ)
       (left_since : S → ℕ → Folder → Type 0) (upcoming : C → ℕ → ℕ) (clock : ℕ → ℕ) (start : Log)
       (base faults : ℕ) (attempts : List Attempt) (line : Line) (replies : List Reply)
@@ -72,6 +73,8 @@ module _ {S C : Type 0} where
         (with_line attempts line outcome) new
     pub since : LeavesOnly moment left_since old.store.shelf new.store.shelf
         (MayGive clock start (with_line attempts line outcome))
+    pub others : KeepsOthers clock start (with_line attempts line outcome) (files old.store.shelf)
+        (files new.store.shelf)
 
   -- it is served, or memory ended it
   abbrev pub Serves : (S → Folder) → (S → Folder → Type 0) → (S → ℕ) → (S → ℕ → Folder → Type 0)

@@ -11,6 +11,7 @@ ghost use Rattle.dv_plans.specs.Faults.{HasStoreCause};
 ghost use Rattle.dv_playing.specs.Playing.{Attempt};
 ghost use Rattle.dv_store.specs.Rest.{IsAtRest};
 ghost use Rattle.dv_serial.specs.Following.{Follows};
+ghost use Rattle.dv_serial.specs.Others.{LeavesOthers};
 ghost use Rattle.dv_serial.specs.Places.{play_of};
 ghost use Rattle.dv_serial.specs.Serves.{AreAbreast, HasFailures, IsSeat, IsServable, Serves, TakesUpTo, seat_at};
 ghost use Rattle.dv_serial.specs.Writes.{Commits};
@@ -34,13 +35,15 @@ impl<S: Shelf, C: Clock> Serial<S, C> {
         requires line { IsServable c.now }
         requires write { is_write c.now ≡ true }
         requires allowed { own_refusal (seat_at self.old.seats at).state c.now ≡ None }
-        // The group is one entry more, or nothing is written; what is owed then; and what a crash
-        // leaves at any moment.
+        // The group is one entry more, or nothing is written; what is owed then, and what a crash
+        // leaves at any moment. Files that the command doesn't write stay.
         ensures commits { S.tells → C.tells → (clock : ℕ → ℕ) (start : Log) (base : ℕ)
             (attempts : List Attempt) → Follows S.files S.may_leave C.upcoming clock start base
             (S.fault_count self.old.store.shelf) attempts self.old → number ≡ at + 1 →
             Commits S.files S.may_leave S.moment S.left_since C.upcoming clock start attempts
-            (number, c.now) self.old result self.new }
+            (number, c.now) self.old result self.new
+            × LeavesOthers c.now self.old.store.chain.live.mailbox result
+            (S.files self.old.store.shelf) (S.files self.new.store.shelf) }
         // The sessions stay, and are to be told of what changes; a fault of the disk has its cause.
         ensures seats { self.new.seats ≡ self.old.seats }
         ensures leads { IfOk result (Leads self.old.store.chain.live.mailbox

@@ -1,7 +1,6 @@
-use Rattle.std.proofs.Common.{◌<◌, ◌≢◌, List, length, refl, subst, sym, arith, rules, get_or-set_other}
+use Rattle.std.proofs.Common.{◌<◌, ◌≢◌, List, length, subst, sym, arith, rules, get_or-set_other}
 use Rattle.std.proofs.lemmas.List.Elements.{AllWithin-from_all, AllWithin-more_set, AllWithin-none}
 use Rattle.dv_answer.specs.Following.{Follower, IsAbreast}
-use Rattle.dv_serial.specs.Following.{HasStates}
 use Rattle.dv_serial.proofs.Seated.{states_refl, states_set}
 use Rattle.dv_serial.proofs.seats.tell_all.Goals as goal
 

@@ -2,7 +2,7 @@ use Rattle.std.proofs.Common.{◌≡◌, ◌<◌, ◌≤◌, ◌+◌, ◌-◌, l
 use Rattle.std.proofs.lemmas.List.{get_or_read}
 use Rattle.dv_answer.specs.Following.{Follower, new_follower}
 use Rattle.dv_answer.specs.Refusing.{own_refusal}
-use Rattle.dv_serial.specs.Serves.{IsSeat, seat_at}
+use Rattle.dv_serial.specs.Serves.{seat_at}
 use Rattle.dv_serial.specs.Servings.{Serving}
 use Rattle.dv_serial.proofs.Served.{seat_refused}
 use Rattle.dv_serial.proofs.serial.Serial.serve.Goals as goal
@@ -20,8 +20,8 @@ returns-in-Some-clause-serves g c =
     let within = rw (← c.self.view_is) at less in
     let seat = get_or_read c.self.inside.seats.items at _ within c.index.ensures new_follower in
     let own = ap (λ (s : Serving g.row.S.Denot g.row.C.Denot). own_refusal (seat_at s.seats at).state c.args.c.now) (sym c.self.view_is)
-        ∙ ap (λ (f : Follower). own_refusal f.state c.args.c.now) (sym seat)
-        ∙ sym c.in-Some.ensures in
+    ∙ ap (λ (f : Follower). own_refusal f.state c.args.c.now) (sym seat)
+    ∙ sym c.in-Some.ensures in
     λ tells reads clock start base attempts follows.
     seat_refused S.files S.may_leave S.moment S.left_since g.C.Clock.upcoming clock start base attempts (S.fault_count old.store.shelf) old follows at number number_is c.args.c.now less (omega (arith, c.ranges.number.fits)) c.requires.line.command
     c.in-Some.refusal c.one_line.result own (λ f left. g.met.S.Shelf.only_now old.store.shelf f tells left) c.one_line.ensures

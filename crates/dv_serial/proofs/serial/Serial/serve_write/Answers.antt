@@ -1,11 +1,11 @@
-use Rattle.std.proofs.Common.{◌≡◌, ℕ, ◌<◌, ◌≤◌, ◌+◌, ◌++◌, List, length, take, drop, refl, sym, ◌∙◌, ap, subst, arith}
-use Rattle.std.specs.Prelude.{All}
+use Rattle.std.proofs.Common.{ℕ, ◌<◌, ◌≤◌, ◌++◌, List, length, take, drop, Ok, sym, ◌∙◌, ap, subst, arith}
 use Rattle.std.proofs.lemmas.List.{get_or_read}
 use Rattle.std.proofs.lemmas.Result.{err_from_is_err_and}
 use Rattle.dv_model.specs.Journals.{Damaged, Mail}
 use Rattle.dv_model.specs.Sessions.{State as SessionState}
 use Rattle.dv_responses.specs.Met.{met_of}
 use Rattle.dv_answer.specs.Following.{Follower, Leads, new_follower}
+use Rattle.dv_serial.specs.Others.{LeavesOthers}
 use Rattle.dv_serial.specs.Serves.{AreAbreast, seat_at}
 use Rattle.dv_serial.specs.Servings.{Serving}
 use Rattle.dv_serial.specs.Writes.{IsDone}
@@ -33,10 +33,12 @@ returns-in_err-tell_all-in-Ok-clause-serves g c =
     let mid : Serving g.row.S.Denot g.row.C.Denot = record { store = inside.store; mark = inside.mark; seats = inside.seats.items; journal = inside.journal.items } in
     let told = c.tell_all.new.seats in
     λ tells reads clock start base attempts follows number_is.
+    let both = c.in-Ok.ensures.commits tells reads clock start base attempts follows number_is in
+    let others = subst (λ (s : Serving g.row.S.Denot g.row.C.Denot). LeavesOthers {A = List ℕ} c.args.c.now old.store.chain.live.mailbox (Ok c.in-Ok.touched) (S.files old.store.shelf) (S.files s.store.shelf)) (sym c.self-in-Ok.view_is) both.1 in
     let done = subst (λ (s : Serving g.row.S.Denot g.row.C.Denot). IsDone S.files S.may_leave S.moment S.left_since g.C.Clock.upcoming clock start attempts (c.args.number, c.args.c.now) c.in-Ok.touched old s) (sym c.self-in-Ok.view_is)
-        (c.in-Ok.ensures.commits tells reads clock start base attempts follows number_is) in
+    both.0 in
     rw p.1 (seat_untold S.files S.may_leave S.moment S.left_since g.C.Clock.upcoming clock start base attempts (S.fault_count old.store.shelf) old follows c.args.at c.args.number number_is c.args.c.now c.requires.at
-    (omega (arith, c.ranges.number.fits)) c.requires.line.command c.requires.write mid c.in-Ok.touched done (take inside.seats.len (told ++ drop (length told) inside.seats.items)))
+    (omega (arith, c.ranges.number.fits)) c.requires.line.command c.requires.write mid c.in-Ok.touched done others (take inside.seats.len (told ++ drop (length told) inside.seats.items)))
 
 pub answer-requires-clause-abreast : goal.answer-requires-clause-abreast
 answer-requires-clause-abreast g c =
@@ -73,12 +75,14 @@ returns-in_ok-tell_all-in-Ok-clause-serves g c =
     let seen = c.view.ensures ∙ ap (λ (f : Follower). f.state.view) (get_or_read c.self.inside.seats.items at _ less c.index.ensures new_follower) in
     let met_is = (rw (seen, c.live.ensures) at c.in_ok-met.ensures) ∙ ap (λ (s : Serving g.row.S.Denot g.row.C.Denot). met_of c.args.c.now (seat_at s.seats at).state.view s.store.chain.live.mailbox) c.self.view_is in
     let later = subst (λ (s : Serving g.row.S.Denot g.row.C.Denot). S.fault_count old.store.shelf ≤ S.fault_count s.store.shelf) c.answer.ensures.seats
-        (subst (λ (s : Serving g.row.S.Denot g.row.C.Denot). S.fault_count old.store.shelf ≤ S.fault_count s.store.shelf) (sym c.self-in-Ok.view_is) c.in-Ok.ensures.cause.later) in
+    (subst (λ (s : Serving g.row.S.Denot g.row.C.Denot). S.fault_count old.store.shelf ≤ S.fault_count s.store.shelf) (sym c.self-in-Ok.view_is) c.in-Ok.ensures.cause.later) in
     λ tells reads clock start base attempts follows number_is.
+    let both = c.in-Ok.ensures.commits tells reads clock start base attempts follows number_is in
+    let others = subst (λ (s : Serving g.row.S.Denot g.row.C.Denot). LeavesOthers {A = List ℕ} c.args.c.now old.store.chain.live.mailbox (Ok c.in-Ok.touched) (S.files old.store.shelf) (S.files s.store.shelf)) (sym c.self-in-Ok.view_is) both.1 in
     let done = subst (λ (s : Serving g.row.S.Denot g.row.C.Denot). IsDone S.files S.may_leave S.moment S.left_since g.C.Clock.upcoming clock start attempts (c.args.number, c.args.c.now) c.in-Ok.touched old s) (sym c.self-in-Ok.view_is)
-        (c.in-Ok.ensures.commits tells reads clock start base attempts follows number_is) in
+    both.0 in
     seat_wrote S.files S.may_leave S.moment S.left_since g.C.Clock.upcoming clock start base attempts (S.fault_count old.store.shelf) old follows at c.args.number number_is c.args.c.now c.requires.at
-    (omega (arith, c.ranges.number.fits)) c.requires.line.command c.requires.write mid c.in-Ok.touched done seats (S.fault_count c.answer.new.self.store.shelf) c.answer.new.self c.answer.result c.new-none.result c.in_ok-met.met later has all met_is
+    (omega (arith, c.ranges.number.fits)) c.requires.line.command c.requires.write mid c.in-Ok.touched done others seats (S.fault_count c.answer.new.self.store.shelf) c.answer.new.self c.answer.result c.new-none.result c.in_ok-met.met later has all met_is
     c.answer.ensures.answer c.answer.ensures.abreast c.answer.ensures.seats c.answer.ensures.err
 
 pub returns-in_ok-tell_all-in-Ok-clause-abreast : goal.returns-in_ok-tell_all-in-Ok-clause-abreast
@@ -114,7 +118,7 @@ returns-in_ok-tell_all-in-Ok-clause-cause g c =
     let met_is = (rw (seen, c.live.ensures) at c.in_ok-met.ensures) ∙ ap (λ (s : Serving g.row.S.Denot g.row.C.Denot). met_of c.args.c.now (seat_at s.seats at).state.view s.store.chain.live.mailbox) c.self.view_is in
     let met_told = met_is ∙ ap (λ (x : SessionState). met_of c.args.c.now x.view old.store.chain.live.mailbox) (sym (has.states at new_follower c.requires.at)) in
     let later = subst (λ (s : Serving g.row.S.Denot g.row.C.Denot). S.fault_count old.store.shelf ≤ S.fault_count s.store.shelf) c.answer.ensures.seats
-        (subst (λ (s : Serving g.row.S.Denot g.row.C.Denot). S.fault_count old.store.shelf ≤ S.fault_count s.store.shelf) (sym c.self-in-Ok.view_is) c.in-Ok.ensures.cause.later) in
+    (subst (λ (s : Serving g.row.S.Denot g.row.C.Denot). S.fault_count old.store.shelf ≤ S.fault_count s.store.shelf) (sym c.self-in-Ok.view_is) c.in-Ok.ensures.cause.later) in
     let mail : ℕ → Mail = λ uid. Damaged in
     told_failures (S.fault_count old.store.shelf) (S.fault_count new.store.shelf) c.answer.result (seat_at new.seats at).state mail (seat_at seats at).state c.args.c.now old.store.chain.live.mailbox (length inside.journal.items) m inside.mark later
     (c.answer.ensures.answer mail old.store.chain.live.mailbox met_told (unread_supplied mail c.args.c.now (seat_at seats at).state m c.new-none.result (writes_unread c.args.c.now c.requires.write)))
@@ -125,6 +129,7 @@ returns-in-Err-clause-serves g c =
     let old = c.args.self.now in
     let did = c.in-Err.ensures in
     λ tells reads clock start base attempts follows number_is.
+    let both = did.commits tells reads clock start base attempts follows number_is in
     seat_unwritten S.files S.may_leave S.moment S.left_since g.C.Clock.upcoming clock start base attempts (S.fault_count old.store.shelf) old follows c.args.at c.args.number number_is c.args.c.now c.requires.at
-    (omega (arith, c.ranges.number.fits)) c.requires.line.command c.requires.write c.commit.new.self (S.fault_count c.commit.new.self.store.shelf) c.in-Err.fault c.fault_line.result (did.commits tells reads clock start base attempts follows number_is) did.cause
-    did.seats c.fault_line.ensures
+    (omega (arith, c.ranges.number.fits)) c.requires.line.command c.requires.write c.commit.new.self (S.fault_count c.commit.new.self.store.shelf) c.in-Err.fault c.fault_line.result both.0 did.cause
+    did.seats both.1 c.fault_line.ensures
