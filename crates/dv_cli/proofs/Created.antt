@@ -20,12 +20,12 @@ use Rattle.dv_rotation.specs.Texts.{place_of}
 use Rattle.dv_keeping.specs.Keeping.{Gives, Keeps}
 use Rattle.dv_store.specs.Opening.{IsFresh, OpensQuietly}
 use Rattle.dv_store.specs.States.{State}
-use Rattle.dv_cli.specs.Begins.{IsBegun, IsTyped}
+use Rattle.dv_cli.specs.Begins.{IsBegun}
 use Rattle.dv_cli.specs.Endings.{IsFault}
 use Rattle.dv_cli.specs.Runs.{IsUnopened, LeavesUnopened, MayLeave}
 use Rattle.dv_cli.specs.Starts.{IsNew, first_mark, new_log}
 use Rattle.dv_cli.proofs.Opened.{fresh_owes, fresh_rests, start_may}
-use Rattle.dv_cli.proofs.Starting.{keeps_none, sound_from}
+use Rattle.dv_cli.proofs.Starting.{IsTyped, keeps_none, sound_from}
 
 pub has_none : (folder : Folder) → IsNew folder → HasNone folder
 has_none folder new = record { index = new.index; log = new.log; log2 = new.log2 }

@@ -11,3 +11,4 @@ pub mod Looked
 pub mod Timed
 pub mod NewFolders
 pub mod Served
+pub mod Folders

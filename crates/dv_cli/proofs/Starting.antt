@@ -14,6 +14,7 @@ use Rattle.dv_shelf.specs.Clocks.{behind}
 use Rattle.dv_shelf.specs.Folders.{Folder}
 use Rattle.dv_openings.specs.Openings.{Finds, IsFound}
 use Rattle.dv_openings.specs.TrueCaches.{HasTrueCache}
+use Rattle.dv_chain.specs.declared.chain.Chain.{Chain}
 use Rattle.dv_chain.specs.Creations.{first_mailbox}
 use Rattle.dv_chain.specs.Openings.{IsQuiet}
 use Rattle.dv_keeping.specs.Keeping.{Gives, Keeps}
@@ -36,6 +37,13 @@ behind_both clock n m = fun_ext (λ k. ap clock (same k))
     same k = omega arith
 
 -- ---- it is sound, has no entry and rotates
+
+-- a chain's mailbox is valid, and its numbers are those of their types
+pub record IsTyped (chain : Chain) : Type 0 where
+  pub valid : IsValid chain.live.mailbox
+  pub resets : HasResets chain.live.mailbox
+  pub place : IsU32 chain.log.file_seq × IsU32 chain.log.end
+  pub indexid : IsU32 chain.indexid
 
 pub sound_from : (indexid : ℕ) (m : Mailbox) (mark : Mark) (folder : Folder) → IsValid m → HasResets m → IsU32 mark.file_seq × IsU32 mark.offset → IsU32 indexid → IsSound (log_from indexid m mark folder)
 sound_from indexid m mark folder valid resets place number = record {

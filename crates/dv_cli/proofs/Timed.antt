@@ -58,11 +58,11 @@ run_takes lines old new (end.Source faults) serving takes = absurd serving
 run_takes lines old new end.Sink serving takes = takes
 
 -- the fault alone says how often
-pub fault_takes : {A B : Type 0} (old new : ℕ → ℕ) (f : OpenFault) → TakesForOpening old new {A = A} (Err f) → TakesForOpening old new {A = B} (Err f)
-fault_takes old new (fault.Disk faults) takes = takes
-fault_takes old new fault.NoMemory takes = takes
-fault_takes old new fault.NoLog takes = takes
-fault_takes old new fault.BadLogHeader takes = takes
-fault_takes old new (fault.BadRecord offset) takes = takes
-fault_takes old new fault.BadIndex takes = takes
-fault_takes old new (fault.Gap index log) takes = takes
+pub fault_takes : (A B : Type 0) (old new : ℕ → ℕ) (f : OpenFault) → TakesForOpening old new {A = A} (Err f) → TakesForOpening old new {A = B} (Err f)
+fault_takes A B old new (fault.Disk faults) takes = takes
+fault_takes A B old new fault.NoMemory takes = takes
+fault_takes A B old new fault.NoLog takes = takes
+fault_takes A B old new fault.BadLogHeader takes = takes
+fault_takes A B old new (fault.BadRecord offset) takes = takes
+fault_takes A B old new fault.BadIndex takes = takes
+fault_takes A B old new (fault.Gap index log) takes = takes
