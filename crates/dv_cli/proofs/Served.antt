@@ -62,7 +62,7 @@ module _ (clock : ℕ → ℕ) (start : Log) (base faults : ℕ) (answered : Lis
   IsRun log rest = Serial log base faults (lines_of answered ++ rest) replies
 
   none_left : (rest : List Line) → IsRun (play_of clock start (answered ++ [])).log rest
-  none_left rest = subst (λ (as : List Attempt). IsRun (play_of clock start as).log rest) (sym (append-nil answered)) (serial clock start base faults answered may rest)
+  none_left rest = subst (λ (these : List Attempt). IsRun (play_of clock start these).log rest) (sym (append-nil answered)) (serial clock start base faults answered may rest)
 
   one_left : (a : Attempt) (line : Line) (behind : List Line) → a.line ≡ line → MayBeLeft clock base here a → IsRun (play_of clock start (answered ++ a ∷ [])).log (line ∷ behind)
   one_left a line behind is left =
@@ -81,7 +81,7 @@ module _ (clock : ℕ → ℕ) (start : Log) (base faults : ℕ) (answered : Lis
 
   pub serial_left : (left : List Attempt) (rest : List Line) → IsFirst clock base here left rest → IsRun (play_of clock start (answered ++ left)).log rest
   serial_left left rest =
-      ⊎_elim (λ none. subst (λ (as : List Attempt). IsRun (play_of clock start (answered ++ as)).log rest) (sym none) (none_left rest))
+      ⊎_elim (λ none. subst (λ (these : List Attempt). IsRun (play_of clock start (answered ++ these)).log rest) (sym none) (none_left rest))
       (λ first. subst (IsRun (play_of clock start (answered ++ left)).log) (sym first.2) (first_left left first.0 first.1 first.3))
 
 -- ---- ends
@@ -94,12 +94,12 @@ first_of clock base start answered left (line ∷ behind) (Err e) ends = inr (li
 ends_at : (clock : ℕ → ℕ) (base : ℕ) (start : Log) (answered left : List Attempt) (rest : List Line) (result : Result (Unit {0}) LineEnd) (mark : Mark) (groups : ℕ) → (play_of clock start (answered ++ left)).mark ≡ mark → length (play_of clock start (answered ++ left)).log.entries ≡ groups
     → EndsWith clock base start answered left rest result → EndsAt (end_behind result mark groups) clock base start answered left rest
 ends_at clock base start answered left rest (Ok done) mark groups at count ends =
-    let all : answered ++ left ≡ answered = ap (λ (as : List Attempt). answered ++ as) ends.1 ∙ append-nil answered in
+    let all : answered ++ left ≡ answered = ap (λ (these : List Attempt). answered ++ these) ends.1 ∙ append-nil answered in
     (
       ends.0,
       ends.1,
-      sym at ∙ ap (λ (as : List Attempt). (play_of clock start as).mark) all,
-      sym count ∙ ap (λ (as : List Attempt). length (play_of clock start as).log.entries) all,
+      sym at ∙ ap (λ (these : List Attempt). (play_of clock start these).mark) all,
+      sym count ∙ ap (λ (these : List Attempt). length (play_of clock start these).log.entries) all,
     )
 ends_at clock base start answered left [] (Err e) mark groups at count ends = absurd ends
 ends_at clock base start answered left (line ∷ behind) (Err line_end.NoMemory) mark groups at count ends = ends
@@ -203,6 +203,18 @@ module _ {S C : Type 0} (files : S → Folder) (may_leave : S → Folder → Typ
           (weaker moment left_since old store.shelf (MayLeave time start [] (files old)) (MayLeave time start all (files old)) begun.since (longer_leave all))
           (weaker moment left_since store.shelf new.store.shelf (MayGive time start all) (MayLeave time start all (files old)) runs.leaves.since (λ c may. inr may));
     }
+
+  -- the play begins with new sessions
+  module _ (counts : S → ℕ) (later : base ≤ counts store.shelf) (faults : ℕ) (lines : List NamedLine) (told : Type 0) (taken taken_now : List ℕ) (n : ℕ) (seats : List Follower) (result : Result (Unit {0}) LineEnd) (serial new : Serving S C) where
+    pub serves_all : seats ≡ replicate n new_follower → serial ≡ serving_over store seats
+        → (Follows files may_leave upcoming time start base (counts serial.store.shelf) [] serial → Runs files may_leave moment left_since upcoming time start base faults lines result told taken taken_now serial new)
+        → may_leave new.store.shelf (files new.store.shelf)
+        → ServesLines files may_leave moment left_since clock (upcoming new.store.clock) base faults lines (end_behind result new.mark (length new.journal)) new.journal told taken taken_now old new.store.shelf
+    serves_all is over run there =
+        let follows : Follows files may_leave upcoming time start base (counts serial.store.shelf) [] serial =
+        subst (λ (s : Serving S C). Follows files may_leave upcoming time start base (counts s.store.shelf) [] s) (sym over) (follows_start n seats (counts store.shelf) later is) in
+        serves_lines faults lines told taken taken_now seats result new
+        (subst (λ (s : Serving S C). Runs files may_leave moment left_since upcoming time start base faults lines result told taken taken_now s new) over (run follows)) there
 
   -- ---- no line was
 
