@@ -47,6 +47,14 @@ served_log clock play a served write =
     by_test true = served
     by_test false = refl
 
+-- what holds of the log from before, and of that with its group, holds behind it
+left_log : (clock : ℕ → ℕ) (base : ℕ) (play : Play) (a : Attempt) (P : Log → Type 0) (whole : Play) → MayBeLeft clock base play a → whole ≡ (step clock play a).play → P play.log → (MayWrite play a.line → P (with_group_here clock play a.line).log) → P whole.log
+left_log clock base play a P whole left last stays written = subst (λ (p : Play). P p.log) (sym last) (by_way left.log)
+  where
+    by_way : ((step clock play a).play.log ≡ play.log) ⊎ ((a.outcome ≡ Served) × MayWrite play a.line) → P (step clock play a).play.log
+    by_way (inl same) = subst P (sym same) stays
+    by_way (inr wrote) = subst P (sym (served_log clock play a wrote.0 wrote.1)) (written wrote.1)
+
 -- none, or the first of the rest
 abbrev IsFirst : (ℕ → ℕ) → ℕ → Play → List Attempt → List Line → Type 0
 IsFirst clock base play left rest = (left ≡ []) ⊎ ((line : Line) × (behind : List Line) × (rest ≡ line ∷ behind) × IsLeft clock base play line left)
@@ -66,13 +74,8 @@ module _ (clock : ℕ → ℕ) (start : Log) (base faults : ℕ) (answered : Lis
 
   one_left : (a : Attempt) (line : Line) (behind : List Line) → a.line ≡ line → MayBeLeft clock base here a → IsRun (play_of clock start (answered ++ a ∷ [])).log (line ∷ behind)
   one_left a line behind is left =
-      let last : (play_of clock start (answered ++ a ∷ [])).log ≡ (step clock here a).play.log = ap (λ (p : Play). p.log) (goes_on clock (begin start) answered a) in
-      ⊎_elim
-      (λ same. subst (λ (log : Log). IsRun log (line ∷ behind)) (sym (last ∙ same)) (serial clock start base faults answered may (line ∷ behind)))
-      (λ wrote.
-      subst (λ (log : Log). IsRun log (line ∷ behind)) (sym (last ∙ served_log clock here a wrote.0 wrote.1))
-      (subst (λ (l : Line). IsRun (with_group_here clock here a.line).log (l ∷ behind)) is (leaves clock start base faults answered may a.line behind wrote.1)))
-      left.log
+      left_log clock base here a (λ log. IsRun log (line ∷ behind)) (play_of clock start (answered ++ a ∷ [])) left (goes_on clock (begin start) answered a) (serial clock start base faults answered may (line ∷ behind))
+      (λ write. subst (λ (l : Line). IsRun (with_group_here clock here a.line).log (l ∷ behind)) is (leaves clock start base faults answered may a.line behind write))
 
   first_left : (left : List Attempt) (line : Line) (behind : List Line) → IsLeft clock base here line left → IsRun (play_of clock start (answered ++ left)).log (line ∷ behind)
   first_left [] line behind is = none_left (line ∷ behind)

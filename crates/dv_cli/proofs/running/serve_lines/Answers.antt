@@ -27,5 +27,5 @@ returns-clause-runs g c = λ tells timed clock old begun base later.
     let new = c.serve_lines-served.new.self in
     rw (c.end_behind-end.ensures, c.mark.ensures, c.count.ensures, c.parts-shelf.ensures)
     (serves_all S.files S.may_leave S.moment S.left_since g.C.Clock.upcoming clock old c.args.store begun base S.fault_count later (S.fault_count new.store.shelf) (all_named c.args.lines.now) O.tells (O.taken c.args.out.now)
-    (O.taken served.new.out) c.in-Ok.sessions c.in-Ok-new_seats.seats served.result c.new-serial.result new c.in-Ok-new_seats.ensures c.new-serial.ensures
+    (O.taken served.new.out) c.in-Ok.field-0.sessions c.in-Ok-new_seats.seats served.result c.new-serial.result new c.in-Ok-new_seats.ensures c.new-serial.ensures
     (λ follows. served.ensures.runs tells timed (behind clock begun.used) begun.start base follows) (g.met.S.Shelf.leaves_files new.store.shelf tells))
