@@ -6,9 +6,11 @@ use Rattle.dv_model.specs.declared.types.OpenFault.{OpenFault}
 use Rattle.dv_model.specs.declared.types.OpenFault.TheVariants as fault
 use Rattle.dv_model.specs.Journals.{HasResets, IsU32, Log}
 use Rattle.dv_model.specs.Mailboxes.{IsValid}
+use Rattle.dv_shelf.specs.declared.shelf.Name.TheVariants as name
 use Rattle.dv_shelf.specs.Clocks.{behind}
 use Rattle.dv_shelf.specs.Crashes.{LeavesOnly}
 use Rattle.dv_shelf.specs.Folders.{Folder}
+use Rattle.dv_shelf.proofs.FolderLemmas.{with_else}
 use Rattle.dv_shelf.proofs.Moments.{weaker}
 use Rattle.dv_logfile.specs.declared.commit.LogFile.{LogFile}
 use Rattle.dv_openings.specs.Openings.{Finds, Found, IsFound}
@@ -90,6 +92,7 @@ module _ {S C : Type 0} (files : S → Folder) (may_leave : S → Folder → Typ
       mark = mark;
       owed = fresh_owes store fresh;
       readings = reads;
+      others = λ n other. ap (λ (f : Folder). f n) leaves ∙ with_else (files old) name.Log _ n other;
       since = weaker moment left_since old store.shelf (IsOldOrCreated (files old) (clock 0)) (MayLeave (behind clock 1) start [] (files old)) quiet.since may;
     }
 

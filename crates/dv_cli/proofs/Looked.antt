@@ -43,6 +43,7 @@ module _ {S C : Type 0} (files : S → Folder) (may_leave : S → Folder → Typ
         mark = begun.mark;
         owed = begun.owed;
         readings = begun.readings;
+        others = λ n other. begun.others n other ∙ ap (λ (f : Folder). f n) same;
         since = looked_then files may_leave moment left_since old mid store.shelf (MayLeave (behind clock begun.used) begun.start [] (files old)) settled
             (starts_may clock (files old) begun.start begun.used starts is_true) looks
             (subst (λ (f : Folder). LeavesOnly moment left_since mid store.shelf (MayLeave (behind clock begun.used) begun.start [] f)) same begun.since);

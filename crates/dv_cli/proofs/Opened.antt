@@ -4,9 +4,11 @@ use Rattle.dv_model.specs.declared.types.Mailbox.{Mailbox}
 use Rattle.dv_model.specs.declared.types.OpenFault.{OpenFault}
 use Rattle.dv_model.specs.declared.types.OpenFault.TheVariants as fault
 use Rattle.dv_model.specs.Journals.{Log}
+use Rattle.dv_shelf.specs.declared.shelf.Name.TheVariants as name
 use Rattle.dv_shelf.specs.Clocks.{behind}
 use Rattle.dv_shelf.specs.Crashes.{LeavesOnly}
 use Rattle.dv_shelf.specs.Folders.{Folder}
+use Rattle.dv_shelf.proofs.FolderLemmas.{with_else}
 use Rattle.dv_shelf.proofs.Moments.{weaker}
 use Rattle.dv_openings.specs.Openings.{Finds, IsFound}
 use Rattle.dv_openings.specs.TrueCaches.{HasTrueCache}
@@ -46,7 +48,7 @@ fresh_owes {S} {C} store fresh = ap (λ (s : State S C). s.owed) fresh.is
 module _ {S C : Type 0} (files : S → Folder) (may_leave : S → Folder → Type 0) (moment : S → ℕ) (left_since : S → ℕ → Folder → Type 0) (upcoming : C → ℕ → ℕ) (clock : ℕ → ℕ) (old : S) where
   -- ---- a store
 
-  module _ (store : State S C) (opens : Opens (files old) (Ok store)) (fresh : IsFresh store) (quiet : OpensQuietly files may_leave moment left_since IsQuiet old (Ok store)) (typed : IsTyped store.chain) (is_true : IsTrueFolder (files old)) (reads : upcoming store.clock ≡ clock) where
+  module _ (store : State S C) (opens : Opens (files old) (Ok store)) (fresh : IsFresh store) (quiet : OpensQuietly files may_leave moment left_since IsQuiet old (Ok store)) (leaves : LeavesFolder (files old) (files store.shelf) (Ok store.chain)) (typed : IsTyped store.chain) (is_true : IsTrueFolder (files old)) (reads : upcoming store.clock ≡ clock) where
     abbrev chain : Chain
     chain = store.chain
 
@@ -79,6 +81,7 @@ module _ {S C : Type 0} (files : S → Folder) (may_leave : S → Folder → Typ
       mark = refl;
       owed = fresh_owes store fresh;
       readings = reads ∙ behind_none clock;
+      others = λ n other. ap (λ (f : Folder). f n) leaves ∙ with_else (files old) name.Log _ n other;
       since = weaker moment left_since old store.shelf (IsQuiet (files old)) (MayLeave (behind clock 0) start [] (files old)) quiet.since may;
     }
 

@@ -200,6 +200,7 @@ module _ {S C : Type 0} (files : S → Folder) (may_leave : S → Folder → Typ
       entries = sym runs.leaves.keeps.at.journal;
       output = λ tells. writes_lines time start runs.answered runs.left lines result new.mark (length new.journal) taken taken_now (runs.output tells);
       readings = has_read clock begun.used (play_of time start runs.answered).used (upcoming new.store.clock) result new.mark (length new.journal) runs.readings;
+      others = λ n other none. runs.others n none ∙ begun.others n other;
       folder = kept (files new.store.shelf) there;
       after = kept;
       crash = joined moment left_since old store.shelf new.store.shelf (MayLeave time start all (files old))
@@ -243,6 +244,7 @@ module _ {S C : Type 0} (files : S → Folder) (may_leave : S → Folder → Typ
       entries = sym bare.entries;
       output = λ tells. sym (append-nil taken);
       readings = λ answered. absurd answered;
+      others = λ n other none. begun.others n other;
       folder = none_kept (files store.shelf) there;
       after = none_kept;
       crash = begun.since;

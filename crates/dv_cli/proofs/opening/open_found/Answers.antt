@@ -8,7 +8,7 @@ returns-in-Ok-clause-begins g c = λ tells settled is_true some.
     let C = g.C.Clock in
     let done = c.in-Ok.ensures in
     let types = c.have_types.ensures in
-    begun_found S.files S.may_leave S.moment S.left_since C.upcoming (C.upcoming c.args.clock) c.args.shelf c.in-Ok.store (done.opens tells) done.fresh (done.quiet tells settled)
+    begun_found S.files S.may_leave S.moment S.left_since C.upcoming (C.upcoming c.args.clock) c.args.shelf c.in-Ok.store (done.opens tells) done.fresh (done.quiet tells settled) (done.files tells)
     (record { valid = types.valid; resets = types.resets; place = types.place; indexid = types.indexid }) is_true (ap C.upcoming done.clock)
 
 pub returns-in-Err-clause-begins : goal.returns-in-Err-clause-begins
