@@ -1,5 +1,5 @@
 -- A run begins behind a look at the folder.
-use Rattle.std.proofs.Common.{◌≡◌, ⊎_elim, inl, inr, ℕ, ◌≤◌, List, [], Result, Ok, Err, refl, sym, ◌∙◌, ap, subst, arith}
+use Rattle.std.proofs.Common.{◌≡◌, ⊎_elim, inl, inr, ℕ, [], Result, Ok, Err, refl, sym, ◌∙◌, ap, subst}
 use Rattle.dv_model.specs.declared.types.OpenFault.{OpenFault}
 use Rattle.dv_model.specs.declared.types.OpenFault.TheVariants as fault
 use Rattle.dv_model.specs.Journals.{Log}
@@ -11,7 +11,6 @@ use Rattle.dv_chain.specs.Openings.{FaultFound, HasCause, IsOutside, OnlyLooks}
 use Rattle.dv_chain.proofs.Shelves.{looked_only, looked_then}
 use Rattle.dv_store.specs.States.{State}
 use Rattle.dv_cli.specs.Begins.{Begins, IsBegun}
-use Rattle.dv_cli.specs.Endings.{IsFault}
 use Rattle.dv_cli.specs.Runs.{IsUnopened, LeavesUnopened, MayLeave}
 use Rattle.dv_cli.specs.Starts.{IsNew, IsTrueFolder, Starts}
 use Rattle.dv_cli.proofs.Created.{outside_found, outside_none}

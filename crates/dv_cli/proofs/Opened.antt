@@ -1,16 +1,14 @@
 -- A run begins over a mailbox that was found.
-use Rattle.std.proofs.Common.{◌≡◌, inl, inr, ℕ, ◌≤◌, List, [], Option, None, Result, Ok, Err, refl, sym, ◌∙◌, ap, subst}
+use Rattle.std.proofs.Common.{◌≡◌, inl, inr, ℕ, ◌≤◌, [], None, Ok, Err, refl, sym, ◌∙◌, ap, subst}
 use Rattle.dv_model.specs.declared.types.Mailbox.{Mailbox}
 use Rattle.dv_model.specs.declared.types.OpenFault.{OpenFault}
 use Rattle.dv_model.specs.declared.types.OpenFault.TheVariants as fault
 use Rattle.dv_model.specs.Journals.{Log}
 use Rattle.dv_shelf.specs.declared.shelf.Name.TheVariants as name
 use Rattle.dv_shelf.specs.Clocks.{behind}
-use Rattle.dv_shelf.specs.Crashes.{LeavesOnly}
 use Rattle.dv_shelf.specs.Folders.{Folder}
 use Rattle.dv_shelf.proofs.FolderLemmas.{with_else}
 use Rattle.dv_shelf.proofs.Moments.{weaker}
-use Rattle.dv_openings.specs.Openings.{Finds, IsFound}
 use Rattle.dv_openings.specs.TrueCaches.{HasTrueCache}
 use Rattle.dv_chain.specs.declared.chain.Chain.{Chain}
 use Rattle.dv_chain.specs.Openings.{IsQuiet, LeavesFolder}
@@ -23,7 +21,6 @@ use Rattle.dv_store.specs.Rest.{IsAtRest}
 use Rattle.dv_store.specs.States.{State}
 use Rattle.dv_serial.specs.Places.{MayGive}
 use Rattle.dv_cli.specs.Begins.{IsBegun}
-use Rattle.dv_cli.specs.Endings.{IsFault}
 use Rattle.dv_cli.specs.Runs.{IsUnopened, LeavesUnopened, MayLeave}
 use Rattle.dv_cli.specs.Starts.{IsNamed, IsNew, IsTrueFolder, log_from}
 use Rattle.dv_cli.proofs.Starting.{IsTyped, behind_none, gives_quiet, keeps_itself, quiet_same, sound_from}

@@ -1,8 +1,8 @@
 -- Lines are served from where a run begins.
-use Rattle.std.proofs.Common.{◌≡◌, ◌⊎◌, ⊎_elim, inl, inr, ℕ, ◌+◌, ◌≤◌, ◌<◌, Bool, true, false, List, [], ◌∷◌, ◌++◌, append-nil, length, get_or, Option, None, Result, Ok, Err, refl, sym, ◌∙◌, ap, subst, arith}
+use Rattle.std.proofs.Common.{◌≡◌, ◌⊎◌, ⊎_elim, inl, inr, ℕ, ◌+◌, ◌≤◌, ◌<◌, Bool, true, false, List, [], ◌∷◌, ◌++◌, append-nil, length, Option, Result, Ok, Err, refl, sym, ◌∙◌, ap, subst, arith}
 use Rattle.std.specs.Prelude.{replicate, if◌then◌else◌}
 use Rattle.std.proofs.lemmas.List.{get_or-replicate, length-replicate}
-use Rattle.std.proofs.lemmas.List.Elements.{All-nil, All-replicate, All-same}
+use Rattle.std.proofs.lemmas.List.Elements.{All-nil, All-replicate}
 use Rattle.dv_model.specs.declared.types.Entry.{Entry}
 use Rattle.dv_model.specs.declared.types.Mark.{Mark}
 use Rattle.dv_model.specs.declared.types.Reply.{Reply}
@@ -10,14 +10,13 @@ use Rattle.dv_model.specs.Journals.{Log}
 use Rattle.dv_model.specs.Sessions.{new_session}
 use Rattle.dv_model.specs.Transcripts.{Line, Serial, touches_disk}
 use Rattle.dv_shelf.specs.Clocks.{behind}
-use Rattle.dv_shelf.specs.Crashes.{LeavesOnly}
 use Rattle.dv_shelf.specs.Folders.{Folder}
 use Rattle.dv_shelf.proofs.Moments.{joined, weaker}
 use Rattle.dv_formats.specs.Scripts.{NamedLine}
 use Rattle.dv_keeping.specs.Debts.{Nothing}
 use Rattle.dv_answer.specs.Following.{Follower, IsAbreast, new_follower}
 use Rattle.dv_playing.specs.Laws.{IsAttempt, MayPlay, MayWrite, lines_of}
-use Rattle.dv_playing.specs.Playing.{Attempt, Outcome, Play, Served, begin, fared, refused_here, replies_to, step, stepped_by, with_group_here}
+use Rattle.dv_playing.specs.Playing.{Attempt, Outcome, Play, Served, begin, fared, replies_to, step, stepped_by, with_group_here}
 use Rattle.dv_playing.proofs.Plays.{goes_on, leaves, serial}
 use Rattle.dv_store.specs.States.{State}
 use Rattle.dv_serial.specs.declared.lines.LineEnd.{LineEnd}

@@ -1,9 +1,8 @@
 -- The log that a run starts from.
-use Rattle.std.proofs.Common.{◌≡◌, ⊎_elim, inl, inr, ℕ, ◌+◌, ◌≤◌, zero, suc, Bool, true, List, [], take, Option, Some, None, Contains, refl, sym, ◌∙◌, ap, subst, arith}
+use Rattle.std.proofs.Common.{◌≡◌, ⊎_elim, ℕ, ◌+◌, zero, suc, true, [], Contains, refl, sym, ap, subst, arith}
 use Rattle.std.specs.Prelude.{IsSome}
 use Rattle.std.proofs.Math.Path.{fun_ext}
 use Rattle.std.proofs.lemmas.List.Elements.{All-nil}
-use Rattle.dv_model.specs.declared.types.Entry.{Entry}
 use Rattle.dv_model.specs.declared.types.Mailbox.{Mailbox}
 use Rattle.dv_model.specs.declared.types.Mark.{Mark}
 use Rattle.dv_model.specs.declared.types.Row.{Row}
@@ -19,7 +18,7 @@ use Rattle.dv_chain.specs.Creations.{first_mailbox}
 use Rattle.dv_chain.specs.Openings.{IsQuiet}
 use Rattle.dv_keeping.specs.Keeping.{Gives, Keeps}
 use Rattle.dv_keeping.proofs.Kept.{KeepsMessages, kept_same, same_messages}
-use Rattle.dv_cli.specs.Starts.{IsNamed, IsNew, IsOpened, IsTrueFolder, Starts, log_from, new_log}
+use Rattle.dv_cli.specs.Starts.{IsOpened, IsTrueFolder, Starts, log_from, new_log}
 use Rattle.dv_cli.proofs.GuidFiles.{guid_read}
 
 -- ---- a clock's readings

@@ -1,10 +1,7 @@
 -- What a whole run answers, writes and leaves. The records take the members of a shelf's type.
-use Rattle.std.specs.Prelude.{◌≡◌, ◌≢◌, ◌⊎◌, ◌≤◌, ◌+◌, ◌++◌, ℕ, List, [], ◌∷◌, drop, length, ⊤}
+use Rattle.std.specs.Prelude.{◌≡◌, ◌≢◌, ◌⊎◌, ◌+◌, ◌++◌, ℕ, List, [], ◌∷◌, drop, length, ⊤}
 use Rattle.dv_model.specs.declared.types.Entry.{Entry}
 use Rattle.dv_model.specs.declared.types.OpenFault.{OpenFault}
-use Rattle.dv_model.specs.declared.types.OpenFault.TheVariants as fault
-use Rattle.dv_model.specs.declared.types.Reply.{Reply}
-use Rattle.dv_model.specs.Counts.{Rose}
 use Rattle.dv_model.specs.Journals.{Log}
 use Rattle.dv_model.specs.Transcripts as transcripts
 use Rattle.dv_model.specs.Transcripts.{Serial}
@@ -14,14 +11,12 @@ use Rattle.dv_shelf.specs.Clocks.{behind}
 use Rattle.dv_shelf.specs.Crashes.{LeavesOnly}
 use Rattle.dv_shelf.specs.Folders.{Folder}
 use Rattle.dv_shelf.specs.Streams.{Appends, AppendsFront}
-use Rattle.dv_formats.specs.Parsing.{parsed}
 use Rattle.dv_formats.specs.Scripts.{NamedLine}
-use Rattle.dv_script.specs.Sources.{ScriptFails}
 use Rattle.dv_chain.specs.Creations.{IsOldOrCreated}
 use Rattle.dv_chain.specs.Openings.{FaultFound, IsQuiet}
-use Rattle.dv_openings.specs.Openings.{Found, IsFound}
+use Rattle.dv_openings.specs.Openings.{IsFound}
 use Rattle.dv_playing.specs.Laws.{lines_of}
-use Rattle.dv_playing.specs.Playing.{Attempt, Play, Served, begin, replies_to, step}
+use Rattle.dv_playing.specs.Playing.{Attempt, begin, replies_to}
 use Rattle.dv_serial.specs.Following.{IsLeft}
 use Rattle.dv_serial.specs.Others.{MayTouch}
 use Rattle.dv_serial.specs.Places.{GivesBehind, MayGive, play_of}
@@ -34,8 +29,8 @@ use Rattle.dv_cli.specs.Starts.{IsNew, Starts}
 
 -- ---- lines that were answered
 
--- How a run over lines ends: behind all of them, with the place behind the journal and its number of
--- groups; or where memory or the output ended it, at the first of the rest.
+-- How a run over lines ends: behind all of them, with the place behind the journal and its number
+-- of groups; or where memory or the output ended it, at the first of the rest.
 abbrev pub EndsAt : End → (ℕ → ℕ) → ℕ → Log → List Attempt → List Attempt
     → List transcripts.Line → Type 0
 EndsAt (end.Answered mark groups) clock base start answered left rest =

@@ -87,7 +87,8 @@ fn open_found<S: Shelf, C: Clock>(
 ) -> Result<Store<S, C>, (S, C, OpenFault)>
     ensures begins { S.tells → IsSettled S.files S.may_leave shelf →
         IsTrueFolder (S.files shelf) → (IsNew (S.files shelf) → ⊥) →
-        Begins S.files S.may_leave S.moment S.left_since C.upcoming (C.upcoming clock) shelf result }
+        Begins S.files S.may_leave S.moment S.left_since C.upcoming (C.upcoming clock) shelf
+        result }
     ensures clock { clock_behind result ≡ clock }
     ensures cause { HasCause (S.fault_count shelf) (S.fault_count (shelf_behind result))
         (answered result) }
@@ -109,7 +110,8 @@ fn make_new<S: Shelf, C: Clock>(
 ) -> Result<Store<S, C>, (S, C, OpenFault)>
     ensures begins { S.tells → C.tells → IsSettled S.files S.may_leave shelf →
         IsNew (S.files shelf) →
-        Begins S.files S.may_leave S.moment S.left_since C.upcoming (C.upcoming clock) shelf result }
+        Begins S.files S.may_leave S.moment S.left_since C.upcoming (C.upcoming clock) shelf
+        result }
     ensures clock { C.tells →
         TakesForOpening (C.upcoming clock) (C.upcoming (clock_behind result)) (answered result) }
     ensures cause { HasCause (S.fault_count shelf) (S.fault_count (shelf_behind result))
@@ -124,8 +126,8 @@ fn make_new<S: Shelf, C: Clock>(
     }
 }
 
-/// Opens the mailbox of a folder, or makes one where the folder has no file of a mailbox. The folder
-/// and the clock are handed back with a fault.
+/// Opens the mailbox of a folder, or makes one where the folder has no file of a mailbox. The
+/// folder and the clock are handed back with a fault.
 pub fn open_folder<S: Shelf, C: Clock>(
     alloc: Global,
     mut shelf: S,

@@ -1,4 +1,4 @@
-use Rattle.std.proofs.Common.{◌≡◌, Ok, Err, refl, sym, ap, subst}
+use Rattle.std.proofs.Common.{Err, refl, sym, ap, subst}
 use Rattle.std.proofs.lemmas.Bool.{MatchBool-at_false, MatchBool-at_true}
 use Rattle.std.specs.Prelude.{Bool}
 use Rattle.dv_chain.specs.declared.chain.Chain.{Chain}

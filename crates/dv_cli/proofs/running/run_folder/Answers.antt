@@ -1,4 +1,4 @@
-use Rattle.std.proofs.Common.{◌≡◌, ◌*◌, ◌≤◌, length, refl}
+use Rattle.std.proofs.Common.{◌*◌, length, refl}
 use Rattle.dv_script.specs.Sources.{all_named}
 use Rattle.dv_chain.specs.declared.chain.Chain.{Chain}
 use Rattle.dv_cli.proofs.Folders.{end_later, unopened_cause}
