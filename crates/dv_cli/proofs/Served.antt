@@ -96,8 +96,7 @@ first_of clock base start answered left (line ∷ behind) (Err e) ends = inr (li
 ends_at : (clock : ℕ → ℕ) (base : ℕ) (start : Log) (answered left : List Attempt) (rest : List Line) (result : Result (Unit {0}) LineEnd) (mark : Mark) (groups : ℕ) → (play_of clock start (answered ++ left)).mark ≡ mark → length (play_of clock start (answered ++ left)).log.entries ≡ groups
     → EndsWith clock base start answered left rest result → EndsAt (end_behind result mark groups) clock base start answered left rest
 ends_at clock base start answered left rest (Ok done) mark groups at count ends =
-    let all : answered ++ left ≡ answered = ap (λ (these : List Attempt). answered ++ these) ends.1 ∙ append-nil answered in
-    (
+    let all : answered ++ left ≡ answered = ap (λ (these : List Attempt). answered ++ these) ends.1 ∙ append-nil answered in (
       ends.0,
       ends.1,
       sym at ∙ ap (λ (these : List Attempt). (play_of clock start these).mark) all,

@@ -41,12 +41,11 @@ module _ {A : Type 0} (old new : ℕ → ℕ) where
 
 -- what an opening took, and what the lines took
 pub takes_both : (a b : ℕ) (old mid new : ℕ → ℕ) → TakesUpTo a old mid → TakesUpTo b mid new → TakesUpTo (a + b) old new
-takes_both a b old mid new first second =
-    (
-      first.0 + second.0,
-      omega (arith, first.1, second.1),
-      second.2 ∙ ap (λ (clock : ℕ → ℕ). behind clock second.0) first.2 ∙ behind_both old first.0 second.0,
-    )
+takes_both a b old mid new first second = (
+  first.0 + second.0,
+  omega (arith, first.1, second.1),
+  second.2 ∙ ap (λ (clock : ℕ → ℕ). behind clock second.0) first.2 ∙ behind_both old first.0 second.0,
+)
 
 pub run_takes : (lines : ℕ) (old new : ℕ → ℕ) (e : End) → EndsServing e → TakesUpTo (most_readings lines) old new → TakesForRun lines old new e
 run_takes lines old new (end.Answered mark groups) serving takes = takes
