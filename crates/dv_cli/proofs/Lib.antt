@@ -12,3 +12,7 @@ mod Timed
 mod NewFolders
 mod Served
 mod Folders
+mod Parsed
+mod WholeRuns
+mod WrongWords
+mod Reached

@@ -9,3 +9,4 @@ pub mod Runs
 pub mod Causes
 pub mod Outputs
 pub mod Wholes
+pub mod Obeying

@@ -2,33 +2,32 @@
 #![tactic(auto)]
 
 mod ending;
+mod errors;
 mod opening;
 mod program;
 mod reading;
 mod running;
+#[cfg(test)]
+mod tests;
 mod top_call;
 
-use crate::ending::{End, conclude};
-use crate::program::obey;
+use crate::errors::ErrorOutput;
+use crate::program::obey_read;
 use dv_folder::Output;
-use dv_model::NoMemory;
+use std::alloc::AllocError;
 use std::env;
-use std::io::ErrorKind;
 use std::process::ExitCode;
 
 fn main(rt: HostRuntime) -> ExitCode {
-    let alloc = rt.alloc();
-    let words: Result<Vec<String>, NoMemory> = match env::args(&rt) {
-        // the first is the program's own name
-        Ok(words) => words.skip(1).collect(alloc).map_err(NoMemory::from),
-        Err(e) if e.kind() == ErrorKind::OutOfMemory => Err(NoMemory),
-        // a word that is no text
-        Err(_) => Ok(Vec::new(alloc)),
+    let read = match env::args(&rt) {
+        Ok(words) => {
+            // the first is the program's own name
+            let texts: Result<Vec<String>, AllocError> = words.skip(1).collect(rt.alloc());
+            Ok(texts)
+        }
+        Err(e) => Err(e.kind()),
     };
     let mut out = Output::new(rt);
-    let status = match words {
-        Ok(words) => obey(rt, &mut out, words.as_slice()),
-        Err(_) => conclude(alloc, &mut out, &End::NoMemory),
-    };
-    ExitCode::from(status)
+    let mut errors = ErrorOutput::new(rt);
+    ExitCode::from(obey_read(rt, &mut out, &mut errors, read))
 }

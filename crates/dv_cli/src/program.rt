@@ -1,15 +1,19 @@
-ghost use Rattle.std.specs.Prelude.{◌≡◌, ◌⊎◌, ◌≤◌, true, false, map, string_bytes, IfOk};
+//! What the program's words ask for.
+
+ghost use Rattle.std.specs.Prelude.{◌≡◌, ◌⊎◌, ◌≤◌, [], IfErr, IfOk, Ok, false, map, string_bytes};
 ghost use Rattle.dv_model.specs.Counts.{Rose};
-ghost use Rattle.dv_cli.specs.Running.{is_run, usage_text, memory_text};
+ghost use Rattle.dv_cli.specs.Obeying.{IsMemory, Obeys, Tells};
+ghost use Rattle.dv_cli.specs.Running.{is_run, usage_text};
 ghost use Rattle.dv_cli.specs.Words.{Prints, asks_for, folder_word, run_words};
 ghost use Rattle.dv_folder.specs.Paths.{folder_path, path_of};
-ghost use Rattle.dv_cli.specs.declared.program.TheConstants.{HELP, HELP_WORD, VERSION, VERSION_WORD};
 
 use crate::ending::{End, conclude, write_text};
 use crate::top_call::{Ran, run};
-use dv_folder::{Folder, Input, SystemClock, write_error};
+use dv_folder::{Folder, Input, SystemClock};
 use dv_model::NoMemory;
 use dv_shelf::{OpenGate, Sink};
+use std::alloc::{AllocError, Global};
+use std::io::ErrorKind;
 
 /// The word that asks for the text on the program, in the place of the folder.
 const HELP_WORD: &str = "--help";
@@ -23,14 +27,32 @@ const USAGE: &[u8] = b"usage: sdbox FOLDER run < SCRIPT\n";
 
 const HELP: &[u8] = b"usage: sdbox FOLDER run < SCRIPT
 
-Makes a mailbox in FOLDER, which must have none yet, and answers the commands of the script, each
-line with a session's name before it: SELECT, NOOP and APPEND (). The last line of the output says
-how the run ended, and the exit status says it too:
+Keeps a mailbox in FOLDER and answers the commands of the script. Where FOLDER has no mailbox one is
+made. A line of the script is a session's name, of 1 to 16 small letters and digits, a space and a
+command, in capitals; at most 64 sessions take part. Empty lines and lines that begin with # are
+passed over.
+
+  SELECT                     shows the mailbox; each session's first command
+  NOOP                       tells what has changed
+  APPEND (FLAGS) {N}         adds a message: N bytes, which follow the line
+  FETCH SET (ITEMS)          ITEMS: FLAGS, RFC822.SIZE, BODY[], FIELD NAME, MODSEQ
+  STORE SET +FLAGS (FLAGS)   adds flags; -FLAGS takes them away, FLAGS sets them; before it may
+                             stand (UNCHANGEDSINCE N)
+  SEARCH KEYS                KEYS: ALL, SEEN and UNSEEN and so on, KEYWORD NAME, UID SET, LARGER N,
+                             HEADER NAME \"TEXT\", NOT KEY, OR KEY KEY, (KEYS)
+  EXPUNGE                    removes the messages with \\Deleted
+  CHECK                      writes a snapshot, and removes files of messages that are gone
+  UID FETCH, UID STORE, UID SEARCH, UID REMOVE SET
+                             go by UIDs
+
+SET is numbers, * and ranges with commas between, as 1,3:5,7:*. FLAGS are \\Answered, \\Flagged,
+\\Deleted, \\Seen, \\Draft and keywords. The last line of the output says how the run ended, and the
+exit status says it too:
 
   0  every command was answered
   1  the words are none of these
-  2  the folder couldn't be read or written
-  3  the folder has a mailbox
+  2  the folder couldn't be opened, made or locked
+  3  the folder's mailbox is damaged, or isn't of this program
   4  memory ran out
   5  the script is no script
   6  the script couldn't be read
@@ -39,6 +61,25 @@ how the run ended, and the exit status says it too:
   --help     prints this text
   --version  prints the version
 ";
+
+/// The program's words behind its own name, by what was read of them: a word that is no text makes
+/// them none, and want of memory is told.
+fn words_read(
+    alloc: Global,
+    read: Result<Result<Vec<String>, AllocError>, ErrorKind>,
+) -> Result<Vec<String>, NoMemory>
+    ensures texts { IfOk read (λ got. IfOk got (λ words. result ≡ Ok words)) }
+    ensures lacking { IfOk read (λ got. IfErr got (λ e. IsMemory result)) }
+    ensures memory { IfErr read (λ kind. kind ≡ ErrorKind.OutOfMemory → IsMemory result) }
+    ensures no_text { IfErr read (λ kind. (kind ≡ ErrorKind.OutOfMemory → ⊥) →
+        IfOk result (λ words. words.items ≡ []) × IfErr result (λ e. ⊥)) }
+{
+    match read {
+        Ok(Ok(words)) => Ok(words),
+        Ok(Err(_)) | Err(ErrorKind::OutOfMemory) => Err(NoMemory),
+        Err(_) => Ok(Vec::new(alloc)),
+    }
+}
 
 /// Whether the first word is this one.
 fn asks(words: &[String], word: &str) -> bool
@@ -52,7 +93,8 @@ fn asks(words: &[String], word: &str) -> bool
 
 /// The folder that the first word names.
 fn folder_named(rt: HostRuntime, words: &[String]) -> Result<Folder, NoMemory>
-    ensures { IfOk result (λ shelf. path_of shelf ≡ folder_path (folder_word (map string_bytes words.now))) }
+    ensures { IfOk result (λ shelf.
+        path_of shelf ≡ folder_path (folder_word (map string_bytes words.now))) }
 {
     match words {
         [path, ..] => Folder::new(rt.alloc(), rt, path.as_str()),
@@ -70,14 +112,35 @@ fn words_behind(words: &[String]) -> &[String]
     }
 }
 
+/// Tells how the program is used. A failure there has no other place to be told.
+fn tell_usage<E: Sink>(errors: &mut E)
+    ensures { E.tells → Tells USAGE.now (E.taken errors.old) (E.taken errors.new)
+        (E.fault_count errors.old) (E.fault_count errors.new) }
+{
+    match errors.write_all(USAGE) {
+        Ok(()) | Err(_) => {}
+    }
+}
+
 /// Serves a folder by these words, and gives the exit status. Words that aren't those of a run
 /// are answered on standard error too.
-fn serve<O: Sink>(rt: HostRuntime, out: &mut O, shelf: Folder, words: &[String]) -> u8
+fn serve<O: Sink, E: Sink>(
+    rt: HostRuntime,
+    out: &mut O,
+    errors: &mut E,
+    shelf: Folder,
+    words: &[String],
+) -> u8
     ensures usage { is_run (map string_bytes words.now) ≡ false → (result ≡ 1) ⊎ (result ≡ 7) }
-    ensures usage_output { is_run (map string_bytes words.now) ≡ false → O.tells → Prints 1 usage_text result (O.taken out.old) (O.taken out.new) }
+    ensures usage_output { is_run (map string_bytes words.now) ≡ false → O.tells →
+        Prints 1 usage_text result (O.taken out.old) (O.taken out.new) }
     ensures usage_only { result ≡ 1 → is_run (map string_bytes words.now) ≡ false }
     ensures sink { result ≡ 7 → Rose (O.fault_count out.old) (O.fault_count out.new) }
     ensures small { result ≤ 7 }
+    // Standard error takes the usage text at status 1 alone.
+    ensures told { result ≡ 1 → E.tells → Tells USAGE.now (E.taken errors.old)
+        (E.taken errors.new) (E.fault_count errors.old) (E.fault_count errors.new) }
+    ensures quiet { (result ≡ 1 → ⊥) → errors.new ≡ errors.old }
 {
     let mut script = Input::new(rt);
     let clock = SystemClock::new(rt);
@@ -88,7 +151,7 @@ fn serve<O: Sink>(rt: HostRuntime, out: &mut O, shelf: Folder, words: &[String])
         journal: _journal,
     } = run(rt.alloc(), words, shelf, &mut script, out, clock, &OpenGate);
     if status == 1 {
-        write_error(rt, USAGE);
+        tell_usage(errors);
     }
     status
 }
@@ -96,16 +159,13 @@ fn serve<O: Sink>(rt: HostRuntime, out: &mut O, shelf: Folder, words: &[String])
 /// Does what the program's words ask for, and gives the exit status, which is that of the run
 /// where they aren't `--help` or `--version`. The first word is the folder's path; where there is
 /// none, there are no words behind it either.
-pub fn obey<O: Sink>(rt: HostRuntime, out: &mut O, words: &[String]) -> u8
-    ensures help { asks_for HELP_WORD.now (map string_bytes words.now) ≡ true → O.tells → Prints 0 HELP.now result (O.taken out.old) (O.taken out.new) }
-    ensures version { asks_for HELP_WORD.now (map string_bytes words.now) ≡ false → asks_for VERSION_WORD.now (map string_bytes words.now) ≡ true → O.tells → Prints 0 VERSION.now result (O.taken out.old) (O.taken out.new) }
-    ensures usage { asks_for HELP_WORD.now (map string_bytes words.now) ≡ false → asks_for VERSION_WORD.now (map string_bytes words.now) ≡ false →
-        is_run (run_words (map string_bytes words.now)) ≡ false → (result ≡ 1) ⊎ (result ≡ 4) ⊎ (result ≡ 7) }
-    ensures usage_output { asks_for HELP_WORD.now (map string_bytes words.now) ≡ false → asks_for VERSION_WORD.now (map string_bytes words.now) ≡ false →
-        is_run (run_words (map string_bytes words.now)) ≡ false → O.tells → Prints 1 usage_text result (O.taken out.old) (O.taken out.new) ⊎ Prints 4 memory_text result (O.taken out.old) (O.taken out.new) }
-    ensures usage_only { result ≡ 1 → is_run (run_words (map string_bytes words.now)) ≡ false }
-    ensures sink { result ≡ 7 → Rose (O.fault_count out.old) (O.fault_count out.new) }
-    ensures small { result ≤ 7 }
+fn obey<O: Sink, E: Sink>(rt: HostRuntime, out: &mut O, errors: &mut E, words: &[String]) -> u8
+    ensures obeys { Obeys (map string_bytes words.now) result O.tells (O.taken out.old)
+        (O.taken out.new) (O.fault_count out.old) (O.fault_count out.new) }
+    // Standard error takes the usage text at status 1 alone.
+    ensures told { result ≡ 1 → E.tells → Tells USAGE.now (E.taken errors.old)
+        (E.taken errors.new) (E.fault_count errors.old) (E.fault_count errors.new) }
+    ensures quiet { (result ≡ 1 → ⊥) → errors.new ≡ errors.old }
 {
     if asks(words, HELP_WORD) {
         return write_text(out, HELP, 0);
@@ -114,7 +174,36 @@ pub fn obey<O: Sink>(rt: HostRuntime, out: &mut O, words: &[String]) -> u8
         return write_text(out, VERSION, 0);
     }
     match folder_named(rt, words) {
-        Ok(shelf) => serve(rt, out, shelf, words_behind(words)),
+        Ok(shelf) => serve(rt, out, errors, shelf, words_behind(words)),
+        Err(_) => conclude(rt.alloc(), out, &End::NoMemory),
+    }
+}
+
+/// Does what the words ask for that were read, and gives the exit status: that of want of memory
+/// where the words couldn't be read for it. Words of which one is no text are none.
+pub fn obey_read<O: Sink, E: Sink>(
+    rt: HostRuntime,
+    out: &mut O,
+    errors: &mut E,
+    read: Result<Result<Vec<String>, AllocError>, ErrorKind>,
+) -> u8
+    ensures texts { IfOk read (λ got. IfOk got (λ words. Obeys (map string_bytes words.items)
+        result O.tells (O.taken out.old) (O.taken out.new) (O.fault_count out.old)
+        (O.fault_count out.new))) }
+    ensures no_text { IfErr read (λ kind. (kind ≡ ErrorKind.OutOfMemory → ⊥) → Obeys [] result
+        O.tells (O.taken out.old) (O.taken out.new) (O.fault_count out.old)
+        (O.fault_count out.new)) }
+    // Want of memory is told as such.
+    ensures lacking { IfOk read (λ got. IfErr got (λ e. (result ≡ 4) ⊎ (result ≡ 7))) }
+    ensures memory { IfErr read (λ kind. kind ≡ ErrorKind.OutOfMemory →
+        (result ≡ 4) ⊎ (result ≡ 7)) }
+    // Standard error takes the usage text at status 1 alone.
+    ensures told { result ≡ 1 → E.tells → Tells USAGE.now (E.taken errors.old)
+        (E.taken errors.new) (E.fault_count errors.old) (E.fault_count errors.new) }
+    ensures quiet { (result ≡ 1 → ⊥) → errors.new ≡ errors.old }
+{
+    match words_read(rt.alloc(), read) {
+        Ok(words) => obey(rt, out, errors, words.as_slice()),
         Err(_) => conclude(rt.alloc(), out, &End::NoMemory),
     }
 }

@@ -1,6 +1,6 @@
 //! The whole run.
 
-ghost use Rattle.std.specs.Prelude.{◌≡◌, ◌≢◌, ◌⊎◌, ◌^◌, ◌≤◌, ◌++◌, [], ℕ, All, Err, IfErr, IfOk, List, Ok, false, length, map, string_bytes, true, ⊥};
+ghost use Rattle.std.specs.Prelude.{◌≡◌, ◌≢◌, ◌⊎◌, ◌^◌, ◌≤◌, ◌++◌, [], ℕ, All, Err, IfErr, IfOk, List, Ok, false, length, map, string_bytes, true};
 ghost use Rattle.dv_model.specs.Counts.{Rose};
 ghost use Rattle.dv_model.specs.Journals.{Log};
 ghost use Rattle.dv_shelf.specs.Crashes.{IsSettled};
@@ -8,9 +8,7 @@ ghost use Rattle.dv_shelf.specs.Streams.{Appends};
 ghost use Rattle.dv_formats.specs.Parsing.{ScriptFault, parsed};
 ghost use Rattle.dv_formats.specs.Scripts.{NamedLine};
 ghost use Rattle.dv_serial.specs.Serves.{IsServable, TakesUpTo};
-ghost use Rattle.dv_cli.specs.declared.ending.End.TheVariants as how;
 ghost use Rattle.dv_cli.specs.Causes.{AnyRose, EndsRefused, HasCauses, HasFault, HasRunCause, IsOr, IsReadEnd, IsUntouched, ScriptEnds, TakesByEnd, TakesByStatus, TellsFaults, TellsScript, counts_of, most_readings};
-ghost use Rattle.dv_cli.specs.Endings.{Concludes, IsStatus};
 ghost use Rattle.dv_cli.specs.Outputs.{IsOutput};
 ghost use Rattle.dv_cli.specs.Readings.{read_limit};
 ghost use Rattle.dv_cli.specs.Running.{is_run, usage_text};
@@ -24,6 +22,7 @@ use crate::reading::{ReadEnd, read_script};
 use crate::running::{Outcome, run_folder};
 use dv_model::{Entry, List};
 use dv_script::{Line, parse};
+use dv_serial::commands_are_servable;
 use dv_shelf::{Clock, Gate, Shelf, Sink, Source};
 use std::alloc::Global;
 
@@ -48,7 +47,10 @@ fn is_run_word(words: &[String]) -> bool
 
 /// The outcome where the folder isn't touched.
 fn untouched<S, C>(alloc: Global, shelf: S, clock: C, end: End) -> Outcome<S, C>
-    ensures { result ≡ record { end = end; shelf = shelf; clock = clock; journal = [] } }
+    ensures end { result.end ≡ end }
+    ensures shelf { result.shelf ≡ shelf }
+    ensures clock { result.clock ≡ clock }
+    ensures journal { result.journal ≡ [] }
 {
     Outcome {
         end,
@@ -74,6 +76,7 @@ fn script_lines<I: Source>(alloc: Global, script: &mut I) -> Result<List<Line>, 
         Err(ReadEnd::Source(faults)) => return Err(End::Source(faults)),
         Err(ReadEnd::NoMemory) => return Err(End::NoMemory),
     };
+    commands_are_servable();
     match parse(alloc, text.as_slice()) {
         Ok(lines) => Ok(lines),
         Err(end) => Err(End::Script(end)),
@@ -120,32 +123,6 @@ fn run_script<S: Shelf, I: Source, O: Sink, C: Clock, G: Gate>(
     match script_lines(alloc, script) {
         Ok(lines) => run_folder(alloc, lines.as_slice(), shelf, clock, out, gate),
         Err(end) => untouched(alloc, shelf, clock, end),
-    }
-}
-
-/// What a run leaves whose last line is written now.
-fn conclude_run<S, C, O: Sink>(alloc: Global, out: &mut O, outcome: Outcome<S, C>) -> Ran<S, C>
-    ensures text { O.tells →
-        Concludes outcome.end result.status (O.taken out.old) (O.taken out.new) }
-    ensures status { IsStatus outcome.end result.status }
-    ensures later { O.fault_count out.old ≤ O.fault_count out.new }
-    ensures cause { result.status ≡ 7 →
-        (outcome.end ≡ how.Sink) ⊎ Rose (O.fault_count out.old) (O.fault_count out.new) }
-    ensures same { (result.shelf ≡ outcome.shelf) × (result.clock ≡ outcome.clock)
-        × (result.journal ≡ outcome.journal) }
-{
-    let Outcome {
-        end,
-        shelf,
-        clock,
-        journal,
-    } = outcome;
-    let status = conclude(alloc, out, &end);
-    Ran {
-        status,
-        shelf,
-        clock,
-        journal,
     }
 }
 
@@ -232,8 +209,25 @@ pub fn run<S: Shelf + Send, I: Source, O: Sink, C: Clock + Send, G: Gate + Sync>
         (C.upcoming result.clock) }
 {
     if !is_run_word(words) {
-        return conclude_run(alloc, out, untouched(alloc, shelf, clock, End::Usage));
+        let status = conclude(alloc, out, &End::Usage);
+        return Ran {
+            status,
+            shelf,
+            clock,
+            journal: List::new(alloc),
+        };
     }
-    let outcome = run_script(alloc, shelf, script, out, clock, gate);
-    conclude_run(alloc, out, outcome)
+    let Outcome {
+        end,
+        shelf,
+        clock,
+        journal,
+    } = run_script(alloc, shelf, script, out, clock, gate);
+    let status = conclude(alloc, out, &end);
+    Ran {
+        status,
+        shelf,
+        clock,
+        journal,
+    }
 }

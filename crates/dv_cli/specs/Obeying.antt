@@ -1,0 +1,37 @@
+-- What the program does by its words.
+use Rattle.std.specs.Prelude.{◌≡◌, ◌⊎◌, ◌≤◌, ℕ, true, false, List, Result, Ok, Err, ⊤}
+use Rattle.dv_model.specs.Counts.{Rose}
+use Rattle.dv_shelf.specs.Streams.{Appends, AppendsFront}
+use Rattle.dv_cli.specs.declared.program.TheConstants.{HELP, HELP_WORD, VERSION, VERSION_WORD}
+use Rattle.dv_cli.specs.Running.{is_run, memory_text, usage_text}
+use Rattle.dv_cli.specs.Words.{Prints, asks_for, run_words}
+
+-- want of memory
+abbrev pub IsMemory : {A E : Type 0} → Result A E → Type 0
+IsMemory (Ok x) = ⊥
+IsMemory (Err e) = ⊤
+
+-- the text is told, or a front of it where the sink failed
+abbrev pub Tells : List ℕ → List ℕ → List ℕ → ℕ → ℕ → Type 0
+Tells text old new before now =
+    Appends old new text ⊎ (AppendsFront old new text × Rose before now)
+
+-- the words ask neither for help nor for the version, nor for a run
+pub record AskForNothing (words : List (List ℕ)) : Type 0 where
+  pub help : asks_for HELP_WORD.now words ≡ false
+  pub version : asks_for VERSION_WORD.now words ≡ false
+  pub run : is_run (run_words words) ≡ false
+
+-- What is printed and answered by the words: the help text, the version, or a run's last line where
+-- they ask for nothing; status 1 is for such words alone, and 7 for a failed output.
+pub record Obeys (words : List (List ℕ)) (status : ℕ) (told : Type 0) (taken taken_now : List ℕ)
+    (before now : ℕ) : Type 0 where
+  pub help : asks_for HELP_WORD.now words ≡ true → told → Prints 0 HELP.now status taken taken_now
+  pub version : asks_for HELP_WORD.now words ≡ false → asks_for VERSION_WORD.now words ≡ true
+      → told → Prints 0 VERSION.now status taken taken_now
+  pub usage : AskForNothing words → (status ≡ 1) ⊎ (status ≡ 4) ⊎ (status ≡ 7)
+  pub usage_output : AskForNothing words → told → Prints 1 usage_text status taken taken_now
+      ⊎ Prints 4 memory_text status taken taken_now
+  pub usage_only : status ≡ 1 → AskForNothing words
+  pub sink : status ≡ 7 → Rose before now
+  pub small : status ≤ 7

@@ -1,0 +1,142 @@
+mod faults;
+mod folders;
+mod real;
+mod rows;
+
+use crate::top_call::{Ran, run};
+use dv_model::{Bytes, List};
+use dv_shelf::{Folder, Gate, MemClock, MemShelf, MemSink, MemSource, Name, OpenGate, Shelf};
+use std::alloc::{AllocError, Global};
+use std::process::Abort;
+use std::test::Fail;
+
+/// What a run is given but for its folder.
+#[derive(Clone, Copy)]
+struct Setting<'a> {
+    words: &'a [&'a str],
+    script: &'a [u8],
+    source_fails: &'a [u32],
+    sink_fails: &'a [u32],
+}
+
+/// A script, with nothing that fails.
+fn given(script: &[u8]) -> Setting {
+    Setting {
+        words: &["run"],
+        script,
+        source_fails: &[],
+        sink_fails: &[],
+    }
+}
+
+/// What a run left.
+#[derive(Drop)]
+struct Left<S: Drop> {
+    status: u8,
+    output: Bytes,
+    groups: usize,
+    shelf: S,
+}
+
+fn strings(alloc: Global, words: &[&str]) -> Result<Vec<String>, AllocError> {
+    let mut strings = Vec::new(alloc);
+    for word in words {
+        strings.push(String::from_str(alloc, word)?)?;
+    }
+    Ok(strings)
+}
+
+/// A run whose clock reads 1000 and then 1001.
+fn play_in<S: Shelf + Send + Drop, G: Gate + Sync>(
+    alloc: Global,
+    shelf: S,
+    gate: &G,
+    given: Setting,
+) -> Result<Left<S>, Fail> {
+    let words = strings(alloc, given.words)?;
+    let bytes = List::from_slice(alloc, given.script)?;
+    let mut script = MemSource::new(alloc, bytes, List::from_slice(alloc, given.source_fails)?);
+    let mut out = MemSink::new(alloc, 1_000_000, List::from_slice(alloc, given.sink_fails)?)?;
+    let clock = MemClock::new(alloc, List::from_slice(alloc, &[1000, 1001])?);
+    let Ran {
+        status,
+        shelf,
+        clock: _clock,
+        journal,
+    } = run(
+        alloc,
+        words.as_slice(),
+        shelf,
+        &mut script,
+        &mut out,
+        clock,
+        gate,
+    );
+    Ok(Left {
+        status,
+        output: List::from_slice(alloc, out.taken())?,
+        groups: journal.len(),
+        shelf,
+    })
+}
+
+/// A run over a folder in memory of which these calls fail.
+fn play(
+    alloc: Global,
+    folder: &Folder,
+    fails: &[u32],
+    given: Setting,
+) -> Result<Left<MemShelf>, Fail> {
+    let fails = List::from_slice(alloc, fails)?;
+    let shelf = MemShelf::of(alloc, folder, 1_000_000, fails, None)?;
+    play_in(alloc, shelf, &OpenGate, given)
+}
+
+/// The bytes of a file; none where it isn't there.
+fn bytes_of<S: Shelf>(alloc: Global, shelf: &mut S, name: Name) -> Bytes {
+    match shelf.read(alloc, name) {
+        Ok(Some(bytes)) => bytes,
+        _ => List::new(alloc),
+    }
+}
+
+/// The files of a folder.
+fn files_of<S: Shelf>(alloc: Global, shelf: &mut S) -> Result<Folder, Fail> {
+    let Ok(names) = shelf.list(alloc) else {
+        return Err(Fail::from("no names"));
+    };
+    let mut files = List::new(alloc);
+    for name in names.as_slice() {
+        files.push((*name, bytes_of(alloc, shelf, *name)))?;
+    }
+    Ok(files)
+}
+
+fn ends<S: Drop>(rt: &impl Abort, left: &Left<S>, status: u8, output: &str) {
+    assert_eq!(rt; left.status, status, "at {output}");
+    assert!(rt; left.output.as_slice() == output.as_bytes(), "at {output}");
+}
+
+/// How often a word stands in a text.
+fn count_of(text: &[u8], word: &[u8]) -> usize {
+    let mut count = 0;
+    for at in 0..text.len() {
+        let (_, rest) = text.split_at(at);
+        if rest.starts_with(word) && count < 1000 {
+            count += 1;
+        }
+    }
+    count
+}
+
+/// The last line of a text.
+fn last_line(text: &[u8]) -> &[u8] {
+    let mut start = 0;
+    for at in 1..text.len() {
+        if text[at - 1] == b'\n' {
+            start = at;
+        }
+    }
+    let (_, line) = text.split_at(start.min(text.len()));
+    line
+}

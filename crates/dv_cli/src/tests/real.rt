@@ -1,0 +1,145 @@
+use super::{bytes_of, ends, given, play_in, rows, strings};
+use crate::program::obey_read;
+use dv_folder::Folder as RealFolder;
+use dv_model::List;
+use dv_shelf::{MemSink, Name, OpenGate, Shelf};
+use std::alloc::Global;
+use std::fs;
+use std::process;
+use std::test::Fail;
+use std::time::{SystemTime, UNIX_EPOCH};
+
+fn path_of(rt: HostRuntime, name: &str) -> Result<String, Fail> {
+    let id = process::id(rt.process());
+    Ok(format!(in rt.alloc(); "{name}_of_test_{id}")?)
+}
+
+const FIRST: &[u8] = b"a SELECT\na APPEND () {5}\nhello\na STORE 1 +FLAGS (\\Seen)\n";
+
+const FIRST_TEXT: &str = "a * 0 EXISTS
+a * OK [UIDVALIDITY 1000]
+a * OK [UIDNEXT 1]
+a OK [MARK 1:56] SELECT
+a * 1 EXISTS
+a * 1 FETCH (UID 1 FLAGS ())
+a OK [APPENDUID 1000 1] [MARK 1:72] APPEND
+a * 1 FETCH (UID 1 FLAGS (\\Seen))
+a OK [MARK 1:92] STORE
+END 0 MARK 1:92 GROUPS 2
+";
+
+const SECOND: &[u8] = b"b SELECT\nb FETCH 1 (BODY[])\nb STORE 1 +FLAGS (\\Deleted)\nb EXPUNGE\n";
+
+const SECOND_TEXT: &str = "b * 1 EXISTS
+b * OK [UIDVALIDITY 1000]
+b * OK [UIDNEXT 2]
+b * 1 FETCH (UID 1 FLAGS (\\Seen))
+b OK [MARK 1:92] SELECT
+b * 1 FETCH (UID 1 BODY[] {5}
+hello)
+b OK [MARK 1:92] FETCH
+b * 1 FETCH (UID 1 FLAGS (\\Deleted \\Seen))
+b OK [MARK 1:112] STORE
+b * 1 EXPUNGE
+b OK [MARK 1:140] EXPUNGE
+END 0 MARK 1:140 GROUPS 2
+";
+
+#[test]
+fn a_real_folder_keeps_mail_until_the_next_run(rt: HostRuntime) -> Result<(), Fail> {
+    let alloc = rt.alloc();
+    let path = path_of(rt, "keeps")?;
+    let shelf = RealFolder::new(alloc, rt, path.as_str())?;
+    let first = play_in(alloc, shelf, &OpenGate, given(FIRST))?;
+    ends(&rt, &first, 0, FIRST_TEXT);
+    let file = fs::read(&rt, format!(in alloc; "{path}/u.1")?)?;
+    assert!(rt; file.as_slice() == rows::FIRST_FILE);
+    drop(first);
+    let shelf = RealFolder::new(alloc, rt, path.as_str())?;
+    let second = play_in(alloc, shelf, &OpenGate, given(SECOND))?;
+    ends(&rt, &second, 0, SECOND_TEXT);
+    drop(second);
+    fs::remove_dir_all(&rt, path.as_str())?;
+    Ok(())
+}
+
+#[test]
+fn a_second_run_at_once_is_refused(rt: HostRuntime) -> Result<(), Fail> {
+    let alloc = rt.alloc();
+    let path = path_of(rt, "locked")?;
+    let shelf = RealFolder::new(alloc, rt, path.as_str())?;
+    let first = play_in(alloc, shelf, &OpenGate, given(FIRST))?;
+    // the first one's folder is still held
+    let shelf = RealFolder::new(alloc, rt, path.as_str())?;
+    let second = play_in(alloc, shelf, &OpenGate, given(SECOND))?;
+    ends(&rt, &second, 2, "FAULT 2 DISK 1\n");
+    ends(&rt, &first, 0, FIRST_TEXT);
+    drop(first);
+    drop(second);
+    fs::remove_dir_all(&rt, path.as_str())?;
+    Ok(())
+}
+
+/// What the program writes to its output and to standard error by these words, and its status.
+fn obeyed(rt: HostRuntime, words: &[&str]) -> Result<(u8, MemSink, MemSink), Fail> {
+    let alloc = rt.alloc();
+    let mut out = MemSink::new(alloc, 10_000, List::new(alloc))?;
+    let mut errors = MemSink::new(alloc, 10_000, List::new(alloc))?;
+    let words = strings(alloc, words)?;
+    let status = obey_read(rt, &mut out, &mut errors, Ok(Ok(words)));
+    Ok((status, out, errors))
+}
+
+/// The number at a place of a file.
+fn number_at(bytes: &[u8], at: usize) -> u64 {
+    let mut number = 0;
+    for k in 0..4 {
+        let byte = bytes.get(at.wrapping_add(k)).copied().unwrap_or(0);
+        number += u64::from(byte) << (8 * k as u32);
+    }
+    number
+}
+
+#[test]
+fn the_named_folder_is_made_by_the_real_clock(rt: HostRuntime) -> Result<(), Fail> {
+    let alloc = rt.alloc();
+    let path = path_of(rt, "named")?;
+    let (status, out, errors) = obeyed(rt, &[path.as_str(), "run"])?;
+    assert_eq!(rt; status, 0);
+    assert!(rt; out.taken() == b"END 0 MARK 1:56 GROUPS 0\n".as_slice());
+    assert!(rt; errors.taken().is_empty());
+    let log = fs::read(&rt, format!(in alloc; "{path}/dovecot.index.log")?)?;
+    let made = number_at(log.as_slice(), 4);
+    let now = SystemTime::now(&rt)?.duration_since(UNIX_EPOCH)?.as_secs();
+    assert!(rt; made <= now && now - made < 1000, "{made}");
+    fs::remove_dir_all(&rt, path.as_str())?;
+    Ok(())
+}
+
+#[test]
+fn wrong_words_are_told_on_both_outputs(rt: HostRuntime) -> Result<(), Fail> {
+    for words in [
+        &["nowhere_at_all", "run", "--thread"] as &[&str],
+        &["nowhere_at_all"],
+        &[],
+    ] {
+        let (status, out, errors) = obeyed(rt, words)?;
+        assert_eq!(rt; status, 1);
+        assert!(rt; out.taken() == b"FAULT 1 USAGE\n".as_slice());
+        assert!(rt; errors.taken() == b"usage: sdbox FOLDER run < SCRIPT\n".as_slice());
+    }
+    Ok(())
+}
+
+#[test]
+fn help_names_each_command(rt: HostRuntime) -> Result<(), Fail> {
+    let (status, out, errors) = obeyed(rt, &["--help"])?;
+    assert_eq!(rt; status, 0);
+    assert!(rt; errors.taken().is_empty());
+    for word in [
+        "SELECT", "NOOP", "CHECK", "APPEND", "EXPUNGE", "FETCH", "STORE", "SEARCH", "UID REMOVE",
+    ] {
+        assert!(rt; super::count_of(out.taken(), word.as_bytes()) > 0, "{word}");
+    }
+    Ok(())
+}
