@@ -53,7 +53,7 @@ returns-in-Ok-clause-readings g c = λ clock_tells script_tells lines is.
     let many : length c.as_slice.result.now ≡ length lines =
         sym (length-map c.as_slice.result.now named) ∙ ap (λ (ls : List NamedLine). length ls) same in
     subst (λ (n : ℕ). TakesUpTo (most_readings n) (C.upcoming c.args.clock) (C.upcoming c.run_folder.result.clock)) many
-    (run_takes _ _ _ c.run_folder.result.end (c.run_folder.ensures.readings clock_tells))
+    (run_takes (length c.as_slice.result.now) (C.upcoming c.args.clock) (C.upcoming c.run_folder.result.clock) c.run_folder.result.end (c.run_folder.ensures.readings clock_tells))
 
 pub returns-in-Ok-clause-unread : goal.returns-in-Ok-clause-unread
 returns-in-Ok-clause-unread g c = λ clock_tells.
