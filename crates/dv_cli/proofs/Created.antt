@@ -1,14 +1,15 @@
 -- A run begins over a mailbox that is made.
-use Rattle.std.proofs.Common.{◌≡◌, ⊎_elim, inl, inr, ℕ, ◌≤◌, List, [], Option, None, Result, Ok, Err, refl, sym, ◌∙◌, ap, subst, arith}
+use Rattle.std.proofs.Common.{◌≡◌, ⊎_elim, inl, inr, ℕ, ◌≤◌, [], Ok, Err, refl, sym, ◌∙◌, ap, subst, arith}
 use Rattle.dv_model.specs.declared.types.Mailbox.{Mailbox}
 use Rattle.dv_model.specs.declared.types.Mark.{Mark}
 use Rattle.dv_model.specs.declared.types.OpenFault.{OpenFault}
 use Rattle.dv_model.specs.declared.types.OpenFault.TheVariants as fault
 use Rattle.dv_model.specs.Journals.{HasResets, IsU32, Log}
 use Rattle.dv_model.specs.Mailboxes.{IsValid}
+use Rattle.dv_shelf.specs.declared.shelf.Name.TheVariants as name
 use Rattle.dv_shelf.specs.Clocks.{behind}
-use Rattle.dv_shelf.specs.Crashes.{LeavesOnly}
 use Rattle.dv_shelf.specs.Folders.{Folder}
+use Rattle.dv_shelf.proofs.FolderLemmas.{with_else}
 use Rattle.dv_shelf.proofs.Moments.{weaker}
 use Rattle.dv_logfile.specs.declared.commit.LogFile.{LogFile}
 use Rattle.dv_openings.specs.Openings.{Finds, Found, IsFound}
@@ -20,12 +21,12 @@ use Rattle.dv_rotation.specs.Texts.{place_of}
 use Rattle.dv_keeping.specs.Keeping.{Gives, Keeps}
 use Rattle.dv_store.specs.Opening.{IsFresh, OpensQuietly}
 use Rattle.dv_store.specs.States.{State}
-use Rattle.dv_cli.specs.Begins.{IsBegun, IsTyped}
+use Rattle.dv_cli.specs.Begins.{IsBegun}
 use Rattle.dv_cli.specs.Endings.{IsFault}
 use Rattle.dv_cli.specs.Runs.{IsUnopened, LeavesUnopened, MayLeave}
 use Rattle.dv_cli.specs.Starts.{IsNew, first_mark, new_log}
 use Rattle.dv_cli.proofs.Opened.{fresh_owes, fresh_rests, start_may}
-use Rattle.dv_cli.proofs.Starting.{keeps_none, sound_from}
+use Rattle.dv_cli.proofs.Starting.{IsTyped, keeps_none, sound_from}
 
 pub has_none : (folder : Folder) → IsNew folder → HasNone folder
 has_none folder new = record { index = new.index; log = new.log; log2 = new.log2 }
@@ -90,6 +91,7 @@ module _ {S C : Type 0} (files : S → Folder) (may_leave : S → Folder → Typ
       mark = mark;
       owed = fresh_owes store fresh;
       readings = reads;
+      others = λ n other. ap (λ (f : Folder). f n) leaves ∙ with_else (files old) name.Log _ n other;
       since = weaker moment left_since old store.shelf (IsOldOrCreated (files old) (clock 0)) (MayLeave (behind clock 1) start [] (files old)) quiet.since may;
     }
 

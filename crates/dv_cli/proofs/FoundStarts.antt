@@ -67,8 +67,8 @@ pub found_faultless : (folder : Folder) (m : Mailbox) (mark : Mark) (f : OpenFau
     → IsFound folder (Finds m mark) → IsFault f → FaultFound f (IsFound folder) → ⊥
 found_faultless folder m mark f there is other =
     let same : f ≡ fault.NoMemory =
-        sym (same_fault f is)
-        ∙ ap as_fault (found_one folder (of_fault f) (Finds m mark) (found_so folder f is other) there) in
+    sym (same_fault f is)
+    ∙ ap as_fault (found_one folder (of_fault f) (Finds m mark) (found_so folder f is other) there) in
     let status : 3 ≡ 4 = sym is ∙ ap fault_status same in
     absurd (omega (arith, status))
 

@@ -8,7 +8,7 @@ use Rattle.std.proofs.lemmas.Bool.Decides.{nat_tests}
 use Rattle.std.proofs.lemmas.List.Elements.{All-cons, All-nil, All-replicate}
 use Rattle.dv_model.specs.Journals.{AreByteValues, IsGuid}
 use Rattle.dv_dbox.specs.BoxTexts.{BoxContent, BoxFault, BadMetadata, are_hex, box_content, guid_number, is_hex, paired, read_at, value_of}
-use Rattle.dv_dbox.specs.Mails.{content_in, guid_in, no_guid}
+use Rattle.dv_dbox.specs.Mails.{guid_in, no_guid}
 use Rattle.dv_dbox.proofs.Found.{text_found}
 
 none_is : IsGuid no_guid

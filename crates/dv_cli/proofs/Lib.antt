@@ -3,14 +3,15 @@ mod AllServed
 mod FoundStarts
 mod Statuses
 mod Takes
-pub mod GuidFiles
-pub mod Starting
-pub mod Opened
-pub mod Created
-pub mod Looked
-pub mod Timed
-pub mod NewFolders
-pub mod Served
+mod GuidFiles
+mod Starting
+mod Opened
+mod Created
+mod Looked
+mod Timed
+mod NewFolders
+mod Served
+mod Folders
 mod Parsed
 mod WholeRuns
 mod WrongWords

@@ -1,5 +1,5 @@
 -- A run begins behind a look at the folder.
-use Rattle.std.proofs.Common.{◌≡◌, ⊎_elim, inl, inr, ℕ, ◌≤◌, List, [], Result, Ok, Err, refl, sym, ◌∙◌, ap, subst, arith}
+use Rattle.std.proofs.Common.{◌≡◌, ⊎_elim, inl, inr, ℕ, [], Result, Ok, Err, refl, sym, ◌∙◌, ap, subst}
 use Rattle.dv_model.specs.declared.types.OpenFault.{OpenFault}
 use Rattle.dv_model.specs.declared.types.OpenFault.TheVariants as fault
 use Rattle.dv_model.specs.Journals.{Log}
@@ -7,11 +7,10 @@ use Rattle.dv_shelf.specs.Clocks.{behind}
 use Rattle.dv_shelf.specs.Crashes.{IsSettled, LeavesOnly}
 use Rattle.dv_shelf.specs.Folders.{Folder}
 use Rattle.dv_openings.specs.Openings.{IsFound}
-use Rattle.dv_chain.specs.Openings.{FaultFound, IsOutside, OnlyLooks}
+use Rattle.dv_chain.specs.Openings.{FaultFound, HasCause, IsOutside, OnlyLooks}
 use Rattle.dv_chain.proofs.Shelves.{looked_only, looked_then}
 use Rattle.dv_store.specs.States.{State}
 use Rattle.dv_cli.specs.Begins.{Begins, IsBegun}
-use Rattle.dv_cli.specs.Endings.{IsFault}
 use Rattle.dv_cli.specs.Runs.{IsUnopened, LeavesUnopened, MayLeave}
 use Rattle.dv_cli.specs.Starts.{IsNew, IsTrueFolder, Starts}
 use Rattle.dv_cli.proofs.Created.{outside_found, outside_none}
@@ -33,7 +32,6 @@ module _ {S C : Type 0} (files : S → Folder) (may_leave : S → Folder → Typ
   begun_behind : (store : State S C) → IsTrueFolder (files old) → IsBegun files may_leave moment left_since upcoming clock mid store → IsBegun files may_leave moment left_since upcoming clock old store
   begun_behind store is_true begun =
       let starts : Starts clock (files old) begun.start begun.used = subst (λ (f : Folder). Starts clock f begun.start begun.used) same begun.starts in
-      let P : Folder → Type 0 = MayLeave (behind clock begun.used) begun.start [] (files old) in
       record {
         start = begun.start;
         used = begun.used;
@@ -44,6 +42,7 @@ module _ {S C : Type 0} (files : S → Folder) (may_leave : S → Folder → Typ
         mark = begun.mark;
         owed = begun.owed;
         readings = begun.readings;
+        others = λ n other. begun.others n other ∙ ap (λ (f : Folder). f n) same;
         since = looked_then files may_leave moment left_since old mid store.shelf (MayLeave (behind clock begun.used) begun.start [] (files old)) settled
             (starts_may clock (files old) begun.start begun.used starts is_true) looks
             (subst (λ (f : Folder). LeavesOnly moment left_since mid store.shelf (MayLeave (behind clock begun.used) begun.start [] f)) same begun.since);
@@ -73,3 +72,15 @@ module _ {S C : Type 0} (files : S → Folder) (may_leave : S → Folder → Typ
     after = λ c left. inl (quiet_same (files old) c (settled c (looks.crash c left)));
     crash = looked_only files may_leave moment left_since old mid (IsUnopened clock (files old)) settled (inl (quiet_same (files old) (files old) refl)) looks;
   }
+
+-- ---- causes
+
+-- the fault alone says what its cause is
+pub cause_told : (A B : Type 0) (before now : ℕ) (f : OpenFault) → HasCause {A = A} before now (Err f) → HasCause {A = B} before now (Err f)
+cause_told A B before now (fault.Disk faults) cause = record { later = cause.later; rose = cause.rose }
+cause_told A B before now fault.NoMemory cause = record { later = cause.later; rose = tt }
+cause_told A B before now fault.NoLog cause = record { later = cause.later; rose = tt }
+cause_told A B before now fault.BadLogHeader cause = record { later = cause.later; rose = tt }
+cause_told A B before now (fault.BadRecord offset) cause = record { later = cause.later; rose = tt }
+cause_told A B before now fault.BadIndex cause = record { later = cause.later; rose = tt }
+cause_told A B before now (fault.Gap index log) cause = record { later = cause.later; rose = tt }

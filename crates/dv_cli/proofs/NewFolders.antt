@@ -1,6 +1,9 @@
 -- A folder is new where none of its files is a mailbox's.
-use Rattle.std.proofs.Common.{◌≡◌, ℕ, Bool, true, false, Option, Some, None, List, get_or, refl, sym, ◌∙◌}
-use Rattle.std.specs.Prelude.{Contains, IsSome, MatchBool}
+use Rattle.std.proofs.Common.{◌≡◌, ℕ, Bool, true, false, Option, Some, None, List, refl, sym, ◌∙◌, ap}
+use Rattle.std.specs.Prelude.{Any, Contains, IsSome, MatchBool}
+use Rattle.std.specs.List.{list_any}
+use Rattle.std.proofs.lemmas.Bool.{false≢true, true≢false}
+use Rattle.std.proofs.lemmas.List.Folds.{Any-from_list_any, list_any_at}
 use Rattle.dv_shelf.specs.Folders.{Folder, Lists}
 use Rattle.dv_shelf.specs.declared.shelf.Name.{Name}
 use Rattle.dv_shelf.specs.declared.shelf.Name.TheVariants as name
@@ -14,25 +17,33 @@ lacks : (file : Option (List ℕ)) → file ≡ None → IsSome file → ⊥
 lacks None is some = absurd cc
 lacks (Some text) is some = absurd cc
 
--- one of the names is a mailbox's
-pub record HasOne (names : List Name) : Type 0 where
-  pub which : Name
-  pub there : Contains names which
-  pub is : is_of_mailbox which ≡ true
-
 module _ (folder : Folder) (names : List Name) (lists : Lists folder names) where
-  pub none_new : ((n : Name) → Contains names n → is_of_mailbox n ≡ true → ⊥) → IsNew folder
-  none_new none = record { index = absent name.Index refl; log = absent name.Log refl; log2 = absent name.Log2 refl; mail = λ n. absent (name.Mail n) refl }
+  absent : list_any is_of_mailbox names ≡ false → (n : Name) → is_of_mailbox n ≡ true → folder n ≡ None
+  absent none n mailbox = none_or (folder n) (λ some. among ((lists.each n).0 some))
     where
-      absent : (n : Name) → is_of_mailbox n ≡ true → folder n ≡ None
-      absent n mailbox = none_or (folder n) (λ some. none n ((lists.each n).0 some) mailbox)
+      among : Contains names n → ⊥
+      among has =
+          let any : list_any is_of_mailbox names ≡ true = list_any_at is_of_mailbox names has.0 n has.1 (ap is_of_mailbox has.2 ∙ mailbox) in
+          absurd (true≢false (sym any ∙ none))
 
-  pub some_old : HasOne names → IsNew folder → ⊥
-  some_old one new = by_name one.which ((lists.each one.which).1 one.there) one.is
+  none_new : list_any is_of_mailbox names ≡ false → IsNew folder
+  none_new none = record { index = absent none name.Index refl; log = absent none name.Log refl; log2 = absent none name.Log2 refl; mail = λ n. absent none (name.Mail n) refl }
+
+  some_old : (n : Name) → is_of_mailbox n ≡ true → IsSome (folder n) → IsNew folder → ⊥
+  some_old name.Index is some new = lacks (folder name.Index) new.index some
+  some_old name.Log is some new = lacks (folder name.Log) new.log some
+  some_old name.Log2 is some new = lacks (folder name.Log2) new.log2 some
+  some_old name.Cache is some new = absurd (false≢true is)
+  some_old (name.Mail n) is some new = lacks (folder (name.Mail n)) (new.mail n) some
+
+  any_old : list_any is_of_mailbox names ≡ true → IsNew folder → ⊥
+  any_old any new = of_one (Any-from_list_any is_of_mailbox names any)
     where
-      by_name : (n : Name) → IsSome (folder n) → is_of_mailbox n ≡ true → ⊥
-      by_name name.Index some is = lacks (folder name.Index) new.index some
-      by_name name.Log some is = lacks (folder name.Log) new.log some
-      by_name name.Log2 some is = lacks (folder name.Log2) new.log2 some
-      by_name name.Cache some is = absurd cc
-      by_name (name.Mail n) some is = lacks (folder (name.Mail n)) (new.mail n) some
+      of_one : Any (λ (n : Name). is_of_mailbox n ≡ true) names → ⊥
+      of_one (k, n, lt, at, mailbox) =
+          let has : Contains names n = (k, lt, at) in
+          some_old n mailbox ((lists.each n).1 has) new
+
+  pub new_or_not : (b : Bool) → b ≡ list_any is_of_mailbox names → MatchBool b (IsNew folder → ⊥) (IsNew folder)
+  new_or_not true is = any_old (sym is)
+  new_or_not false is = none_new (sym is)

@@ -1,14 +1,14 @@
 -- A run begins over a mailbox that was found.
-use Rattle.std.proofs.Common.{◌≡◌, inl, inr, ℕ, ◌≤◌, List, [], Option, None, Result, Ok, Err, refl, sym, ◌∙◌, ap, subst}
+use Rattle.std.proofs.Common.{◌≡◌, inl, inr, ℕ, ◌≤◌, [], None, Ok, Err, refl, sym, ◌∙◌, ap, subst}
 use Rattle.dv_model.specs.declared.types.Mailbox.{Mailbox}
 use Rattle.dv_model.specs.declared.types.OpenFault.{OpenFault}
 use Rattle.dv_model.specs.declared.types.OpenFault.TheVariants as fault
 use Rattle.dv_model.specs.Journals.{Log}
+use Rattle.dv_shelf.specs.declared.shelf.Name.TheVariants as name
 use Rattle.dv_shelf.specs.Clocks.{behind}
-use Rattle.dv_shelf.specs.Crashes.{LeavesOnly}
 use Rattle.dv_shelf.specs.Folders.{Folder}
+use Rattle.dv_shelf.proofs.FolderLemmas.{with_else}
 use Rattle.dv_shelf.proofs.Moments.{weaker}
-use Rattle.dv_openings.specs.Openings.{Finds, IsFound}
 use Rattle.dv_openings.specs.TrueCaches.{HasTrueCache}
 use Rattle.dv_chain.specs.declared.chain.Chain.{Chain}
 use Rattle.dv_chain.specs.Openings.{IsQuiet, LeavesFolder}
@@ -20,11 +20,10 @@ use Rattle.dv_store.specs.Opening.{IsFresh, Opens, OpensQuietly}
 use Rattle.dv_store.specs.Rest.{IsAtRest}
 use Rattle.dv_store.specs.States.{State}
 use Rattle.dv_serial.specs.Places.{MayGive}
-use Rattle.dv_cli.specs.Begins.{IsBegun, IsTyped}
-use Rattle.dv_cli.specs.Endings.{IsFault}
+use Rattle.dv_cli.specs.Begins.{IsBegun}
 use Rattle.dv_cli.specs.Runs.{IsUnopened, LeavesUnopened, MayLeave}
 use Rattle.dv_cli.specs.Starts.{IsNamed, IsNew, IsTrueFolder, log_from}
-use Rattle.dv_cli.proofs.Starting.{behind_none, gives_quiet, keeps_itself, quiet_same, sound_from}
+use Rattle.dv_cli.proofs.Starting.{IsTyped, behind_none, gives_quiet, keeps_itself, quiet_same, sound_from}
 
 -- ---- any start
 
@@ -46,7 +45,7 @@ fresh_owes {S} {C} store fresh = ap (λ (s : State S C). s.owed) fresh.is
 module _ {S C : Type 0} (files : S → Folder) (may_leave : S → Folder → Type 0) (moment : S → ℕ) (left_since : S → ℕ → Folder → Type 0) (upcoming : C → ℕ → ℕ) (clock : ℕ → ℕ) (old : S) where
   -- ---- a store
 
-  module _ (store : State S C) (opens : Opens (files old) (Ok store)) (fresh : IsFresh store) (quiet : OpensQuietly files may_leave moment left_since IsQuiet old (Ok store)) (typed : IsTyped store.chain) (is_true : IsTrueFolder (files old)) (reads : upcoming store.clock ≡ clock) where
+  module _ (store : State S C) (opens : Opens (files old) (Ok store)) (fresh : IsFresh store) (quiet : OpensQuietly files may_leave moment left_since IsQuiet old (Ok store)) (leaves : LeavesFolder (files old) (files store.shelf) (Ok store.chain)) (typed : IsTyped store.chain) (is_true : IsTrueFolder (files old)) (reads : upcoming store.clock ≡ clock) where
     abbrev chain : Chain
     chain = store.chain
 
@@ -79,6 +78,7 @@ module _ {S C : Type 0} (files : S → Folder) (may_leave : S → Folder → Typ
       mark = refl;
       owed = fresh_owes store fresh;
       readings = reads ∙ behind_none clock;
+      others = λ n other. ap (λ (f : Folder). f n) leaves ∙ with_else (files old) name.Log _ n other;
       since = weaker moment left_since old store.shelf (IsQuiet (files old)) (MayLeave (behind clock 0) start [] (files old)) quiet.since may;
     }
 

@@ -1,8 +1,8 @@
 -- Lines are served from where a run begins.
-use Rattle.std.proofs.Common.{◌≡◌, ◌⊎◌, ⊎_elim, inl, inr, ℕ, ◌+◌, ◌≤◌, ◌<◌, Bool, true, false, List, [], ◌∷◌, ◌++◌, append-nil, length, get_or, Option, None, Result, Ok, Err, refl, sym, ◌∙◌, ap, subst, arith}
+use Rattle.std.proofs.Common.{◌≡◌, ◌⊎◌, ⊎_elim, inl, inr, ℕ, ◌+◌, ◌≤◌, ◌<◌, Bool, true, false, List, [], ◌∷◌, ◌++◌, append-nil, length, Option, Result, Ok, Err, refl, sym, ◌∙◌, ap, subst, arith}
 use Rattle.std.specs.Prelude.{replicate, if◌then◌else◌}
 use Rattle.std.proofs.lemmas.List.{get_or-replicate, length-replicate}
-use Rattle.std.proofs.lemmas.List.Elements.{All-nil, All-replicate, All-same}
+use Rattle.std.proofs.lemmas.List.Elements.{All-nil, All-replicate}
 use Rattle.dv_model.specs.declared.types.Entry.{Entry}
 use Rattle.dv_model.specs.declared.types.Mark.{Mark}
 use Rattle.dv_model.specs.declared.types.Reply.{Reply}
@@ -10,14 +10,13 @@ use Rattle.dv_model.specs.Journals.{Log}
 use Rattle.dv_model.specs.Sessions.{new_session}
 use Rattle.dv_model.specs.Transcripts.{Line, Serial, touches_disk}
 use Rattle.dv_shelf.specs.Clocks.{behind}
-use Rattle.dv_shelf.specs.Crashes.{LeavesOnly}
 use Rattle.dv_shelf.specs.Folders.{Folder}
 use Rattle.dv_shelf.proofs.Moments.{joined, weaker}
 use Rattle.dv_formats.specs.Scripts.{NamedLine}
 use Rattle.dv_keeping.specs.Debts.{Nothing}
 use Rattle.dv_answer.specs.Following.{Follower, IsAbreast, new_follower}
 use Rattle.dv_playing.specs.Laws.{IsAttempt, MayPlay, MayWrite, lines_of}
-use Rattle.dv_playing.specs.Playing.{Attempt, Outcome, Play, Served, begin, fared, refused_here, replies_to, step, stepped_by, with_group_here}
+use Rattle.dv_playing.specs.Playing.{Attempt, Outcome, Play, Served, begin, fared, replies_to, step, stepped_by, with_group_here}
 use Rattle.dv_playing.proofs.Plays.{goes_on, leaves, serial}
 use Rattle.dv_store.specs.States.{State}
 use Rattle.dv_serial.specs.declared.lines.LineEnd.{LineEnd}
@@ -47,6 +46,14 @@ served_log clock play a served write =
     by_test true = served
     by_test false = refl
 
+-- what holds of the log from before, and of that with its group, holds behind it
+left_log : (clock : ℕ → ℕ) (base : ℕ) (play : Play) (a : Attempt) (P : Log → Type 0) (whole : Play) → MayBeLeft clock base play a → whole ≡ (step clock play a).play → P play.log → (MayWrite play a.line → P (with_group_here clock play a.line).log) → P whole.log
+left_log clock base play a P whole left last stays written = subst (λ (p : Play). P p.log) (sym last) (by_way left.log)
+  where
+    by_way : ((step clock play a).play.log ≡ play.log) ⊎ ((a.outcome ≡ Served) × MayWrite play a.line) → P (step clock play a).play.log
+    by_way (inl same) = subst P (sym same) stays
+    by_way (inr wrote) = subst P (sym (served_log clock play a wrote.0 wrote.1)) (written wrote.1)
+
 -- none, or the first of the rest
 abbrev IsFirst : (ℕ → ℕ) → ℕ → Play → List Attempt → List Line → Type 0
 IsFirst clock base play left rest = (left ≡ []) ⊎ ((line : Line) × (behind : List Line) × (rest ≡ line ∷ behind) × IsLeft clock base play line left)
@@ -62,17 +69,12 @@ module _ (clock : ℕ → ℕ) (start : Log) (base faults : ℕ) (answered : Lis
   IsRun log rest = Serial log base faults (lines_of answered ++ rest) replies
 
   none_left : (rest : List Line) → IsRun (play_of clock start (answered ++ [])).log rest
-  none_left rest = subst (λ (as : List Attempt). IsRun (play_of clock start as).log rest) (sym (append-nil answered)) (serial clock start base faults answered may rest)
+  none_left rest = subst (λ (these : List Attempt). IsRun (play_of clock start these).log rest) (sym (append-nil answered)) (serial clock start base faults answered may rest)
 
   one_left : (a : Attempt) (line : Line) (behind : List Line) → a.line ≡ line → MayBeLeft clock base here a → IsRun (play_of clock start (answered ++ a ∷ [])).log (line ∷ behind)
   one_left a line behind is left =
-      let last : (play_of clock start (answered ++ a ∷ [])).log ≡ (step clock here a).play.log = ap (λ (p : Play). p.log) (goes_on clock (begin start) answered a) in
-      ⊎_elim
-      (λ same. subst (λ (log : Log). IsRun log (line ∷ behind)) (sym (last ∙ same)) (serial clock start base faults answered may (line ∷ behind)))
-      (λ wrote.
-      subst (λ (log : Log). IsRun log (line ∷ behind)) (sym (last ∙ served_log clock here a wrote.0 wrote.1))
-      (subst (λ (l : Line). IsRun (with_group_here clock here a.line).log (l ∷ behind)) is (leaves clock start base faults answered may a.line behind wrote.1)))
-      left.log
+      left_log clock base here a (λ log. IsRun log (line ∷ behind)) (play_of clock start (answered ++ a ∷ [])) left (goes_on clock (begin start) answered a) (serial clock start base faults answered may (line ∷ behind))
+      (λ write. subst (λ (l : Line). IsRun (with_group_here clock here a.line).log (l ∷ behind)) is (leaves clock start base faults answered may a.line behind write))
 
   first_left : (left : List Attempt) (line : Line) (behind : List Line) → IsLeft clock base here line left → IsRun (play_of clock start (answered ++ left)).log (line ∷ behind)
   first_left [] line behind is = none_left (line ∷ behind)
@@ -81,7 +83,7 @@ module _ (clock : ℕ → ℕ) (start : Log) (base faults : ℕ) (answered : Lis
 
   pub serial_left : (left : List Attempt) (rest : List Line) → IsFirst clock base here left rest → IsRun (play_of clock start (answered ++ left)).log rest
   serial_left left rest =
-      ⊎_elim (λ none. subst (λ (as : List Attempt). IsRun (play_of clock start (answered ++ as)).log rest) (sym none) (none_left rest))
+      ⊎_elim (λ none. subst (λ (these : List Attempt). IsRun (play_of clock start (answered ++ these)).log rest) (sym none) (none_left rest))
       (λ first. subst (IsRun (play_of clock start (answered ++ left)).log) (sym first.2) (first_left left first.0 first.1 first.3))
 
 -- ---- ends
@@ -94,12 +96,11 @@ first_of clock base start answered left (line ∷ behind) (Err e) ends = inr (li
 ends_at : (clock : ℕ → ℕ) (base : ℕ) (start : Log) (answered left : List Attempt) (rest : List Line) (result : Result (Unit {0}) LineEnd) (mark : Mark) (groups : ℕ) → (play_of clock start (answered ++ left)).mark ≡ mark → length (play_of clock start (answered ++ left)).log.entries ≡ groups
     → EndsWith clock base start answered left rest result → EndsAt (end_behind result mark groups) clock base start answered left rest
 ends_at clock base start answered left rest (Ok done) mark groups at count ends =
-    let all : answered ++ left ≡ answered = ap (λ (as : List Attempt). answered ++ as) ends.1 ∙ append-nil answered in
-    (
+    let all : answered ++ left ≡ answered = ap (λ (these : List Attempt). answered ++ these) ends.1 ∙ append-nil answered in (
       ends.0,
       ends.1,
-      sym at ∙ ap (λ (as : List Attempt). (play_of clock start as).mark) all,
-      sym count ∙ ap (λ (as : List Attempt). length (play_of clock start as).log.entries) all,
+      sym at ∙ ap (λ (these : List Attempt). (play_of clock start these).mark) all,
+      sym count ∙ ap (λ (these : List Attempt). length (play_of clock start these).log.entries) all,
     )
 ends_at clock base start answered left [] (Err e) mark groups at count ends = absurd ends
 ends_at clock base start answered left (line ∷ behind) (Err line_end.NoMemory) mark groups at count ends = ends
@@ -197,12 +198,25 @@ module _ {S C : Type 0} (files : S → Folder) (may_leave : S → Folder → Typ
       entries = sym runs.leaves.keeps.at.journal;
       output = λ tells. writes_lines time start runs.answered runs.left lines result new.mark (length new.journal) taken taken_now (runs.output tells);
       readings = has_read clock begun.used (play_of time start runs.answered).used (upcoming new.store.clock) result new.mark (length new.journal) runs.readings;
+      others = λ n other none. runs.others n none ∙ begun.others n other;
       folder = kept (files new.store.shelf) there;
       after = kept;
       crash = joined moment left_since old store.shelf new.store.shelf (MayLeave time start all (files old))
           (weaker moment left_since old store.shelf (MayLeave time start [] (files old)) (MayLeave time start all (files old)) begun.since (longer_leave all))
           (weaker moment left_since store.shelf new.store.shelf (MayGive time start all) (MayLeave time start all (files old)) runs.leaves.since (λ c may. inr may));
     }
+
+  -- the play begins with new sessions
+  module _ (counts : S → ℕ) (later : base ≤ counts store.shelf) (faults : ℕ) (lines : List NamedLine) (told : Type 0) (taken taken_now : List ℕ) (n : ℕ) (seats : List Follower) (result : Result (Unit {0}) LineEnd) (serial new : Serving S C) where
+    pub serves_all : seats ≡ replicate n new_follower → serial ≡ serving_over store seats
+        → (Follows files may_leave upcoming time start base (counts serial.store.shelf) [] serial → Runs files may_leave moment left_since upcoming time start base faults lines result told taken taken_now serial new)
+        → may_leave new.store.shelf (files new.store.shelf)
+        → ServesLines files may_leave moment left_since clock (upcoming new.store.clock) base faults lines (end_behind result new.mark (length new.journal)) new.journal told taken taken_now old new.store.shelf
+    serves_all is over run there =
+        let follows : Follows files may_leave upcoming time start base (counts serial.store.shelf) [] serial =
+        subst (λ (s : Serving S C). Follows files may_leave upcoming time start base (counts s.store.shelf) [] s) (sym over) (follows_start n seats (counts store.shelf) later is) in
+        serves_lines faults lines told taken taken_now seats result new
+        (subst (λ (s : Serving S C). Runs files may_leave moment left_since upcoming time start base faults lines result told taken taken_now s new) over (run follows)) there
 
   -- ---- no line was
 
@@ -228,6 +242,7 @@ module _ {S C : Type 0} (files : S → Folder) (may_leave : S → Folder → Typ
       entries = sym bare.entries;
       output = λ tells. sym (append-nil taken);
       readings = λ answered. absurd answered;
+      others = λ n other none. begun.others n other;
       folder = none_kept (files store.shelf) there;
       after = none_kept;
       crash = begun.since;

@@ -1,9 +1,8 @@
 -- The log that a run starts from.
-use Rattle.std.proofs.Common.{◌≡◌, ⊎_elim, inl, inr, ℕ, ◌+◌, ◌≤◌, zero, suc, Bool, true, List, [], take, Option, Some, None, Contains, refl, sym, ◌∙◌, ap, subst, arith}
+use Rattle.std.proofs.Common.{◌≡◌, ⊎_elim, ℕ, ◌+◌, zero, suc, true, [], Contains, refl, sym, ap, subst, arith}
 use Rattle.std.specs.Prelude.{IsSome}
 use Rattle.std.proofs.Math.Path.{fun_ext}
 use Rattle.std.proofs.lemmas.List.Elements.{All-nil}
-use Rattle.dv_model.specs.declared.types.Entry.{Entry}
 use Rattle.dv_model.specs.declared.types.Mailbox.{Mailbox}
 use Rattle.dv_model.specs.declared.types.Mark.{Mark}
 use Rattle.dv_model.specs.declared.types.Row.{Row}
@@ -14,11 +13,12 @@ use Rattle.dv_shelf.specs.Clocks.{behind}
 use Rattle.dv_shelf.specs.Folders.{Folder}
 use Rattle.dv_openings.specs.Openings.{Finds, IsFound}
 use Rattle.dv_openings.specs.TrueCaches.{HasTrueCache}
+use Rattle.dv_chain.specs.declared.chain.Chain.{Chain}
 use Rattle.dv_chain.specs.Creations.{first_mailbox}
 use Rattle.dv_chain.specs.Openings.{IsQuiet}
 use Rattle.dv_keeping.specs.Keeping.{Gives, Keeps}
 use Rattle.dv_keeping.proofs.Kept.{KeepsMessages, kept_same, same_messages}
-use Rattle.dv_cli.specs.Starts.{IsNamed, IsNew, IsOpened, IsTrueFolder, Starts, log_from, new_log}
+use Rattle.dv_cli.specs.Starts.{IsOpened, IsTrueFolder, Starts, log_from, new_log}
 use Rattle.dv_cli.proofs.GuidFiles.{guid_read}
 
 -- ---- a clock's readings
@@ -36,6 +36,13 @@ behind_both clock n m = fun_ext (λ k. ap clock (same k))
     same k = omega arith
 
 -- ---- it is sound, has no entry and rotates
+
+-- a chain's mailbox is valid, and its numbers are those of their types
+pub record IsTyped (chain : Chain) : Type 0 where
+  pub valid : IsValid chain.live.mailbox
+  pub resets : HasResets chain.live.mailbox
+  pub place : IsU32 chain.log.file_seq × IsU32 chain.log.end
+  pub indexid : IsU32 chain.indexid
 
 pub sound_from : (indexid : ℕ) (m : Mailbox) (mark : Mark) (folder : Folder) → IsValid m → HasResets m → IsU32 mark.file_seq × IsU32 mark.offset → IsU32 indexid → IsSound (log_from indexid m mark folder)
 sound_from indexid m mark folder valid resets place number = record {

@@ -1,12 +1,12 @@
 -- A store from which a run begins. The records take the members of a shelf's and a clock's types.
-use Rattle.std.specs.Prelude.{◌≡◌, ℕ, None, [], Result, Ok, Err}
+use Rattle.std.specs.Prelude.{◌≡◌, ◌≢◌, ℕ, None, [], Result, Ok, Err}
 use Rattle.dv_model.specs.declared.types.OpenFault.{OpenFault}
-use Rattle.dv_model.specs.Journals.{HasResets, IsSound, IsU32, Log}
-use Rattle.dv_model.specs.Mailboxes.{IsValid}
+use Rattle.dv_model.specs.Journals.{IsSound, Log}
+use Rattle.dv_shelf.specs.declared.shelf.Name.{Name}
+use Rattle.dv_shelf.specs.declared.shelf.Name.TheVariants as name
 use Rattle.dv_shelf.specs.Clocks.{behind}
 use Rattle.dv_shelf.specs.Crashes.{LeavesOnly}
 use Rattle.dv_shelf.specs.Folders.{Folder}
-use Rattle.dv_chain.specs.declared.chain.Chain.{Chain}
 use Rattle.dv_keeping.specs.Debts.{Nothing}
 use Rattle.dv_rotation.specs.Texts.{place_of}
 use Rattle.dv_store.specs.Rest.{IsAtRest}
@@ -14,16 +14,9 @@ use Rattle.dv_store.specs.States.{State}
 use Rattle.dv_cli.specs.Runs.{LeavesUnopened, MayLeave}
 use Rattle.dv_cli.specs.Starts.{Starts}
 
--- a chain's mailbox is valid, and its numbers are those of their types
-pub record IsTyped (chain : Chain) : Type 0 where
-  pub valid : IsValid chain.live.mailbox
-  pub resets : HasResets chain.live.mailbox
-  pub place : IsU32 chain.log.file_seq × IsU32 chain.log.end
-  pub indexid : IsU32 chain.indexid
-
 module _ {S C : Type 0} where
-  -- It is at rest with the log that the folder starts from, at its place, and owes nothing; and what
-  -- a crash has left meanwhile.
+  -- It is at rest with the log that the folder starts from, at its place, and owes nothing. The
+  -- files but the log are as they were; and what a crash has left meanwhile.
   pub record IsBegun (files : S → Folder) (may_leave : S → Folder → Type 0) (moment : S → ℕ)
       (left_since : S → ℕ → Folder → Type 0) (upcoming : C → ℕ → ℕ) (clock : ℕ → ℕ) (old : S)
       (store : State S C) : Type 0 where
@@ -36,6 +29,7 @@ module _ {S C : Type 0} where
     pub mark : start.start_mark ≡ place_of store.chain
     pub owed : store.owed ≡ None
     pub readings : upcoming store.clock ≡ behind clock used
+    pub others : (n : Name) → n ≢ name.Log → files store.shelf n ≡ files old n
     pub since : LeavesOnly moment left_since old store.shelf
         (MayLeave (behind clock used) start [] (files old))
 

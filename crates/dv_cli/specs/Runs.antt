@@ -1,26 +1,24 @@
 -- What a whole run answers, writes and leaves. The records take the members of a shelf's type.
-use Rattle.std.specs.Prelude.{◌≡◌, ◌≢◌, ◌⊎◌, ◌≤◌, ◌+◌, ◌++◌, ℕ, List, [], ◌∷◌, drop, length, ⊤}
+use Rattle.std.specs.Prelude.{◌≡◌, ◌≢◌, ◌⊎◌, ◌+◌, ◌++◌, ℕ, List, [], ◌∷◌, drop, length, ⊤}
 use Rattle.dv_model.specs.declared.types.Entry.{Entry}
 use Rattle.dv_model.specs.declared.types.OpenFault.{OpenFault}
-use Rattle.dv_model.specs.declared.types.OpenFault.TheVariants as fault
-use Rattle.dv_model.specs.declared.types.Reply.{Reply}
-use Rattle.dv_model.specs.Counts.{Rose}
 use Rattle.dv_model.specs.Journals.{Log}
 use Rattle.dv_model.specs.Transcripts as transcripts
 use Rattle.dv_model.specs.Transcripts.{Serial}
+use Rattle.dv_shelf.specs.declared.shelf.Name.{Name}
+use Rattle.dv_shelf.specs.declared.shelf.Name.TheVariants as name
 use Rattle.dv_shelf.specs.Clocks.{behind}
 use Rattle.dv_shelf.specs.Crashes.{LeavesOnly}
 use Rattle.dv_shelf.specs.Folders.{Folder}
 use Rattle.dv_shelf.specs.Streams.{Appends, AppendsFront}
-use Rattle.dv_formats.specs.Parsing.{parsed}
 use Rattle.dv_formats.specs.Scripts.{NamedLine}
-use Rattle.dv_script.specs.Sources.{ScriptFails}
 use Rattle.dv_chain.specs.Creations.{IsOldOrCreated}
 use Rattle.dv_chain.specs.Openings.{FaultFound, IsQuiet}
-use Rattle.dv_openings.specs.Openings.{Found, IsFound}
+use Rattle.dv_openings.specs.Openings.{IsFound}
 use Rattle.dv_playing.specs.Laws.{lines_of}
-use Rattle.dv_playing.specs.Playing.{Attempt, Play, Served, begin, replies_to, step}
+use Rattle.dv_playing.specs.Playing.{Attempt, begin, replies_to}
 use Rattle.dv_serial.specs.Following.{IsLeft}
+use Rattle.dv_serial.specs.Others.{MayTouch}
 use Rattle.dv_serial.specs.Places.{GivesBehind, MayGive, play_of}
 use Rattle.dv_serial.specs.Runs.{IsTried}
 use Rattle.dv_serial.specs.Scripts.{numbered, replies_text}
@@ -31,8 +29,8 @@ use Rattle.dv_cli.specs.Starts.{IsNew, Starts}
 
 -- ---- lines that were answered
 
--- How a run over lines ends: behind all of them, with the place behind the journal and its number of
--- groups; or where memory or the output ended it, at the first of the rest.
+-- How a run over lines ends: behind all of them, with the place behind the journal and its number
+-- of groups; or where memory or the output ended it, at the first of the rest.
 abbrev pub EndsAt : End → (ℕ → ℕ) → ℕ → Log → List Attempt → List Attempt
     → List transcripts.Line → Type 0
 EndsAt (end.Answered mark groups) clock base start answered left rest =
@@ -72,7 +70,8 @@ MayLeave clock start attempts old c =
 -- and journal are. The first of the others may have left its group, as the last of the journal, or
 -- be one that the disk failed. The folder gives that log, with its messages and a true cache, or
 -- that with the group of the last write that the disk failed, behind which none was written; so
--- does what a crash behind the run leaves, and a crash during it leaves a front of it.
+-- does what a crash behind the run leaves, and a crash during it leaves a front of it. A file that
+-- none of these lines may change is as it was, but for the log, whose end the opening may close.
 pub record ServesLines {S : Type 0} (files : S → Folder) (may_leave : S → Folder → Type 0)
     (moment : S → ℕ) (left_since : S → ℕ → Folder → Type 0) (clock clock_now : ℕ → ℕ)
     (base faults : ℕ) (lines : List NamedLine) (e : End) (journal : List Entry) (told : Type 0)
@@ -91,6 +90,8 @@ pub record ServesLines {S : Type 0} (files : S → Folder) (may_leave : S → Fo
   pub output : told → WritesLines e (behind clock used) start answered left lines taken taken_now
   pub readings : IsAnswered e
       → clock_now ≡ behind clock (used + (play_of (behind clock used) start answered).used)
+  pub others : (n : Name) → n ≢ name.Log
+      → (MayTouch (behind clock used) start (answered ++ left) n → ⊥) → files new n ≡ files old n
   pub folder : GivesBehind (behind clock used) start (answered ++ left) (files new)
   pub after : (c : Folder) → may_leave new c
       → GivesBehind (behind clock used) start (answered ++ left) c

@@ -1,28 +1,36 @@
 //! The mailbox of a folder is opened, or made where there is none.
 
-ghost use Rattle.std.specs.Prelude.{◌≡◌, IfErr, IfOk, MatchBool};
-ghost use Rattle.dv_model.specs.Journals.{IsU32};
+ghost use Rattle.std.specs.Prelude.{◌≡◌, All, IfErr, IfOk, MatchBool};
+ghost use Rattle.std.specs.List.{list_any};
+ghost use Rattle.dv_model.specs.Journals.{HasResets, IsU32};
+ghost use Rattle.dv_model.specs.Mailboxes.{IsValid};
 ghost use Rattle.dv_shelf.specs.Crashes.{IsSettled};
-ghost use Rattle.dv_shelf.specs.declared.shelf.Name.{Name};
 ghost use Rattle.dv_chain.specs.Openings.{HasCause, IsOutside, OnlyLooks};
 ghost use Rattle.dv_store.specs.Opening.{answered, clock_behind, shelf_behind};
-ghost use Rattle.dv_cli.specs.Begins.{Begins, IsTyped};
+ghost use Rattle.dv_cli.specs.Begins.{Begins};
 ghost use Rattle.dv_cli.specs.Causes.{TakesForOpening};
 ghost use Rattle.dv_cli.specs.Starts.{IsNew, IsTrueFolder, is_of_mailbox};
 
-use dv_model::OpenFault;
+use dv_model::{Extension, OpenFault};
 use dv_shelf::{Clock, Name, Shelf, ShelfFault};
 use dv_store::Store;
 use std::alloc::Global;
 
 /// Whether a file is one of a mailbox's. A cache file alone makes none.
-fn is_of_mailbox(name: &Name) -> bool
-    ensures { result ≡ is_of_mailbox name.now }
+fn is_of_mailbox(name: Name) -> bool
+    ensures { result ≡ is_of_mailbox name }
 {
     match name {
         Name::Index | Name::Log | Name::Log2 | Name::Mail(_) => true,
         Name::Cache => false,
     }
+}
+
+/// Whether one of these is a file of a mailbox.
+fn are_of_mailbox(names: &[Name]) -> bool
+    ensures { result ≡ list_any is_of_mailbox names.now }
+{
+    names.iter().any(|name| is_of_mailbox(*name))
 }
 
 /// Whether the folder has a file of a mailbox.
@@ -35,7 +43,7 @@ fn has_mailbox<S: Shelf>(alloc: Global, shelf: &mut S) -> Result<bool, OpenFault
     ensures cause { HasCause (S.fault_count shelf.old) (S.fault_count shelf.new) result }
 {
     match shelf.list(alloc) {
-        Ok(names) => Ok(names.as_slice().iter().any(is_of_mailbox)),
+        Ok(names) => Ok(are_of_mailbox(names.as_slice())),
         Err(ShelfFault::Failed) => Err(OpenFault::Disk(shelf.faults())),
         Err(ShelfFault::NoMemory) => Err(OpenFault::NoMemory),
     }
@@ -46,9 +54,21 @@ fn is_number(n: u32)
     ensures { IsU32 n }
 {}
 
+/// The reset numbers of extensions are of 32 bits. Nothing is computed.
+fn are_numbers(extensions: &[Extension])
+    ensures { All (λ e. IsU32 e.reset_id) extensions.now }
+{
+    for extension in extensions {
+        is_number(extension.reset_id);
+    }
+}
+
 /// The mailbox of a store is valid, and its numbers are those of their types. Nothing is computed.
 fn have_types<S, C>(store: &Store<S, C>)
-    ensures { IsTyped store.now.chain }
+    ensures valid { IsValid store.now.chain.live.mailbox }
+    ensures resets { HasResets store.now.chain.live.mailbox }
+    ensures place { IsU32 store.now.chain.log.file_seq × IsU32 store.now.chain.log.end }
+    ensures indexid { IsU32 store.now.chain.indexid }
 {
     let live = store.live();
     let _next = live.next_uid();
@@ -56,9 +76,7 @@ fn have_types<S, C>(store: &Store<S, C>)
     is_number(mark.file_seq);
     is_number(mark.offset);
     is_number(store.indexid());
-    for extension in live.extensions().list().as_slice() {
-        is_number(extension.reset_id);
-    }
+    are_numbers(live.extensions().list().as_slice());
 }
 
 /// Opens the mailbox of a folder that has a file of one.
@@ -69,14 +87,19 @@ fn open_found<S: Shelf, C: Clock>(
 ) -> Result<Store<S, C>, (S, C, OpenFault)>
     ensures begins { S.tells → IsSettled S.files S.may_leave shelf →
         IsTrueFolder (S.files shelf) → (IsNew (S.files shelf) → ⊥) →
-        Begins S.files S.may_leave S.moment S.left_since C.upcoming (C.upcoming clock) shelf result }
+        Begins S.files S.may_leave S.moment S.left_since C.upcoming (C.upcoming clock) shelf
+        result }
     ensures clock { clock_behind result ≡ clock }
     ensures cause { HasCause (S.fault_count shelf) (S.fault_count (shelf_behind result))
         (answered result) }
 {
-    let store = Store::open(alloc, shelf, clock)?;
-    have_types(&store);
-    Ok(store)
+    match Store::open(alloc, shelf, clock) {
+        Ok(store) => {
+            have_types(&store);
+            Ok(store)
+        }
+        Err(e) => Err(e),
+    }
 }
 
 /// Makes the mailbox of a folder that has none.
@@ -87,19 +110,24 @@ fn make_new<S: Shelf, C: Clock>(
 ) -> Result<Store<S, C>, (S, C, OpenFault)>
     ensures begins { S.tells → C.tells → IsSettled S.files S.may_leave shelf →
         IsNew (S.files shelf) →
-        Begins S.files S.may_leave S.moment S.left_since C.upcoming (C.upcoming clock) shelf result }
+        Begins S.files S.may_leave S.moment S.left_since C.upcoming (C.upcoming clock) shelf
+        result }
     ensures clock { C.tells →
         TakesForOpening (C.upcoming clock) (C.upcoming (clock_behind result)) (answered result) }
     ensures cause { HasCause (S.fault_count shelf) (S.fault_count (shelf_behind result))
         (answered result) }
 {
-    let store = Store::create(alloc, shelf, clock)?;
-    have_types(&store);
-    Ok(store)
+    match Store::create(alloc, shelf, clock) {
+        Ok(store) => {
+            have_types(&store);
+            Ok(store)
+        }
+        Err(e) => Err(e),
+    }
 }
 
-/// Opens the mailbox of a folder, or makes one where the folder has no file of a mailbox. The folder
-/// and the clock are handed back with a fault.
+/// Opens the mailbox of a folder, or makes one where the folder has no file of a mailbox. The
+/// folder and the clock are handed back with a fault.
 pub fn open_folder<S: Shelf, C: Clock>(
     alloc: Global,
     mut shelf: S,

@@ -1,11 +1,10 @@
 //! The lines of a script over a mailbox folder.
 
-ghost use Rattle.std.specs.Prelude.{◌≡◌, ◌≤◌, ◌*◌, ◌+◌, ◌^◌, [], ℕ, All, length};
+ghost use Rattle.std.specs.Prelude.{◌≡◌, ◌≤◌, ◌*◌, ◌^◌, [], ℕ, All, length};
 ghost use Rattle.dv_cli.specs.declared.ending.End.TheVariants as how;
 ghost use Rattle.dv_shelf.specs.Crashes.{IsSettled};
 ghost use Rattle.dv_script.specs.Sources.{all_named};
 ghost use Rattle.dv_serial.specs.Serves.{IsServable, TakesUpTo};
-ghost use Rattle.dv_store.specs.Opening.{IsFresh};
 ghost use Rattle.dv_cli.specs.Begins.{IsBegun};
 ghost use Rattle.dv_cli.specs.Behind.{end_behind};
 ghost use Rattle.dv_cli.specs.Causes.{EndCause, EndsServing, TakesForRun};
@@ -21,8 +20,8 @@ use dv_shelf::{Clock, Gate, Shelf, Sink};
 use dv_store::Store;
 use std::alloc::Global;
 
-/// How a run ends, with the folder, the clock, and the groups that it wrote, each with the number of
-/// its session.
+/// How a run ends, with the folder, the clock, and the groups that it wrote, each with the number
+/// of its session.
 pub struct Outcome<S, C> {
     pub end: End,
     pub shelf: S,
@@ -118,8 +117,9 @@ pub fn run_folder<S: Shelf, C: Clock, O: Sink, G: Gate>(
     ensures runs { S.tells → C.tells → IsSettled S.files S.may_leave shelf →
         IsTrueFolder (S.files shelf) →
         RunsOver S.files S.may_leave S.moment S.left_since (C.upcoming clock)
-        (C.upcoming result.clock) (S.fault_count shelf) (S.fault_count result.shelf) (all_named lines.now) result.end
-        result.journal O.tells (O.taken out.old) (O.taken out.new) shelf result.shelf }
+        (C.upcoming result.clock) (S.fault_count shelf) (S.fault_count result.shelf)
+        (all_named lines.now) result.end result.journal O.tells (O.taken out.old)
+        (O.taken out.new) shelf result.shelf }
     // Each end has its cause, and the clock is read so often.
     ensures cause { EndCause (S.fault_count shelf) (S.fault_count result.shelf)
         (O.fault_count out.old) (O.fault_count out.new) result.end }

@@ -1,0 +1,53 @@
+use Rattle.std.proofs.Common.{◌*◌, length, refl}
+use Rattle.dv_script.specs.Sources.{all_named}
+use Rattle.dv_chain.specs.declared.chain.Chain.{Chain}
+use Rattle.dv_cli.proofs.Folders.{end_later, unopened_cause}
+use Rattle.dv_cli.proofs.Served.{runs_serving}
+use Rattle.dv_cli.proofs.Timed.{fault_takes, run_takes, takes_both}
+use Rattle.dv_cli.proofs.running.run_folder.Goals as goal
+
+-- ---- lines are served
+
+pub returns-in-Ok-clause-runs : goal.returns-in-Ok-clause-runs
+returns-in-Ok-clause-runs g c = λ tells timed settled is_true.
+    let S = g.S.Shelf in
+    let C = g.C.Clock in
+    let O = g.O.Sink in
+    let served = c.serve_lines.ensures in
+    let behind = c.serve_lines.result in
+    runs_serving S.files S.may_leave S.moment S.left_since (C.upcoming c.args.clock) (C.upcoming behind.clock) (S.fault_count c.args.shelf) (S.fault_count behind.shelf) (all_named c.args.lines.now) behind.journal
+    O.tells (O.taken c.args.out.now) (O.taken c.serve_lines.new.out) c.args.shelf behind.shelf behind.end served.ends
+    (served.runs tells timed (C.upcoming c.args.clock) c.args.shelf (c.in-Ok.ensures.begins tells timed settled is_true) (S.fault_count c.args.shelf) c.in-Ok.ensures.cause.later)
+
+pub returns-in-Ok-clause-cause : goal.returns-in-Ok-clause-cause
+returns-in-Ok-clause-cause g c =
+    let S = g.S.Shelf in
+    let O = g.O.Sink in
+    let behind = c.serve_lines.result in
+    end_later (S.fault_count c.args.shelf) (S.fault_count c.in-Ok.store.shelf) (S.fault_count behind.shelf) (O.fault_count c.args.out.now) (O.fault_count c.serve_lines.new.out) c.in-Ok.ensures.cause.later behind.end
+    c.serve_lines.ensures.ends c.serve_lines.ensures.cause
+
+pub returns-in-Ok-clause-readings : goal.returns-in-Ok-clause-readings
+returns-in-Ok-clause-readings g c = λ timed.
+    let C = g.C.Clock in
+    let behind = c.serve_lines.result in
+    let old = C.upcoming c.args.clock in
+    let mid = C.upcoming c.in-Ok.store.clock in
+    let new = C.upcoming behind.clock in
+    run_takes (length c.args.lines.now) old new behind.end c.serve_lines.ensures.ends
+    (takes_both 1 (2 * length c.args.lines.now) old mid new (c.in-Ok.ensures.clock timed) (c.serve_lines.ensures.readings timed))
+
+-- ---- the folder isn't opened
+
+pub returns-in-Err-clause-runs : goal.returns-in-Err-clause-runs
+returns-in-Err-clause-runs g c = λ tells timed settled is_true. (c.new.ensures, λ told. refl, c.in-Err.ensures.begins tells timed settled is_true)
+
+pub returns-in-Err-clause-cause : goal.returns-in-Err-clause-cause
+returns-in-Err-clause-cause g c =
+    let S = g.S.Shelf in
+    unopened_cause Chain (S.fault_count c.args.shelf) (S.fault_count c.in-Err.shelf) (g.O.Sink.fault_count c.args.out.now) c.in-Err.fault c.in-Err.ensures.cause
+
+pub returns-in-Err-clause-readings : goal.returns-in-Err-clause-readings
+returns-in-Err-clause-readings g c = λ timed.
+    let C = g.C.Clock in
+    fault_takes Chain (Unit {0}) (C.upcoming c.args.clock) (C.upcoming c.in-Err.clock) c.in-Err.fault (c.in-Err.ensures.clock timed)
