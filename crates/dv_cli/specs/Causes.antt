@@ -69,6 +69,13 @@ pub record HasFault (folder : Folder) : Type 0 where
   pub found : FaultFound fault (IsFound folder)
   pub some : IsNew folder → ⊥
 
+-- So opening a folder tells: the fault that is found, where it has a file of a mailbox; else it has
+-- none.
+abbrev pub TellsOpening : {A : Type 0} → Folder → Result A OpenFault → Type 0
+TellsOpening folder (Ok x) = HasFault folder → ⊥
+TellsOpening folder (Err f) =
+    IsFault f → FaultFound f (IsFound folder) × (IsNew folder → ⊥)
+
 -- What the folder holds is told: a fault that is found, where it has a file of a mailbox; all lines
 -- are answered only where there is none.
 abbrev pub TellsFaults : Folder → End → Type 0
