@@ -1,5 +1,5 @@
 -- What is found in a folder is told.
-use Rattle.std.proofs.Common.{◌≡◌, Ok, Err, arith}
+use Rattle.std.proofs.Common.{arith}
 use Rattle.dv_model.specs.declared.types.Mailbox.{Mailbox}
 use Rattle.dv_model.specs.declared.types.Mark.{Mark}
 use Rattle.dv_model.specs.declared.types.OpenFault.{OpenFault}
@@ -9,7 +9,7 @@ use Rattle.dv_openings.specs.Openings.{Finds, IsFound}
 use Rattle.dv_chain.specs.Openings.{IsOutside}
 use Rattle.dv_cli.specs.declared.ending.End.{End}
 use Rattle.dv_cli.specs.declared.ending.End.TheVariants as end
-use Rattle.dv_cli.specs.Causes.{EndsServing, HasFault, TellsFaults, TellsOpening}
+use Rattle.dv_cli.specs.Causes.{EndsServing, HasFault, TellsFaults}
 use Rattle.dv_cli.specs.Endings.{IsFault}
 use Rattle.dv_cli.proofs.FoundStarts.{found_faultless}
 

@@ -1,11 +1,8 @@
 -- What each end and each status of a run comes from, and how often the clock is read.
-use Rattle.std.specs.Prelude.{◌≡◌, ◌≢◌, ◌⊎◌, ◌≤◌, ◌+◌, ◌*◌, ℕ, Bool, true, false, List, [], Result, Ok, Err, ⊤}
+use Rattle.std.specs.Prelude.{◌≡◌, ◌⊎◌, ◌≤◌, ◌+◌, ◌*◌, ℕ, Bool, false, List, [], Result, Ok, Err, ⊤}
 use Rattle.dv_model.specs.declared.types.OpenFault.{OpenFault}
 use Rattle.dv_model.specs.declared.types.OpenFault.TheVariants as fault
 use Rattle.dv_model.specs.Counts.{Rose}
-use Rattle.dv_script.specs.declared.types.ScriptEnd.{ScriptEnd}
-use Rattle.dv_script.specs.declared.types.ScriptEnd.TheVariants as script
-use Rattle.dv_shelf.specs.Clocks.{behind}
 use Rattle.dv_model.specs.declared.types.Entry.{Entry}
 use Rattle.dv_shelf.specs.Folders.{Folder}
 use Rattle.dv_formats.specs.Parsing.{ScriptFault}
