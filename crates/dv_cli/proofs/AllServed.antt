@@ -1,5 +1,5 @@
 -- Lines of which none is answered by the disk's failure are played as served ones.
-use Rattle.std.proofs.Common.{◌≡◌, ℕ, ◌+◌, ◌≤◌, Bool, true, false, cond, List, [], ◌∷◌, map, Option, Some, None, refl, sym, ◌∙◌, ap, subst, arith}
+use Rattle.std.proofs.Common.{◌≡◌, ℕ, ◌+◌, Bool, true, false, cond, List, [], ◌∷◌, map, Option, Some, None, refl, sym, ◌∙◌, ap, arith}
 use Rattle.std.specs.Prelude.{count_by}
 use Rattle.std.specs.List.{list_any}
 use Rattle.std.proofs.lemmas.Bool.{false≢true}
@@ -9,7 +9,7 @@ use Rattle.dv_model.specs.Transcripts.{is_unavailable, touches_disk, unavailable
 use Rattle.dv_model.specs.Transcripts as transcripts
 use Rattle.dv_playing.specs.Laws.{lines_of}
 use Rattle.dv_cli.specs.Outputs.{served}
-use Rattle.dv_playing.specs.Playing.{Attempt, Failed, Outcome, Play, Rotation, Served, Step, fared, played, refused_here, replies_to, step, stepped_by}
+use Rattle.dv_playing.specs.Playing.{Attempt, Failed, Outcome, Play, Served, Step, fared, played, refused_here, replies_to, step, stepped_by}
 
 -- ---- none of them
 

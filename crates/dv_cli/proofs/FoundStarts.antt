@@ -1,5 +1,5 @@
 -- A folder starts one log, or has one fault.
-use Rattle.std.proofs.Common.{◌≡◌, ◌⊎◌, inl, inr, ℕ, List, Option, None, Some, refl, sym, ◌∙◌, ap, subst, arith}
+use Rattle.std.proofs.Common.{◌≡◌, inl, inr, ℕ, List, Option, refl, sym, ◌∙◌, ap, subst, arith}
 use Rattle.dv_model.specs.declared.types.Mailbox.{Mailbox}
 use Rattle.dv_model.specs.declared.types.Mark.{Mark}
 use Rattle.dv_model.specs.declared.types.OpenFault.{OpenFault}
@@ -7,7 +7,7 @@ use Rattle.dv_model.specs.declared.types.OpenFault.TheVariants as fault
 use Rattle.dv_model.specs.Journals.{Log}
 use Rattle.dv_shelf.specs.declared.shelf.Name.TheVariants as name
 use Rattle.dv_shelf.specs.Folders.{Folder}
-use Rattle.dv_logfile.specs.Scans.{BadHeader, BadSpot, Good, IsScanned, Missing, Scanned}
+use Rattle.dv_logfile.specs.Scans.{Good, IsScanned, Scanned}
 use Rattle.dv_logfile.proofs.OneScan.{scans_one}
 use Rattle.dv_openings.specs.Openings as found
 use Rattle.dv_openings.specs.Openings.{Finds, Found, IsFound}
@@ -15,7 +15,7 @@ use Rattle.dv_openings.proofs.FoundOnce.{found_one}
 use Rattle.dv_chain.specs.Openings.{FaultFound}
 use Rattle.dv_cli.specs.Endings.{IsFault, fault_status}
 use Rattle.dv_cli.specs.Causes.{HasFault}
-use Rattle.dv_cli.specs.Starts.{IsNamed, IsNew, IsOpened, Starts, log_from, new_log}
+use Rattle.dv_cli.specs.Starts.{IsNamed, IsNew, IsOpened, Starts, log_from}
 
 -- ---- faults
 

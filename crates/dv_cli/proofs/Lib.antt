@@ -16,3 +16,4 @@ mod Parsed
 mod WholeRuns
 mod WrongWords
 mod Reached
+mod FoundTold

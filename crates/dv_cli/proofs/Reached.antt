@@ -1,18 +1,16 @@
 -- How a run ends before its last line.
-use Rattle.std.proofs.Common.{◌≡◌, ◌⊎◌, inl, inr, ℕ, ◌+◌, ◌≤◌, List, Result, Ok, Err, refl, sym, ◌∙◌, ap, subst, arith}
+use Rattle.std.proofs.Common.{◌≡◌, ℕ, List, Result, Ok, Err, sym, ◌∙◌, subst}
 use Rattle.dv_model.specs.declared.types.OpenFault.{OpenFault}
 use Rattle.dv_model.specs.declared.types.OpenFault.TheVariants as fault
-use Rattle.dv_model.specs.Counts.{Rose}
 use Rattle.dv_shelf.specs.Folders.{Folder}
 use Rattle.dv_formats.specs.Parsing.{ScriptFault}
 use Rattle.dv_formats.specs.Scripts.{NamedLine}
 use Rattle.dv_script.specs.Sources.{ScriptFails}
 use Rattle.dv_script.specs.declared.types.ScriptEnd.{ScriptEnd}
 use Rattle.dv_script.specs.declared.types.ScriptEnd.TheVariants as script
-use Rattle.dv_script.specs.declared.types.Line.{Line}
 use Rattle.dv_cli.specs.declared.ending.End.{End}
 use Rattle.dv_cli.specs.declared.ending.End.TheVariants as end
-use Rattle.dv_cli.specs.Causes.{ComesFrom, Counts, EndCause, EndsRefused, FolderCause, IsReadEnd, ScriptEnds, TakesByEnd, TakesForOpening, TakesForRun, TellsFaults, TellsScript, counts_of}
+use Rattle.dv_cli.specs.Causes.{ComesFrom, EndsRefused, FolderCause, IsReadEnd, ScriptEnds, TakesByEnd, TakesForRun, TellsFaults, TellsScript, counts_of}
 use Rattle.dv_cli.specs.Wholes.{EndsReading}
 
 -- ---- lines that are served over a folder

@@ -1,19 +1,18 @@
 -- Which end a status comes from.
-use Rattle.std.proofs.Common.{◌≡◌, ◌⊎◌, inl, inr, ℕ, zero, suc, ◌+◌, ◌≤◌, List, Result, Ok, Err, refl, sym, ◌∙◌, ap, subst, arith}
-use Rattle.std.specs.Prelude.{◌≢◌, Bool, true, false, min}
+use Rattle.std.proofs.Common.{◌≡◌, ◌⊎◌, inl, inr, ℕ, zero, suc, ◌≤◌, List, Result, Err, refl, sym, ◌∙◌, subst, arith}
+use Rattle.std.specs.Prelude.{Bool}
 use Rattle.dv_model.specs.declared.types.OpenFault.{OpenFault}
 use Rattle.dv_model.specs.declared.types.OpenFault.TheVariants as fault
-use Rattle.dv_model.specs.Counts.{Rose, RoseBy, last_count}
+use Rattle.dv_model.specs.Counts.{Rose, RoseBy}
 use Rattle.dv_shelf.specs.Folders.{Folder}
-use Rattle.dv_shelf.specs.Streams.{Appends, AppendsFront}
 use Rattle.dv_formats.specs.Parsing.{ScriptFault}
 use Rattle.dv_formats.specs.Scripts.{NamedLine}
 use Rattle.dv_script.specs.declared.types.ScriptEnd.{ScriptEnd}
 use Rattle.dv_script.specs.declared.types.ScriptEnd.TheVariants as script
 use Rattle.dv_cli.specs.declared.ending.End.{End}
 use Rattle.dv_cli.specs.declared.ending.End.TheVariants as end
-use Rattle.dv_cli.specs.Causes.{AnyRose, ComesFrom, Counts, HasCauses, HasFault, TellsFaults, TellsScript, counts_of}
-use Rattle.dv_cli.specs.Endings.{Concludes, IsFault, IsStatus, fault_status, is_plain, status_of, text_of}
+use Rattle.dv_cli.specs.Causes.{ComesFrom, Counts, HasCauses, HasFault, TellsFaults, TellsScript, counts_of}
+use Rattle.dv_cli.specs.Endings.{IsFault, IsStatus, fault_status, status_of}
 
 -- ---- counts
 

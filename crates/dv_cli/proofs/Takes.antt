@@ -1,16 +1,15 @@
 -- How often the clock is read.
-use Rattle.std.proofs.Common.{◌≡◌, ℕ, ◌+◌, ◌*◌, ◌≤◌, Err, refl, sym, ◌∙◌, ap, arith}
+use Rattle.std.proofs.Common.{◌≡◌, ℕ, ◌+◌, ◌≤◌, Err, refl, ◌∙◌, arith}
 use Rattle.dv_model.specs.declared.types.OpenFault.{OpenFault}
 use Rattle.dv_model.specs.declared.types.OpenFault.TheVariants as fault
 use Rattle.dv_script.specs.declared.types.ScriptEnd.{ScriptEnd}
-use Rattle.dv_script.specs.declared.types.ScriptEnd.TheVariants as script
 use Rattle.dv_shelf.specs.Clocks.{behind}
 use Rattle.dv_serial.specs.Serves.{TakesUpTo}
 use Rattle.dv_cli.specs.declared.ending.End.{End}
 use Rattle.dv_cli.specs.declared.ending.End.TheVariants as end
 use Rattle.dv_cli.specs.Causes.{TakesByEnd, TakesByStatus, TakesForOpening, TakesForRun, most_readings}
 use Rattle.dv_cli.specs.Endings.{IsStatus, fault_status, status_of}
-use Rattle.dv_cli.proofs.Statuses.{fault_range, script_range, status_is}
+use Rattle.dv_cli.proofs.Statuses.{fault_range, status_is}
 
 -- ---- so many at most
 

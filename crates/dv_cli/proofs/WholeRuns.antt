@@ -1,40 +1,36 @@
 -- A whole run: how it ends over the lines of a script, and what it writes.
-use Rattle.std.proofs.Common.{◌≡◌, ◌⊎◌, inl, inr, ℕ, zero, ◌+◌, ◌≤◌, Bool, true, false, List, [], ◌∷◌, ◌++◌, length, map, Result, Ok, Err, refl, sym, ◌∙◌, ap, subst, arith, append_assoc}
-use Rattle.std.specs.Prelude.{codes, decimal}
+use Rattle.std.proofs.Common.{◌≡◌, ◌⊎◌, inl, inr, ℕ, ◌+◌, true, false, List, [], ◌++◌, length, map, Result, Ok, Err, refl, sym, ◌∙◌, ap, subst, append_assoc}
 use Rattle.std.proofs.lemmas.List.{append-nil}
 use Rattle.dv_model.specs.declared.types.Entry.{Entry}
 use Rattle.dv_model.specs.declared.types.Mark.{Mark}
 use Rattle.dv_model.specs.declared.types.OpenFault.{OpenFault}
 use Rattle.dv_model.specs.declared.types.OpenFault.TheVariants as fault
-use Rattle.dv_model.specs.declared.types.Reply.{Reply}
 use Rattle.dv_model.specs.Counts.{Rose, RoseBy}
 use Rattle.dv_model.specs.Journals.{Log}
 use Rattle.dv_model.specs.Transcripts as transcripts
-use Rattle.dv_model.specs.Transcripts.{Serial, unavailable_count}
+use Rattle.dv_model.specs.Transcripts.{unavailable_count}
 use Rattle.dv_shelf.specs.Clocks.{behind}
 use Rattle.dv_shelf.specs.Folders.{Folder}
-use Rattle.dv_shelf.specs.Streams.{Appends, AppendsFront}
+use Rattle.dv_shelf.specs.Streams.{Appends}
 use Rattle.dv_formats.specs.Parsing.{ScriptFault}
 use Rattle.dv_formats.specs.Scripts.{NamedLine}
 use Rattle.dv_script.specs.Sources.{ScriptFails}
 use Rattle.dv_script.specs.declared.types.ScriptEnd.{ScriptEnd}
 use Rattle.dv_script.specs.declared.types.ScriptEnd.TheVariants as script
-use Rattle.dv_chain.specs.Openings.{FaultFound}
-use Rattle.dv_openings.specs.Openings.{IsFound}
 use Rattle.dv_playing.specs.Laws.{lines_of}
-use Rattle.dv_playing.specs.Playing.{Attempt, Play, begin, played, replies_to}
+use Rattle.dv_playing.specs.Playing.{Attempt, begin, played, replies_to}
 use Rattle.dv_serial.specs.Places.{play_of}
 use Rattle.dv_serial.specs.Scripts.{numbered, replies_text}
 use Rattle.dv_cli.specs.declared.ending.End.{End}
 use Rattle.dv_cli.specs.declared.ending.End.TheVariants as end
 use Rattle.dv_cli.specs.Causes.{AnyRose, ComesFrom, Counts, EndsRefused, HasFault, IsOr, TellsFaults, TellsScript}
-use Rattle.dv_cli.specs.Endings.{Concludes, IsFault, IsStatus, fault_status, is_plain, status_of, text_of}
-use Rattle.dv_cli.specs.Outputs.{IsOutput, IsOutputBy, all_served, output_over, script_fault_text, served}
-use Rattle.dv_cli.specs.Running.{end_text, fault_text, is_run, script_text, usage_text}
+use Rattle.dv_cli.specs.Endings.{Concludes, IsFault, IsStatus, fault_status, status_of, text_of}
+use Rattle.dv_cli.specs.Outputs.{IsOutputBy, all_served, output_over, script_fault_text, served}
+use Rattle.dv_cli.specs.Running.{end_text, fault_text, is_run, usage_text}
 use Rattle.dv_cli.specs.Runs.{LeavesUnopened, RunsOver, ServesLines}
-use Rattle.dv_cli.specs.Starts.{IsNew, Starts}
+use Rattle.dv_cli.specs.Starts.{Starts}
 use Rattle.dv_cli.specs.Wholes.{EndsReading, IsUnread}
-use Rattle.dv_cli.proofs.AllServed.{PlaysAs, all_served_so}
+use Rattle.dv_cli.proofs.AllServed.{all_served_so}
 use Rattle.dv_cli.proofs.FoundStarts.{faults_one, starts_faultless, starts_one}
 use Rattle.dv_cli.proofs.Statuses.{fault_told, none_failed}
 
@@ -213,18 +209,17 @@ served_text clock start lines answered base faults are few still =
     let none = none_failed _ base faults few still in
     let so = all_served_so clock (begin start) answered none in
     let as_lines : map served (lines_of answered) ≡ all_served lines =
-        ap (λ (ls : List transcripts.Line). map served ls) (sym are) in
+    ap (λ (ls : List transcripts.Line). map served ls) (sym are) in
     let replies : replies_to clock (begin start) answered ≡ replies_to clock (begin start) (all_served lines) =
-        so.replies ∙ ap (replies_to clock (begin start)) as_lines in
+    so.replies ∙ ap (replies_to clock (begin start)) as_lines in
     let play : play_of clock start answered ≡ play_of clock start (all_served lines) =
-        so.behind ∙ ap (played clock (begin start)) as_lines in
+    so.behind ∙ ap (played clock (begin start)) as_lines in
     λ i. replies_text lines (replies i) ++ end_text (play i).mark (length (play i).log.entries)
 
 module _ {S : Type 0} (files : S → Folder) (may_leave : S → Folder → Type 0) (moment : S → ℕ)
     (left_since : S → ℕ → Folder → Type 0) (clock clock_now : ℕ → ℕ) (base faults : ℕ)
     (lines : List NamedLine) (journal : List Entry) (told : Type 0) (taken between taken_now : List ℕ)
     (old new : S) (still : Rose base faults → ⊥) (tells : told) where
-
   answered_output : (mark : Mark) (groups : ℕ)
       → ServesLines files may_leave moment left_since clock clock_now base faults lines
       (end.Answered mark groups) journal told taken between old new
@@ -234,29 +229,35 @@ module _ {S : Type 0} (files : S → Folder) (may_leave : S → Folder → Type 
       let clock_then = behind clock serves.used in
       let replies = replies_text lines (replies_to clock_then (begin serves.start) serves.answered) in
       let are : numbered lines ≡ lines_of serves.answered =
-          serves.parts ∙ ap (λ (ls : List transcripts.Line). lines_of serves.answered ++ ls) serves.ends.0
-          ∙ append-nil (lines_of serves.answered) in
+      serves.parts ∙ ap (λ (ls : List transcripts.Line). lines_of serves.answered ++ ls) serves.ends.0
+      ∙ append-nil (lines_of serves.answered) in
       let same : replies ++ end_text mark groups ≡ output_over clock_then serves.start lines =
-          (λ i. replies ++ end_text (serves.ends.2 i) (serves.ends.3 i))
-          ∙ served_text clock_then serves.start lines serves.answered base faults are serves.serial.few still in
-      (replies ++ end_text mark groups,
-      last ∙ ap (λ (bs : List ℕ). bs ++ end_text mark groups) (serves.output tells) ∙ append_assoc taken replies (end_text mark groups),
-      (λ start used starts.
-      let one = starts_one clock (files old) serves.start start serves.used used serves.starts starts in
-      same ∙ (λ i. output_over (behind clock (one.1 i)) (one.0 i) lines),
-      λ f is some found.
-      absurd (starts_faultless clock (files old) serves.start serves.used serves.starts (record { fault = f; is = is; found = found; some = some }))))
+      (λ i. replies ++ end_text (serves.ends.2 i) (serves.ends.3 i))
+      ∙ served_text clock_then serves.start lines serves.answered base faults are serves.serial.few still in (
+        replies ++ end_text mark groups,
+        last ∙ ap (λ (bs : List ℕ). bs ++ end_text mark groups) (serves.output tells) ∙ append_assoc taken replies (end_text mark groups),
+        (
+          λ start used starts.
+              let one = starts_one clock (files old) serves.start start serves.used used serves.starts starts in
+              same ∙ (λ i. output_over (behind clock (one.1 i)) (one.0 i) lines),
+          λ f is some found.
+              absurd (starts_faultless clock (files old) serves.start serves.used serves.starts (record { fault = f; is = is; found = found; some = some })),
+        ),
+      )
 
   unopened_output : (f : OpenFault) → IsFault f → between ≡ taken
       → LeavesUnopened files may_leave moment left_since clock f old new
       → Appends between taken_now (fault_text f)
       → Writes taken taken_now (IsOutputBy (Ok lines) clock (files old))
-  unopened_output f is none leaves last =
-      (fault_text f,
-      last ∙ ap (λ (bs : List ℕ). bs ++ fault_text f) none,
-      (λ start used starts.
-      absurd (starts_faultless clock (files old) start used starts (record { fault = f; is = is; found = leaves.found; some = leaves.some is })),
-      λ g g-is some found. ap fault_text (faults_one (files old) f g is g-is leaves.found found)))
+  unopened_output f is none leaves last = (
+    fault_text f,
+    last ∙ ap (λ (bs : List ℕ). bs ++ fault_text f) none,
+    (
+      λ start used starts.
+          absurd (starts_faultless clock (files old) start used starts (record { fault = f; is = is; found = leaves.found; some = leaves.some is })),
+      λ g g-is some found. ap fault_text (faults_one (files old) f g is g-is leaves.found found),
+    ),
+  )
 
   run_output : (e : End) → EndsWell e
       → RunsOver files may_leave moment left_since clock clock_now base faults lines e journal told
@@ -316,9 +317,11 @@ pub usage_output : (words : List (List ℕ)) (read : Result (List NamedLine) Scr
     (clock : ℕ → ℕ) (folder : Folder) (status : ℕ) (old new : List ℕ) → is_run words ≡ false
     → Concludes end.Usage status old new → (status ≡ 4 → ⊥) → (status ≡ 7 → ⊥)
     → Writes old new (λ text. elim (is_run words) [ true ↦ IsOutputBy read clock folder text | false ↦ text ≡ usage_text ])
-usage_output words read clock folder status old new is told not-four not-seven =
-    (usage_text, (told_plainly end.Usage status old new told not-four not-seven).1,
-    rw is refl)
+usage_output words read clock folder status old new is told not-four not-seven = (
+  usage_text,
+  (told_plainly end.Usage status old new told not-four not-seven).1,
+  rw is refl,
+)
 
 -- by what the script says
 pub script_output : (read : Result (List NamedLine) ScriptFault) (clock : ℕ → ℕ) (folder : Folder)

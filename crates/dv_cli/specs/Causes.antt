@@ -1,11 +1,8 @@
 -- What each end and each status of a run comes from, and how often the clock is read.
-use Rattle.std.specs.Prelude.{◌≡◌, ◌≢◌, ◌⊎◌, ◌≤◌, ◌+◌, ◌*◌, ℕ, Bool, true, false, List, [], Result, Ok, Err, ⊤}
+use Rattle.std.specs.Prelude.{◌≡◌, ◌⊎◌, ◌≤◌, ◌+◌, ◌*◌, ℕ, Bool, false, List, [], Result, Ok, Err, ⊤}
 use Rattle.dv_model.specs.declared.types.OpenFault.{OpenFault}
 use Rattle.dv_model.specs.declared.types.OpenFault.TheVariants as fault
 use Rattle.dv_model.specs.Counts.{Rose}
-use Rattle.dv_script.specs.declared.types.ScriptEnd.{ScriptEnd}
-use Rattle.dv_script.specs.declared.types.ScriptEnd.TheVariants as script
-use Rattle.dv_shelf.specs.Clocks.{behind}
 use Rattle.dv_model.specs.declared.types.Entry.{Entry}
 use Rattle.dv_shelf.specs.Folders.{Folder}
 use Rattle.dv_formats.specs.Parsing.{ScriptFault}
@@ -68,6 +65,13 @@ pub record HasFault (folder : Folder) : Type 0 where
   pub is : IsFault fault
   pub found : FaultFound fault (IsFound folder)
   pub some : IsNew folder → ⊥
+
+-- So opening a folder tells: the fault that is found, where it has a file of a mailbox; else it has
+-- none.
+abbrev pub TellsOpening : {A : Type 0} → Folder → Result A OpenFault → Type 0
+TellsOpening folder (Ok x) = HasFault folder → ⊥
+TellsOpening folder (Err f) =
+    IsFault f → FaultFound f (IsFound folder) × (IsNew folder → ⊥)
 
 -- What the folder holds is told: a fault that is found, where it has a file of a mailbox; all lines
 -- are answered only where there is none.

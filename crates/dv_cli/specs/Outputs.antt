@@ -1,6 +1,6 @@
 -- What a run writes, where nothing fails and memory suffices: it depends on the words, the folder,
 -- the script and the clock alone.
-use Rattle.std.specs.Prelude.{◌≡◌, ◌≢◌, ◌++◌, ℕ, List, length, map, true, false, Result, Ok, Err}
+use Rattle.std.specs.Prelude.{◌≡◌, ◌++◌, ℕ, List, length, map, true, false, Result, Ok, Err}
 use Rattle.dv_model.specs.declared.types.OpenFault.{OpenFault}
 use Rattle.dv_model.specs.Journals.{Log}
 use Rattle.dv_model.specs.Transcripts as transcripts

@@ -1,11 +1,11 @@
-ghost use Rattle.std.specs.Prelude.{◌≡◌, ◌⊎◌, ◌++◌, ◌∷◌, [], ℕ, codes, decimal, IfOk, OnOk};
+ghost use Rattle.std.specs.Prelude.{◌≡◌, ◌⊎◌, ◌++◌, ◌∷◌, [], decimal, IfOk, OnOk};
 ghost use Rattle.std.specs.Prelude.{◌<◌, ◌≤◌, false};
 ghost use Rattle.dv_model.specs.Counts.{Rose};
 ghost use Rattle.dv_shelf.specs.Streams.{Appends, AppendsFront};
 ghost use Rattle.dv_cli.specs.declared.ending.End.TheVariants as how;
 ghost use Rattle.dv_cli.specs.Endings.{status_of, text_of, Concludes, IsStatus, is_plain};
 ghost use Rattle.dv_model.specs.declared.types.OpenFault.TheVariants as fault;
-ghost use Rattle.dv_cli.specs.Running.{end_text, fault_text, memory_text, place_text, script_text, source_text};
+ghost use Rattle.dv_cli.specs.Running.{end_text, fault_text, place_text, script_text};
 
 use dv_model::{Bytes, List, Mark, NoMemory, OpenFault};
 use dv_script::{ScriptEnd, decimal_text, mark_text};

@@ -8,7 +8,7 @@ ghost use Rattle.dv_shelf.specs.Crashes.{IsSettled};
 ghost use Rattle.dv_chain.specs.Openings.{HasCause, IsOutside, OnlyLooks};
 ghost use Rattle.dv_store.specs.Opening.{answered, clock_behind, shelf_behind};
 ghost use Rattle.dv_cli.specs.Begins.{Begins};
-ghost use Rattle.dv_cli.specs.Causes.{TakesForOpening};
+ghost use Rattle.dv_cli.specs.Causes.{TakesForOpening, TellsOpening};
 ghost use Rattle.dv_cli.specs.Starts.{IsNew, IsTrueFolder, is_of_mailbox};
 
 use dv_model::{Extension, OpenFault};
@@ -89,6 +89,8 @@ fn open_found<S: Shelf, C: Clock>(
         IsTrueFolder (S.files shelf) → (IsNew (S.files shelf) → ⊥) →
         Begins S.files S.may_leave S.moment S.left_since C.upcoming (C.upcoming clock) shelf
         result }
+    ensures found { S.tells → (IsNew (S.files shelf) → ⊥) →
+        TellsOpening (S.files shelf) (answered result) }
     ensures clock { clock_behind result ≡ clock }
     ensures cause { HasCause (S.fault_count shelf) (S.fault_count (shelf_behind result))
         (answered result) }
@@ -112,6 +114,8 @@ fn make_new<S: Shelf, C: Clock>(
         IsNew (S.files shelf) →
         Begins S.files S.may_leave S.moment S.left_since C.upcoming (C.upcoming clock) shelf
         result }
+    ensures found { S.tells → IsNew (S.files shelf) →
+        TellsOpening (S.files shelf) (answered result) }
     ensures clock { C.tells →
         TakesForOpening (C.upcoming clock) (C.upcoming (clock_behind result)) (answered result) }
     ensures cause { HasCause (S.fault_count shelf) (S.fault_count (shelf_behind result))
@@ -138,6 +142,8 @@ pub fn open_folder<S: Shelf, C: Clock>(
     ensures begins { S.tells → C.tells → IsSettled S.files S.may_leave shelf →
         IsTrueFolder (S.files shelf) → Begins S.files S.may_leave S.moment S.left_since C.upcoming
         (C.upcoming clock) shelf result }
+    // Of any folder: a fault that is found is told, and only where there is none it is opened.
+    ensures found { S.tells → TellsOpening (S.files shelf) (answered result) }
     // The clock is read at most once, where a mailbox is made; a fault of the disk has its cause.
     ensures clock { C.tells →
         TakesForOpening (C.upcoming clock) (C.upcoming (clock_behind result)) (answered result) }

@@ -7,7 +7,7 @@ ghost use Rattle.dv_script.specs.Sources.{all_named};
 ghost use Rattle.dv_serial.specs.Serves.{IsServable, TakesUpTo};
 ghost use Rattle.dv_cli.specs.Begins.{IsBegun};
 ghost use Rattle.dv_cli.specs.Behind.{end_behind};
-ghost use Rattle.dv_cli.specs.Causes.{EndCause, EndsServing, TakesForRun};
+ghost use Rattle.dv_cli.specs.Causes.{EndCause, EndsServing, TakesForRun, TellsFaults};
 ghost use Rattle.dv_cli.specs.Runs.{RunsOver, ServesLines};
 ghost use Rattle.dv_cli.specs.Starts.{IsTrueFolder};
 
@@ -120,6 +120,8 @@ pub fn run_folder<S: Shelf, C: Clock, O: Sink, G: Gate>(
         (C.upcoming result.clock) (S.fault_count shelf) (S.fault_count result.shelf)
         (all_named lines.now) result.end result.journal O.tells (O.taken out.old)
         (O.taken out.new) shelf result.shelf }
+    // A fault that is found is told, and only where there is none all lines are answered.
+    ensures found { S.tells → TellsFaults (S.files shelf) result.end }
     // Each end has its cause, and the clock is read so often.
     ensures cause { EndCause (S.fault_count shelf) (S.fault_count result.shelf)
         (O.fault_count out.old) (O.fault_count out.new) result.end }

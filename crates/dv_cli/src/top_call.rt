@@ -1,7 +1,6 @@
 //! The whole run.
 
 ghost use Rattle.std.specs.Prelude.{◌≡◌, ◌≢◌, ◌⊎◌, ◌^◌, ◌≤◌, ◌++◌, [], ℕ, All, Err, IfErr, IfOk, List, Ok, false, length, map, string_bytes, true};
-ghost use Rattle.dv_model.specs.Counts.{Rose};
 ghost use Rattle.dv_model.specs.Journals.{Log};
 ghost use Rattle.dv_shelf.specs.Crashes.{IsSettled};
 ghost use Rattle.dv_shelf.specs.Streams.{Appends};

@@ -10,13 +10,46 @@ fn each_fault_outside_has_its_status(rt: HostRuntime) -> Result<(), Fail> {
     let alloc = rt.alloc();
     let good = given(b"a SELECT\na APPEND () {1}\nx\n");
     for (given, status, output) in [
-        (Setting { words: &["run", "--thread"], ..good }, 1, "FAULT 1 USAGE\n"),
+        (
+            Setting {
+                words: &["run", "--thread"],
+                ..good
+            },
+            1,
+            "FAULT 1 USAGE\n",
+        ),
         (Setting { words: &[], ..good }, 1, "FAULT 1 USAGE\n"),
-        (Setting { source_fails: &[1], ..good }, 6, "FAULT 6 SOURCE 1\n"),
-        (Setting { source_fails: &[2], ..good }, 6, "FAULT 6 SOURCE 1\n"),
-        (Setting { sink_fails: &[1], ..good }, 7, ""),
+        (
+            Setting {
+                source_fails: &[1],
+                ..good
+            },
+            6,
+            "FAULT 6 SOURCE 1\n",
+        ),
+        (
+            Setting {
+                source_fails: &[2],
+                ..good
+            },
+            6,
+            "FAULT 6 SOURCE 1\n",
+        ),
+        (
+            Setting {
+                sink_fails: &[1],
+                ..good
+            },
+            7,
+            "",
+        ),
     ] {
-        ends(&rt, &play(alloc, &folder_of(alloc, &[])?, &[], given)?, status, output);
+        ends(
+            &rt,
+            &play(alloc, &folder_of(alloc, &[])?, &[], given)?,
+            status,
+            output,
+        );
     }
     Ok(())
 }

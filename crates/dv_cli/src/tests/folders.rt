@@ -8,10 +8,12 @@ use std::sync::atomic::{AtomicU64, Ordering};
 use std::test::Fail;
 
 const EMPTY: &[(Name, &[&[u8]])] = &[];
+
 const ONE: &[(Name, &[&[u8]])] = &[
     (Name::Log, &[HEADER, VALIDITY, APPEND, CLOSED]),
     (Name::Mail(1), &[FIRST_FILE]),
 ];
+
 const ONE_SEEN: &[(Name, &[&[u8]])] = &[
     (Name::Log, &[HEADER, VALIDITY, APPEND, SEEN, CLOSED]),
     (Name::Mail(1), &[FIRST_FILE]),
@@ -42,7 +44,8 @@ fn files_are_written_byte_by_byte(rt: HostRuntime) -> Result<(), Fail> {
 }
 
 // The group of a CHECK at place 92.
-const CHECKED: &[u8] = b"\x80\x80\x80\x89\x40\x00\x00\x00\xff\xff\xff\xff\x00\x00\x00\x00\x00\x00\x00\x00\
+const CHECKED: &[u8] =
+    b"\x80\x80\x80\x89\x40\x00\x00\x00\xff\xff\xff\xff\x00\x00\x00\x00\x00\x00\x00\x00\
     \x04\x00\x04\x00\x00\x00\x05\x00cache\x00\x00\x00\
     \x80\x80\x80\x84\x80\x00\x00\x00\x01\x00\x00\x00\x00\x00\x00\x00\
     \x80\x80\x80\x84\x00\x02\x00\x00\x01\x00\x00\x00\x20\x00\x00\x00\x00\x00\x00\x00";
@@ -88,7 +91,10 @@ fn a_cut_log_opens_at_a_whole_record_or_not_at_all(rt: HostRuntime) -> Result<()
         } else if size < 92 {
             (b"FAULT 3 BadRecord 72\n", size)
         } else {
-            (b"END 0 MARK 1:92 GROUPS 0\n", size.max(if size == 92 { 96 } else { size }))
+            (
+                b"END 0 MARK 1:92 GROUPS 0\n",
+                size.max(if size == 92 { 96 } else { size }),
+            )
         };
         assert!(rt; line.as_slice() == wanted, "{size}");
         assert_eq!(rt; length, size_now, "{size}");
@@ -110,14 +116,20 @@ const SECOND: &[u8] = b"\x01\x03\x28\x00\xe8\x03\x00\x00\x02\x00\x00\x00\x01\x00
     \x5c\x00\x00\x00\xe8\x03\x00\x00\x01\x00\x00\x00\x00\x00\x00\x00\x01\x00\x00\x00\x00\x00\x00\x00";
 
 // Snapshots of the older version, of one message: at place 72 without flags, and at 92 with `\Seen`.
-const OLD_INDEX: &[u8] = b"\xc9\x01\x78\x00\x78\x00\x00\x00\x08\x00\x00\x00\x00\x00\x00\x00\xe8\x03\x00\x00\x00\x00\x00\x00\
+const OLD_INDEX: &[u8] =
+    b"\xc9\x01\x78\x00\x78\x00\x00\x00\x08\x00\x00\x00\x00\x00\x00\x00\xe8\x03\x00\x00\x00\x00\x00\x00\
     \xe8\x03\x00\x00\x02\x00\x00\x00\x01\x00\x00\x00\x01\x00\x00\x00\x48\x00\x00\x00\x00\x00\x00\x00\x00\x00\x00\x00\
     \x00\x00\x00\x00\x00\x00\x00\x00\x00\x00\x00\x00\x00\x00\x00\x00";
-const OLD_SEEN_INDEX: &[u8] = b"\xc9\x01\x78\x00\x78\x00\x00\x00\x08\x00\x00\x00\x00\x00\x00\x00\xe8\x03\x00\x00\x00\x00\x00\x00\
+
+const OLD_SEEN_INDEX: &[u8] =
+    b"\xc9\x01\x78\x00\x78\x00\x00\x00\x08\x00\x00\x00\x00\x00\x00\x00\xe8\x03\x00\x00\x00\x00\x00\x00\
     \xe8\x03\x00\x00\x02\x00\x00\x00\x01\x00\x00\x00\x01\x00\x00\x00\x5c\x00\x00\x00\x00\x00\x00\x00\x00\x00\x00\x00\
     \x00\x00\x00\x00\x00\x00\x00\x00\x01\x00\x00\x00\x00\x00\x00\x00";
+
 const ZEROS: &[u8] = &[0; 52];
+
 const ROW: &[u8] = b"\x01\x00\x00\x00\x00\x00\x00\x00";
+
 const SEEN_ROW: &[u8] = b"\x01\x00\x00\x00\x08\x00\x00\x00";
 
 #[test]
@@ -174,10 +186,25 @@ fn files_are_joined_by_the_snapshot(rt: HostRuntime) -> Result<(), Fail> {
     let second: &[(Name, &[&[u8]])] = &[(Name::Log, &[SECOND, CLOSED])];
     let at_second = "END 0 MARK 2:40 GROUPS 0\n";
     seen_at(&rt, alloc, &joined(alloc, Some(ONE), rotated)?, at_second)?;
-    seen_at(&rt, alloc, &joined(alloc, Some(ONE), both)?, "END 0 MARK 1:92 GROUPS 0\n")?;
-    seen_at(&rt, alloc, &joined(alloc, Some(ONE_SEEN), second)?, at_second)?;
+    seen_at(
+        &rt,
+        alloc,
+        &joined(alloc, Some(ONE), both)?,
+        "END 0 MARK 1:92 GROUPS 0\n",
+    )?;
+    seen_at(
+        &rt,
+        alloc,
+        &joined(alloc, Some(ONE_SEEN), second)?,
+        at_second,
+    )?;
     seen_at(&rt, alloc, &joined(alloc, None, rotated)?, at_second)?;
-    let gap = play(alloc, &joined(alloc, Some(ONE), second)?, &[], given(b"a SELECT\n"))?;
+    let gap = play(
+        alloc,
+        &joined(alloc, Some(ONE), second)?,
+        &[],
+        given(b"a SELECT\n"),
+    )?;
     ends(&rt, &gap, 3, "FAULT 3 Gap 1:72 2:40\n");
     Ok(())
 }
@@ -191,7 +218,9 @@ struct NotingGate {
 impl Gate for NotingGate {
     fn before(&self, session: u32, command: u32) {
         let noted = self.notes.load(Ordering::SeqCst);
-        let note = u64::from(session).wrapping_mul(10).wrapping_add(u64::from(command));
+        let note = u64::from(session)
+            .wrapping_mul(10)
+            .wrapping_add(u64::from(command));
         self.notes.store(noted.wrapping_mul(100).wrapping_add(note), Ordering::SeqCst);
     }
 }

@@ -4,10 +4,9 @@ use dv_folder::Folder as RealFolder;
 use dv_model::List;
 use dv_shelf::{MemSink, Name, OpenGate, Shelf};
 use std::alloc::Global;
-use std::fs;
-use std::process;
 use std::test::Fail;
 use std::time::{SystemTime, UNIX_EPOCH};
+use std::{fs, process};
 
 fn path_of(rt: HostRuntime, name: &str) -> Result<String, Fail> {
     let id = process::id(rt.process());
@@ -137,7 +136,15 @@ fn help_names_each_command(rt: HostRuntime) -> Result<(), Fail> {
     assert_eq!(rt; status, 0);
     assert!(rt; errors.taken().is_empty());
     for word in [
-        "SELECT", "NOOP", "CHECK", "APPEND", "EXPUNGE", "FETCH", "STORE", "SEARCH", "UID REMOVE",
+        "SELECT",
+        "NOOP",
+        "CHECK",
+        "APPEND",
+        "EXPUNGE",
+        "FETCH",
+        "STORE",
+        "SEARCH",
+        "UID REMOVE",
     ] {
         assert!(rt; super::count_of(out.taken(), word.as_bytes()) > 0, "{word}");
     }

@@ -17,20 +17,28 @@ struct Row {
 
 pub const HEADER: &[u8] = b"\x01\x03\x28\x00\xe8\x03\x00\x00\x01\x00\x00\x00\x00\x00\x00\x00\
     \x00\x00\x00\x00\xe8\x03\x00\x00\x01\x00\x00\x00\x00\x00\x00\x00\x01\x00\x00\x00\x00\x00\x00\x00";
+
 pub const VALIDITY: &[u8] = b"\x80\x80\x80\x84\x20\x00\x00\x00\x18\x00\x04\x00\xe8\x03\x00\x00";
+
 pub const APPEND: &[u8] = b"\x80\x80\x80\x84\x02\x00\x00\x10\x01\x00\x00\x00\x00\x00\x00\x00";
+
 pub const SEEN: &[u8] =
     b"\x80\x80\x80\x85\x04\x00\x00\x10\x01\x00\x00\x00\x01\x00\x00\x00\x08\x00\x00\x00";
+
 pub const CLOSED: &[u8] = b"\x00\x00\x00\x00";
+
 pub const FIRST_FILE: &[u8] = b"2 M1e C3e9\n\x01\x02N          0000000000000005\nhello\n\x01\x03\n\
 G000003e8000003e800000001000003e9\nR3e9\nZ5\nV5\n\n";
 
 const NEW: &[(Name, &[&[u8]])] = &[];
+
 const MADE: &[(Name, &[&[u8]])] = &[(Name::Log, &[HEADER, VALIDITY, CLOSED])];
+
 const ONE: &[(Name, &[&[u8]])] = &[
     (Name::Log, &[HEADER, VALIDITY, APPEND, CLOSED]),
     (Name::Mail(1), &[FIRST_FILE]),
 ];
+
 const ONE_SEEN: &[(Name, &[&[u8]])] = &[
     (Name::Log, &[HEADER, VALIDITY, APPEND, SEEN, CLOSED]),
     (Name::Mail(1), &[FIRST_FILE]),
@@ -38,11 +46,15 @@ const ONE_SEEN: &[(Name, &[&[u8]])] = &[
 
 const SELECTED: &str =
     "a * 0 EXISTS\na * OK [UIDVALIDITY 1000]\na * OK [UIDNEXT 1]\na OK [MARK 1:56] SELECT\n";
+
 const APPENDED: &str =
     "a * 1 EXISTS\na * 1 FETCH (UID 1 FLAGS ())\na OK [APPENDUID 1000 1] [MARK 1:72] APPEND\n";
+
 const STORED: &str = "a * 1 FETCH (UID 1 FLAGS (\\Seen))\na OK [MARK 1:92] STORE\n";
+
 const ONE_SHOWN: &str = "a * 1 EXISTS\na * OK [UIDVALIDITY 1000]\na * OK [UIDNEXT 2]\n\
     a * 1 FETCH (UID 1 FLAGS ())\n";
+
 const SEEN_SELECTED: &str = "a * 1 EXISTS\na * OK [UIDVALIDITY 1000]\na * OK [UIDNEXT 2]\n\
     a * 1 FETCH (UID 1 FLAGS (\\Seen))\na OK [MARK 1:92] SELECT\n";
 
@@ -201,12 +213,20 @@ const ROWS: &[Row] = &[
     Row {
         files: &[(
             Name::Log,
-            &[HEADER, VALIDITY, b"\x80\x80\x80\x83\x00\x00\x08\x00\x1c\x00\x00\x00", APPEND],
+            &[
+                HEADER,
+                VALIDITY,
+                b"\x80\x80\x80\x83\x00\x00\x08\x00\x1c\x00\x00\x00",
+                APPEND,
+            ],
         )],
         fails: &[],
         script: "a SELECT\n",
         status: 0,
-        text: &[ONE_SHOWN, "a OK [MARK 1:84] SELECT\nEND 0 MARK 1:84 GROUPS 0\n"],
+        text: &[
+            ONE_SHOWN,
+            "a OK [MARK 1:84] SELECT\nEND 0 MARK 1:84 GROUPS 0\n",
+        ],
     },
     // a keyword replaces all others over a wide range
     Row {
@@ -315,18 +335,11 @@ const ROWS: &[Row] = &[
         text: &["FAULT 3 NoLog\n"],
     },
     Row {
-        files: &[(Name::Log, &[b"\x01\x03\x28\x00\xe8\x03\x00\x00\x01\x00\x00\x00\x00\x00\x00\x00\x00\x00\x00\x00\xe8\x03\x00"])],
-        fails: &[],
-        script: "a SELECT\n",
-        status: 3,
-        text: &["FAULT 3 BadLogHeader\n"],
-    },
-    Row {
         files: &[(
             Name::Log,
-            &[b"\x01\x03\x17\x00\xe8\x03\x00\x00\x01\x00\x00\x00\x00\x00\x00\x00\
-                \x00\x00\x00\x00\xe8\x03\x00\x00\x01\x00\x00\x00\x00\x00\x00\x00\x01\x00\x00\x00\x00\x00\x00\x00",
-                VALIDITY, CLOSED],
+            &[
+                b"\x01\x03\x28\x00\xe8\x03\x00\x00\x01\x00\x00\x00\x00\x00\x00\x00\x00\x00\x00\x00\xe8\x03\x00",
+            ],
         )],
         fails: &[],
         script: "a SELECT\n",
@@ -336,9 +349,27 @@ const ROWS: &[Row] = &[
     Row {
         files: &[(
             Name::Log,
-            &[b"\x01\x03\x28\x00\x00\x00\x00\x00\x01\x00\x00\x00\x00\x00\x00\x00\
+            &[
+                b"\x01\x03\x17\x00\xe8\x03\x00\x00\x01\x00\x00\x00\x00\x00\x00\x00\
                 \x00\x00\x00\x00\xe8\x03\x00\x00\x01\x00\x00\x00\x00\x00\x00\x00\x01\x00\x00\x00\x00\x00\x00\x00",
-                VALIDITY, CLOSED],
+                VALIDITY,
+                CLOSED,
+            ],
+        )],
+        fails: &[],
+        script: "a SELECT\n",
+        status: 3,
+        text: &["FAULT 3 BadLogHeader\n"],
+    },
+    Row {
+        files: &[(
+            Name::Log,
+            &[
+                b"\x01\x03\x28\x00\x00\x00\x00\x00\x01\x00\x00\x00\x00\x00\x00\x00\
+                \x00\x00\x00\x00\xe8\x03\x00\x00\x01\x00\x00\x00\x00\x00\x00\x00\x01\x00\x00\x00\x00\x00\x00\x00",
+                VALIDITY,
+                CLOSED,
+            ],
         )],
         fails: &[],
         script: "a SELECT\n",
@@ -349,9 +380,12 @@ const ROWS: &[Row] = &[
     Row {
         files: &[(
             Name::Log,
-            &[b"\x01\x03\x28\x00\xe8\x03\x00\x00\x02\x00\x00\x00\x00\x00\x00\x00\
+            &[
+                b"\x01\x03\x28\x00\xe8\x03\x00\x00\x02\x00\x00\x00\x00\x00\x00\x00\
                 \x00\x00\x00\x00\xe8\x03\x00\x00\x01\x00\x00\x00\x00\x00\x00\x00\x01\x00\x00\x00\x00\x00\x00\x00",
-                VALIDITY, CLOSED],
+                VALIDITY,
+                CLOSED,
+            ],
         )],
         fails: &[],
         script: "a SELECT\n",
@@ -361,9 +395,12 @@ const ROWS: &[Row] = &[
     Row {
         files: &[(
             Name::Log,
-            &[b"\x01\x03\x28\x00\xe8\x03\x00\x00\x05\x00\x00\x00\x00\x00\x00\x00\
+            &[
+                b"\x01\x03\x28\x00\xe8\x03\x00\x00\x05\x00\x00\x00\x00\x00\x00\x00\
                 \x00\x00\x00\x00\xe8\x03\x00\x00\x01\x00\x00\x00\x00\x00\x00\x00\x01\x00\x00\x00\x00\x00\x00\x00",
-                VALIDITY, CLOSED],
+                VALIDITY,
+                CLOSED,
+            ],
         )],
         fails: &[],
         script: "a SELECT\n",
@@ -380,7 +417,14 @@ const ROWS: &[Row] = &[
     },
     // a record's size that is no multiple of four
     Row {
-        files: &[(Name::Log, &[HEADER, b"\x80\x80\x80\x81\x20\x00\x00\x00\x18\x00\x04\x00\xe8\x03\x00\x00", CLOSED])],
+        files: &[(
+            Name::Log,
+            &[
+                HEADER,
+                b"\x80\x80\x80\x81\x20\x00\x00\x00\x18\x00\x04\x00\xe8\x03\x00\x00",
+                CLOSED,
+            ],
+        )],
         fails: &[],
         script: "a SELECT\n",
         status: 3,
@@ -390,7 +434,12 @@ const ROWS: &[Row] = &[
     Row {
         files: &[(
             Name::Log,
-            &[HEADER, VALIDITY, b"\x80\x80\x80\x84\x01\x00\x00\x10\x01\x00\x00\x00\x01\x00\x00\x00", CLOSED],
+            &[
+                HEADER,
+                VALIDITY,
+                b"\x80\x80\x80\x84\x01\x00\x00\x10\x01\x00\x00\x00\x01\x00\x00\x00",
+                CLOSED,
+            ],
         )],
         fails: &[],
         script: "a SELECT\n",
@@ -401,7 +450,12 @@ const ROWS: &[Row] = &[
     Row {
         files: &[(
             Name::Log,
-            &[HEADER, VALIDITY, b"\x80\x80\x80\x84\x02\x00\x00\x10\x00\x00\x00\x00\x00\x00\x00\x00", CLOSED],
+            &[
+                HEADER,
+                VALIDITY,
+                b"\x80\x80\x80\x84\x02\x00\x00\x10\x00\x00\x00\x00\x00\x00\x00\x00",
+                CLOSED,
+            ],
         )],
         fails: &[],
         script: "a SELECT\n",
@@ -463,10 +517,7 @@ const ROWS: &[Row] = &[
 ];
 
 /// A folder with these files.
-pub fn folder_of(
-    alloc: Global,
-    files: &[(Name, &[&[u8]])],
-) -> Result<Folder, Fail> {
+pub fn folder_of(alloc: Global, files: &[(Name, &[&[u8]])]) -> Result<Folder, Fail> {
     let mut folder = List::new(alloc);
     for (name, parts) in files {
         let mut bytes = Bytes::new(alloc);
@@ -494,7 +545,12 @@ fn play_row(rt: &impl Abort, alloc: Global, row: &Row) -> Result<(), Fail> {
     let folder = folder_of(alloc, row.files)?;
     let left = play(alloc, &folder, row.fails, given(row.script.as_bytes()))?;
     let output = left.output.as_slice();
-    assert_eq!(rt; left.status, row.status, "{}", std::str::from_utf8(output).unwrap_or("?"));
+    assert_eq!(rt;
+        left.status,
+        row.status,
+        "{}",
+        std::str::from_utf8(output).unwrap_or("?")
+    );
     let is = is_text(alloc, output, row)?;
     assert!(rt; is, "{}", std::str::from_utf8(output).unwrap_or("?"));
     Ok(())

@@ -1,5 +1,6 @@
 use Rattle.std.proofs.Common.{Ok, Err}
 use Rattle.dv_chain.specs.declared.chain.Chain.{Chain}
+use Rattle.dv_cli.proofs.FoundTold.{outside_none}
 use Rattle.dv_cli.proofs.Created.{begun_made, has_none, unopened_made}
 use Rattle.dv_cli.proofs.Timed.{read_once}
 use Rattle.dv_cli.proofs.opening.make_new.Goals as goal
@@ -32,3 +33,11 @@ pub returns-in-Err-clause-clock : goal.returns-in-Err-clause-clock
 returns-in-Err-clause-clock g c = λ timed.
     let C = g.C.Clock in
     read_once {A = Chain} (C.upcoming c.args.clock) (C.upcoming c.in-Err.e.1) (Err c.in-Err.e.2) (c.in-Err.ensures.clock timed) c.in-Err.ensures.err
+
+-- ---- what is found is told
+
+pub returns-in-Ok-clause-found : goal.returns-in-Ok-clause-found
+returns-in-Ok-clause-found g c = λ tells new has. has.some new
+
+pub returns-in-Err-clause-found : goal.returns-in-Err-clause-found
+returns-in-Err-clause-found g c = λ tells new is. absurd (outside_none c.in-Err.e.2 c.in-Err.ensures.err is)

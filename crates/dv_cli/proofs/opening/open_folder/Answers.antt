@@ -5,6 +5,9 @@ use Rattle.dv_chain.specs.declared.chain.Chain.{Chain}
 use Rattle.dv_chain.proofs.Shelves.{cause_then, settled_still}
 use Rattle.dv_store.specs.Opening.{answered, clock_behind, shelf_behind}
 use Rattle.dv_cli.specs.Starts.{IsNew, IsTrueFolder}
+use Rattle.dv_shelf.specs.Folders.{Folder}
+use Rattle.dv_cli.specs.Causes.{TellsOpening}
+use Rattle.dv_cli.proofs.FoundTold.{outside_none}
 use Rattle.dv_cli.proofs.Looked.{begins_behind, cause_told, unlooked}
 use Rattle.dv_cli.proofs.Timed.{unread_opening}
 use Rattle.dv_cli.proofs.opening.open_folder.Goals as goal
@@ -64,3 +67,24 @@ pub returns-in-Err-clause-cause : goal.returns-in-Err-clause-cause
 returns-in-Err-clause-cause g c =
     let S = g.S.Shelf in
     cause_told Bool Chain (S.fault_count c.args.shelf) (S.fault_count c.has_mailbox.new.shelf) c.in-Err.fault c.in-Err.ensures.cause
+
+-- ---- what is found is told
+
+pub returns-in-Ok-true-clause-found : goal.returns-in-Ok-true-clause-found
+returns-in-Ok-true-clause-found g c = λ tells.
+    let S = g.S.Shelf in
+    let looks = c.has_mailbox.ensures.looks tells in
+    let some : IsNew (S.files c.args.shelf) → ⊥ = MatchBool-at_true (IsNew (S.files c.args.shelf) → ⊥) (IsNew (S.files c.args.shelf)) c.in-Ok-true.field-0-test (c.in-Ok-true.ensures.is tells) in
+    subst (λ (folder : Folder). TellsOpening folder (answered c.open_found.result)) looks.same
+    (c.open_found.ensures.found tells (λ new. some (subst IsNew looks.same new)))
+
+pub returns-in-Ok-false-clause-found : goal.returns-in-Ok-false-clause-found
+returns-in-Ok-false-clause-found g c = λ tells.
+    let S = g.S.Shelf in
+    let looks = c.has_mailbox.ensures.looks tells in
+    let new : IsNew (S.files c.args.shelf) = MatchBool-at_false (IsNew (S.files c.args.shelf) → ⊥) (IsNew (S.files c.args.shelf)) c.in-Ok-false.field-0-test (c.in-Ok-false.ensures.is tells) in
+    subst (λ (folder : Folder). TellsOpening folder (answered c.make_new.result)) looks.same
+    (c.make_new.ensures.found tells (subst IsNew (sym looks.same) new))
+
+pub returns-in-Err-clause-found : goal.returns-in-Err-clause-found
+returns-in-Err-clause-found g c = λ tells is. absurd (outside_none c.in-Err.fault c.in-Err.ensures.err is)

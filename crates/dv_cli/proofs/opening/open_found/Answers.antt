@@ -1,4 +1,5 @@
 use Rattle.std.proofs.Common.{ap}
+use Rattle.dv_cli.proofs.FoundTold.{found_told}
 use Rattle.dv_cli.proofs.Opened.{begun_found, unopened_found}
 use Rattle.dv_cli.proofs.opening.open_found.Goals as goal
 
@@ -18,3 +19,12 @@ returns-in-Err-clause-begins g c = λ tells settled is_true some.
     let done = c.in-Err.ensures in
     unopened_found S.files S.may_leave S.moment S.left_since C.upcoming (C.upcoming c.args.clock) c.args.shelf c.in-Err.e (done.opens tells) (done.files tells) (done.quiet tells settled) some
     (λ t f le left. g.met.S.Shelf.counts_now c.in-Err.e.0 t f le left)
+
+-- ---- what is found is told
+
+pub returns-in-Ok-clause-found : goal.returns-in-Ok-clause-found
+returns-in-Ok-clause-found g c = λ tells some.
+    found_told (g.S.Shelf.files c.args.shelf) _ _ (c.in-Ok.ensures.opens tells).found
+
+pub returns-in-Err-clause-found : goal.returns-in-Err-clause-found
+returns-in-Err-clause-found g c = λ tells some is. ((c.in-Err.ensures.opens tells).found, some)

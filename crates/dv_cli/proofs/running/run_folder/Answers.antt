@@ -1,6 +1,7 @@
 use Rattle.std.proofs.Common.{◌*◌, length, refl}
 use Rattle.dv_script.specs.Sources.{all_named}
 use Rattle.dv_chain.specs.declared.chain.Chain.{Chain}
+use Rattle.dv_cli.proofs.FoundTold.{served_told}
 use Rattle.dv_cli.proofs.Folders.{end_later, unopened_cause}
 use Rattle.dv_cli.proofs.Served.{runs_serving}
 use Rattle.dv_cli.proofs.Timed.{fault_takes, run_takes, takes_both}
@@ -51,3 +52,9 @@ pub returns-in-Err-clause-readings : goal.returns-in-Err-clause-readings
 returns-in-Err-clause-readings g c = λ timed.
     let C = g.C.Clock in
     fault_takes Chain (Unit {0}) (C.upcoming c.args.clock) (C.upcoming c.in-Err.clock) c.in-Err.fault (c.in-Err.ensures.clock timed)
+
+-- ---- what is found is told
+
+pub returns-in-Ok-clause-found : goal.returns-in-Ok-clause-found
+returns-in-Ok-clause-found g c = λ tells.
+    served_told (g.S.Shelf.files c.args.shelf) c.serve_lines.result.end c.serve_lines.ensures.ends (c.in-Ok.ensures.found tells)

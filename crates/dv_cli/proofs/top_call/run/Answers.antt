@@ -54,16 +54,18 @@ returns-clause-runs g c = λ good tells clock_tells script_tells settled true_fo
 
 pub returns-clause-refused : goal.returns-clause-refused
 returns-clause-refused g c = λ good script_tells fault bad.
-    let refused = c.run_script-end.ensures.refused script_tells fault bad in
-    (refused.0, record {
-      how = c.run_script-end.result.end;
-      ends = refused.1;
-      cause = comes g c;
-      ended = c.conclude-status-2.ensures.status;
-      concludes = λ told.
-          subst (λ (taken : List ℕ). Concludes c.run_script-end.result.end c.conclude-status-2.result taken (g.O.Sink.taken c.conclude-status-2.new.out))
-          (ap g.O.Sink.taken refused.2) (c.conclude-status-2.ensures.text told);
-    })
+    let refused = c.run_script-end.ensures.refused script_tells fault bad in (
+      refused.0,
+      record {
+        how = c.run_script-end.result.end;
+        ends = refused.1;
+        cause = comes g c;
+        ended = c.conclude-status-2.ensures.status;
+        concludes = λ told.
+            subst (λ (taken : List ℕ). Concludes c.run_script-end.result.end c.conclude-status-2.result taken (g.O.Sink.taken c.conclude-status-2.new.out))
+            (ap g.O.Sink.taken refused.2) (c.conclude-status-2.ensures.text told);
+      },
+    )
 
 -- ---- what it comes from
 

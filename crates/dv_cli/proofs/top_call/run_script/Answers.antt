@@ -1,14 +1,10 @@
 use Rattle.std.proofs.Common.{◌≡◌, ◌∙◌, ap, sym, subst, refl, inl, inr, List, ℕ, length, arith}
-use Rattle.std.specs.Prelude.{Ok}
-use Rattle.dv_model.specs.Counts.{Rose}
 use Rattle.dv_formats.specs.Parsing.{parsed}
 use Rattle.dv_formats.specs.Scripts.{NamedLine}
 use Rattle.dv_script.specs.Sources.{all_named, named}
-use Rattle.dv_script.specs.declared.types.Line.{Line}
 use Rattle.std.proofs.lemmas.List.{length-map}
-use Rattle.dv_cli.specs.declared.ending.End.{End}
 use Rattle.dv_serial.specs.Serves.{TakesUpTo}
-use Rattle.dv_cli.specs.Causes.{ComesFrom, HasRunCause, TakesByEnd, TellsFaults, TellsScript, counts_of, most_readings}
+use Rattle.dv_cli.specs.Causes.{most_readings}
 use Rattle.dv_cli.specs.Runs.{RunsOver}
 use Rattle.dv_cli.proofs.Parsed.{same_lines}
 use Rattle.dv_cli.proofs.Reached.{folder_comes, folder_script, folder_takes, not_refused, read_comes, read_faults, read_script, read_takes_none, reads_refused, reads_well}
@@ -24,7 +20,7 @@ returns-in-Ok-clause-runs g c = λ tells clock_tells script_tells settled true_f
     let O = g.O.Sink in
     let o = c.run_folder.result in
     let same : all_named c.as_slice.result.now ≡ lines =
-        ap all_named c.as_slice.ensures ∙ same_lines (parsed (g.I.Source.left c.args.script.now)) _ lines (c.in-Ok.ensures.lines script_tells) is in
+    ap all_named c.as_slice.ensures ∙ same_lines (parsed (g.I.Source.left c.args.script.now)) _ lines (c.in-Ok.ensures.lines script_tells) is in
     inr (subst (λ (ls : List NamedLine). RunsOver S.files S.may_leave S.moment S.left_since
     (C.upcoming c.args.clock) (C.upcoming o.clock) (S.fault_count c.args.shelf) (S.fault_count o.shelf) ls o.end o.journal O.tells (O.taken c.args.out.now)
     (O.taken c.run_folder.new.out) c.args.shelf o.shelf) same (c.run_folder.ensures.runs tells clock_tells settled true_folder))
@@ -49,11 +45,11 @@ pub returns-in-Ok-clause-readings : goal.returns-in-Ok-clause-readings
 returns-in-Ok-clause-readings g c = λ clock_tells script_tells lines is.
     let C = g.C.Clock in
     let same : all_named c.as_slice.result.now ≡ lines =
-        ap all_named c.as_slice.ensures ∙ same_lines (parsed (g.I.Source.left c.args.script.now)) _ lines (c.in-Ok.ensures.lines script_tells) is in
+    ap all_named c.as_slice.ensures ∙ same_lines (parsed (g.I.Source.left c.args.script.now)) _ lines (c.in-Ok.ensures.lines script_tells) is in
     let many : length c.as_slice.result.now ≡ length lines =
-        sym (length-map c.as_slice.result.now named) ∙ ap (λ (ls : List NamedLine). length ls) same in
+    sym (length-map c.as_slice.result.now named) ∙ ap (λ (ls : List NamedLine). length ls) same in
     subst (λ (n : ℕ). TakesUpTo (most_readings n) (C.upcoming c.args.clock) (C.upcoming c.run_folder.result.clock)) many
-    (run_takes _ _ _ c.run_folder.result.end (c.run_folder.ensures.readings clock_tells))
+    (run_takes (length c.as_slice.result.now) (C.upcoming c.args.clock) (C.upcoming c.run_folder.result.clock) c.run_folder.result.end (c.run_folder.ensures.readings clock_tells))
 
 pub returns-in-Ok-clause-unread : goal.returns-in-Ok-clause-unread
 returns-in-Ok-clause-unread g c = λ clock_tells.
@@ -67,10 +63,11 @@ returns-in-Err-clause-runs g c = λ tells clock_tells script_tells settled true_
     inl (rw c.untouched.ensures.end good, c.untouched.ensures.journal, refl, c.untouched.ensures.shelf)
 
 pub returns-in-Err-clause-refused : goal.returns-in-Err-clause-refused
-returns-in-Err-clause-refused g c = λ script_tells fault bad.
-    (record { shelf = c.untouched.ensures.shelf; clock = c.untouched.ensures.clock; journal = c.untouched.ensures.journal },
-    rw c.untouched.ensures.end (reads_refused (parsed (g.I.Source.left c.args.script.now)) fault c.in-Err.end (c.in-Err.ensures.lines script_tells) bad),
-    refl)
+returns-in-Err-clause-refused g c = λ script_tells fault bad. (
+  record { shelf = c.untouched.ensures.shelf; clock = c.untouched.ensures.clock; journal = c.untouched.ensures.journal },
+  rw c.untouched.ensures.end (reads_refused (parsed (g.I.Source.left c.args.script.now)) fault c.in-Err.end (c.in-Err.ensures.lines script_tells) bad),
+  refl,
+)
 
 pub returns-in-Err-clause-script : goal.returns-in-Err-clause-script
 returns-in-Err-clause-script g c = λ script_tells.

@@ -1,4 +1,4 @@
-use Rattle.std.proofs.Common.{◌∙◌, ap, sym, subst, Ok, List, ℕ}
+use Rattle.std.proofs.Common.{◌∙◌, ap, sym, subst, List}
 use Rattle.std.specs.Prelude.{Result}
 use Rattle.dv_formats.specs.Parsing.{ScriptFault, parsed}
 use Rattle.dv_formats.specs.Scripts.{NamedLine}
