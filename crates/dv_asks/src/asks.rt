@@ -38,10 +38,20 @@ pub enum Ask {
     Sizes(u32),
     /// Its first header field of this name.
     Field(u32, &'static [u8]),
+    /// Its sizes and that field at once.
+    Facts(u32, &'static [u8]),
+    /// What a FETCH of its size and its bytes is answered from.
+    Fetch(u32),
+    /// What a removal of these UIDs would write.
+    Plan(u32, u32),
+    /// The message file of a UID is removed, which has no row.
+    Sweep(u32),
+    /// The index is replaced.
+    Checkpoint,
 }
 
-// The messages of the UIDs of a range.
-fn range(alloc: Global, first: u32, last: u32) -> Result<List<Span>, Fail> {
+/// The messages of the UIDs of a range.
+pub fn range(alloc: Global, first: u32, last: u32) -> Result<List<Span>, Fail> {
     let span = Span {
         from: End::Number(first),
         to: End::Number(last),

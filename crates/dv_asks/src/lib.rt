@@ -4,5 +4,5 @@
 mod asks;
 mod folders;
 
-pub use asks::{Ask, MemStore, append, store, write};
+pub use asks::{Ask, MemStore, append, range, store, write};
 pub use folders::{File, clock_of, created, has_file, opened, put_all, shelf_of, shelf_with};

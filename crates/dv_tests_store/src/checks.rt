@@ -62,6 +62,20 @@ fn check_writes_its_group_the_index_and_the_cache(rt: HostRuntime) -> Result<(),
     play(rt.alloc(), &CHECK)
 }
 
+// The snapshot of the same mailbox is written by itself.
+const CHECKPOINT: Case = Case {
+    steps: &[APPENDED, STORED, (Ask::Checkpoint, Said::Done)],
+    // The making, a message, a STORE, and one file.
+    calls: 11,
+    left: &[(Name::Index, 0, Some(INDEX)), (Name::Cache, 0, None)],
+    ..NONE
+};
+
+#[test]
+fn checkpoint_writes_the_index(rt: HostRuntime) -> Result<(), Fail> {
+    play(rt.alloc(), &CHECKPOINT)
+}
+
 const NO_SUBJECT: Step = (Ask::Field(1, b"Subject"), Said::Absent);
 
 // Only the cache file is read, once.
@@ -73,6 +87,7 @@ const KEPT: Case = Case {
         NO_SUBJECT,
         NO_SUBJECT,
         (Ask::Sizes(1), Said::Sizes(5, 5)),
+        (Ask::Facts(1, b"Subject"), Said::Facts(5, None)),
     ],
     calls: CHECK_CALLS + 1,
     ..NONE

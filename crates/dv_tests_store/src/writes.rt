@@ -58,12 +58,16 @@ const READ_YOUR_WRITE: Case = Case {
         (Ask::Body(1), Said::Bytes(b"hello")),
         (Ask::Sizes(1), Said::Sizes(5, 5)),
         (Ask::Field(1, b"Subject"), Said::Absent),
+        (Ask::Facts(1, b"Subject"), Said::Facts(5, None)),
+        (Ask::Fetch(1), Said::Fetched(5, b"hello")),
         (Ask::Body(2), Said::Gone),
         (Ask::Sizes(2), Said::Gone),
         (Ask::Field(2, b"Subject"), Said::Gone),
+        (Ask::Facts(2, b"Subject"), Said::Gone),
+        (Ask::Fetch(2), Said::Absent),
     ],
-    // Each of the first three looks reads the message file.
-    calls: 13,
+    // Each of the first five looks reads the message file once.
+    calls: 15,
     left: &[
         (Name::Log, 72, Some(SEEN_RECORD)),
         (Name::Mail(1), 0, Some(FIRST_MAIL)),
@@ -192,6 +196,8 @@ fn nine_messages_are_expunged_with_their_guids(rt: HostRuntime) -> Result<(), Fa
 const REMOVED: &[u8] = b"\x80\x80\x80\x87\x90\xed\0\x10\
     \x01\0\0\0\0\0\x03\xe8\0\0\x03\xe8\0\0\0\x01\0\0\x03\xe9\0\0\0\0";
 
+const GUID: [u8; 16] = [0, 0, 3, 232, 0, 0, 3, 232, 0, 0, 0, 1, 0, 0, 3, 233];
+
 const REMOVED_DAMAGED: &[u8] = b"\x80\x80\x80\x87\x90\xed\0\x10\
     \x01\0\0\0\0\0\0\0\0\0\0\0\0\0\0\0\0\0\0\0\0\0\0\0";
 
@@ -200,12 +206,15 @@ const REMOVE: Case = Case {
     steps: &[
         APPENDED,
         SEEN_STEP,
+        (Ask::Plan(1, 5), Said::Removal(28, 1, GUID)),
         (Ask::Remove(1, 5), Said::Wrote(1, 120, &[1])),
         (Ask::Remove(1, 5), Said::Nothing(1, 120)),
         (Ask::Body(1), Said::Gone),
+        (Ask::Sweep(1), Said::Done),
     ],
-    calls: 15,
-    left: &[(Name::Log, 92, Some(REMOVED))],
+    // The making, a message, a STORE, a read, a read and a commit, and a removal.
+    calls: 17,
+    left: &[(Name::Log, 92, Some(REMOVED)), (Name::Mail(1), 0, None)],
     ..NONE
 };
 
@@ -224,10 +233,13 @@ const REMOVE_DAMAGED: Case = Case {
         (Ask::Body(1), Said::Damaged),
         (Ask::Sizes(1), Said::Damaged),
         (Ask::Field(1, b"Subject"), Said::Damaged),
+        (Ask::Facts(1, b"Subject"), Said::Damaged),
+        (Ask::Fetch(1), Said::Absent),
+        (Ask::Plan(1, 1), Said::Removal(28, 1, [0; 16])),
         (Ask::Remove(1, 5), Said::Wrote(1, 120, &[1])),
     ],
-    // The emptying, an opening by three reads, three looks, a read, and a commit.
-    calls: 22,
+    // The emptying, an opening by three reads, six looks, a read, and a commit.
+    calls: 25,
     left: &[(Name::Log, 92, Some(REMOVED_DAMAGED))],
     ..NONE
 };
