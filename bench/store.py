@@ -8,11 +8,12 @@ snapshot on standard input, made here by its second layout (dv_formats, specs/Sn
 folder is in memory, and has no message file. The program appends 1,000 messages, and changes one
 flag of the message in the middle 1,000 times. Then folders are made in DIRECTORY, or in /dev/shm,
 with a file for each message. In each of them the program appends and expunges 100 messages, one
-after another, of which the expunges are timed, and ends with a CHECK. The sizes take turns, and the
-shortest run counts.
+after another, of which the expunges are timed, and ends with a CHECK. The sizes take turns, and of
+the runs of a size the median counts; the shortest is printed beside it.
 """
 
 import re
+import statistics
 import struct
 import subprocess
 import sys
@@ -70,12 +71,15 @@ def reads(program, rows, directory):
         return times_of([program, str(rows), path], b"", READS)
 
 
-def say_shortest(name, count, runs, place):
-    """The shortest times of a command, of which a run has so many."""
-    shortest = {rows: min(times[place] for times in runs[rows]) / count for rows in SIZES}
+def say(name, count, runs, place):
+    """The times of a command, of which a run has so many."""
+    times = {rows: sorted(times[place] / count for times in runs[rows]) for rows in SIZES}
+    first = times[SIZES[0]]
     for rows in SIZES:
-        print(f"{name:>10} over {rows:>7} rows {shortest[rows]:>12.2f} us, "
-              f"{shortest[rows] / shortest[SIZES[0]]:.2f} times the first", flush=True)
+        median, shortest = statistics.median(times[rows]), times[rows][0]
+        print(f"{name:>10} over {rows:>7} rows: median {median:>12.2f} us, "
+              f"{median / statistics.median(first):.2f} times the first; "
+              f"shortest {shortest:>12.2f} us, {shortest / first[0]:.2f} times", flush=True)
 
 
 def runs_of(count, run):
@@ -92,12 +96,12 @@ def main():
         sys.exit(__doc__)
     program = sys.argv[1]
     directory = sys.argv[2] if len(sys.argv) == 3 else "/dev/shm"
-    written = runs_of(10, lambda rows: writes(program, rows))
-    say_shortest("an append", 1000, written, 0)
-    say_shortest("a change", 1000, written, 1)
-    read = runs_of(3, lambda rows: reads(program, rows, directory))
-    say_shortest("an expunge", 100, read, 0)
-    say_shortest("a check", 1, read, 1)
+    written = runs_of(15, lambda rows: writes(program, rows))
+    say("an append", 1000, written, 0)
+    say("a change", 1000, written, 1)
+    read = runs_of(5, lambda rows: reads(program, rows, directory))
+    say("an expunge", 100, read, 0)
+    say("a check", 1, read, 1)
 
 
 if __name__ == "__main__":
