@@ -15,11 +15,11 @@ folder=$(mktemp -d)
 trap 'rm -rf "$folder"' EXIT
 
 : > "$folder/0"
-count=$(rt try --fail-alloc 1000000 --cases "$folder" 2>&1 | sed -n 's/^allocations: //p' | head -1)
+count=$(rt try --steps 1000000000 --fail-alloc 1000000 --cases "$folder" 2>&1 | sed -n 's/^allocations: //p' | head -1)
 for n in $(seq 1 $((count - 1))); do
     head -c "$n" /dev/zero > "$folder/$n"
 done
-rt try --fail-alloc "$count" --cases "$folder" > "$folder.out" 2>&1 || true
+rt try --steps 1 --fail-alloc "$count" --cases "$folder" > "$folder.out" 2>&1 || true
 passed=$(grep -c "^case=.* status=0 " "$folder.out" || true)
 refused=$(grep -c " 1 refused$" "$folder.out" || true)
 rm -f "$folder.out"
