@@ -92,8 +92,8 @@ fn is_before(store: &MemStore, stages: &[Stage], first: usize, last: usize) -> b
     false
 }
 
-// A command, and the mailbox behind it. Where the disk fails, the mailbox stays, and the command may
-// be sent again.
+// A command, and the mailbox behind it. Where the disk fails, the mailbox stays, and the command
+// may be sent again.
 fn take(
     alloc: Global,
     store: &mut MemStore,
@@ -236,7 +236,8 @@ fn has_stage(store: &mut MemStore, stages: &[Stage], first: usize, last: usize) 
     false
 }
 
-// Whether a folder opens to the mailbox of one of these stages. One that wasn't made may have no log.
+// Whether a folder opens to the mailbox of one of these stages. One that wasn't made may have no
+// log.
 fn opens(
     alloc: Global,
     folder: &Folder,
@@ -263,7 +264,8 @@ fn images_open(alloc: Global, run: &Run, ran: &Ran) -> Result<bool, Fail> {
     Ok(true)
 }
 
-// Whether a run that no call fails, or one of which a command is sent again, comes to the last stage.
+// Whether a run that no call fails, or one of which a command is sent again, comes to the last
+// stage.
 fn is_whole(run: &Run, ran: &Ran) -> bool {
     ran.first == ran.last && ran.first.saturating_add(1) == run.stages.len()
 }

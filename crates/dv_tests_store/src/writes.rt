@@ -249,7 +249,8 @@ fn emptied_message_file_is_damage_and_has_no_guid(rt: HostRuntime) -> Result<(),
     play(rt.alloc(), &REMOVE_DAMAGED)
 }
 
-// The last sync of the STORE fails, so its group is taken back before the next write, and no sooner.
+// The last sync of the STORE fails, so its group is taken back before the next write, and no
+// sooner.
 const UNDO: Case = Case {
     readings: &[1000, 1001],
     fails: &[10],
