@@ -12,6 +12,6 @@ none_is (Some x) true is = absurd cc
 none_is (Some x) false is = refl
 
 pub returns : goal.returns
-returns c yes =
+returns c is =
     let m = c.args.live.now.mailbox in
-    not-true (has_uid m c.args.uid) (sym (free_place m c.args.uid c.position.result c.position.ensures) ∙ sym (none_is c.position.result c.is_none.result c.is_none.ensures) ∙ yes)
+    not-true (has_uid m c.args.uid) (sym (free_place m c.args.uid c.position.result c.position.ensures) ∙ sym (none_is c.position.result c.is_none.result c.is_none.ensures) ∙ is)

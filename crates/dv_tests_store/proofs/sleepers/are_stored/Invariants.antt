@@ -1,4 +1,3 @@
-use Rattle.std.proofs.Common.{◌×◌}
 use Rattle.dv_model.specs.Sessions.{IsCommand}
 use Rattle.dv_groups.specs.Groups.{HasFewKeywords}
 use Rattle.dv_tests_store.proofs.sleepers.are_stored.Given as goal
