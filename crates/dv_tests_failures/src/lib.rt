@@ -1,0 +1,11 @@
+//! Tests of what a store's commands leave where a call fails, or is the last.
+#![tactic(auto)]
+
+#[cfg(test)]
+mod failures;
+#[cfg(test)]
+mod long_logs;
+#[cfg(test)]
+mod runs;
+#[cfg(test)]
+mod states;
