@@ -25,12 +25,28 @@ fn store(alloc: Global) -> Result<Bytes, Fail> {
     Ok(line)
 }
 
-/// 164 appends, 400 times that STORE, and what the other sessions ask then.
-fn script(alloc: Global) -> Result<Bytes, Fail> {
+/// 164 appends.
+fn appends(alloc: Global) -> Result<Bytes, Fail> {
     let mut text = Bytes::from_slice(alloc, b"a SELECT\n")?;
     for _ in 0..164 {
         text.extend(b"a APPEND () {1}\nx\n")?;
     }
+    Ok(text)
+}
+
+/// 164 appends, and so many times that STORE.
+pub fn appends_and_stores(alloc: Global, stores: u32) -> Result<Bytes, Fail> {
+    let mut text = appends(alloc)?;
+    let line = store(alloc)?;
+    for _ in 0..stores {
+        text.extend(line.as_slice())?;
+    }
+    Ok(text)
+}
+
+/// 164 appends, 400 times that STORE, and what the other sessions ask then.
+fn script(alloc: Global) -> Result<Bytes, Fail> {
+    let mut text = appends(alloc)?;
     text.extend(b"b SELECT\n")?;
     let line = store(alloc)?;
     for k in 1..=400 {
