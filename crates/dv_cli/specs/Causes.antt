@@ -117,8 +117,8 @@ pub record Counts : Type 0 where
 abbrev pub counts_of : ℕ → ℕ → ℕ → Counts
 counts_of shelf source output = record { shelf = shelf; source = source; output = output }
 
--- each end has its cause: a failure of the disk or of the source, whose count is told, or one of the
--- output
+-- each end has its cause: a failure of the disk or of the source, whose count is told, or one of
+-- the output
 abbrev pub ComesFrom : Counts → Counts → End → Type 0
 ComesFrom before now (end.Unopened (fault.Disk faults)) =
     Rose before.shelf now.shelf × (faults ≡ now.shelf)
@@ -174,8 +174,8 @@ abbrev pub AnyRose : Counts → Counts → Type 0
 AnyRose before now = Rose before.shelf now.shelf ⊎ Rose before.source now.source
     ⊎ Rose before.output now.output
 
--- Each status comes only from its cause: wrong words, a failure of the disk, a fault that is found in
--- the folder, a script that is refused, and failures of the source and of the output.
+-- Each status comes only from its cause: wrong words, a failure of the disk, a fault that is found
+-- in the folder, a script that is refused, and failures of the source and of the output.
 pub record HasCauses (status : ℕ) (good : Bool) (before now : Counts) (finds : Type 0)
     (refuses : Type 0) : Type 0 where
   pub small : status ≤ 7

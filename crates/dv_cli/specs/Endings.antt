@@ -51,7 +51,8 @@ abbrev pub IsStatus : End → ℕ → Type 0
 IsStatus e status =
     (status ≡ status_of e) ⊎ ((is_plain e ≡ false) × (status ≡ 4)) ⊎ (status ≡ 7)
 
--- the last line was written, or that of want of memory, or a front of either where the output failed
+-- the last line was written, or that of want of memory, or a front of either where the output
+-- failed
 abbrev pub Concludes : End → ℕ → List ℕ → List ℕ → Type 0
 Concludes e status old new =
     ((status ≡ status_of e) × Appends old new (text_of e))

@@ -39,8 +39,8 @@ script_fault_text (ScriptFault.BadLine line) = script_text (script.BadLine line)
 script_fault_text (ScriptFault.ShortLiteral line) = script_text (script.ShortLiteral line)
 script_fault_text ScriptFault.TooLong = script_text script.TooLong
 
--- So it is of a good script over a mailbox that is found or made; else it is the fault of the folder
--- or of the script, or that the words aren't those of a run.
+-- So it is of a good script over a mailbox that is found or made; else it is the fault of the
+-- folder or of the script, or that the words aren't those of a run.
 abbrev pub IsOutputBy : Result (List NamedLine) ScriptFault → (ℕ → ℕ) → Folder → List ℕ → Type 0
 IsOutputBy (Ok lines) clock folder text =
     ((start : Log) (used : ℕ) → Starts clock folder start used

@@ -19,4 +19,5 @@ run_words (folder ∷ words) = words
 
 -- the text was printed and the status is this one, or a front of it where the output failed
 abbrev pub Prints : ℕ → List ℕ → ℕ → List ℕ → List ℕ → Type 0
-Prints good text status old new = ((status ≡ good) × Appends old new text) ⊎ ((status ≡ 7) × AppendsFront old new text)
+Prints good text status old new =
+    ((status ≡ good) × Appends old new text) ⊎ ((status ≡ 7) × AppendsFront old new text)

@@ -2,6 +2,7 @@ mod faults;
 mod folders;
 mod real;
 mod rows;
+mod sleeper;
 
 use crate::top_call::{Ran, run};
 use dv_model::{Bytes, List};

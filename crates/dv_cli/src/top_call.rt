@@ -137,8 +137,8 @@ pub fn run<S: Shelf + Send, I: Source, O: Sink, C: Clock + Send, G: Gate + Sync>
     clock: C,
     gate: &G,
 ) -> Ran<S, C>
-    // Over a settled folder whose cache file is true. Each reply is the session rules' answer over a
-    // prefix of the one log that was found, or made, and that the journal goes on, line after line.
+    // Over a settled folder whose cache file is true. Each reply is the session rules' answer over
+    // a prefix of the one log that was found, or made, and that the journal goes on, line by line.
     // The bytes written are these replies and a last line. What is left gives that log with its
     // messages and a true cache, behind the whole journal, or with the group of the last write that
     // the disk failed; and so does a crash at any moment, behind a front of the journal.
@@ -151,8 +151,8 @@ pub fn run<S: Shelf + Send, I: Source, O: Sink, C: Clock + Send, G: Gate + Sync>
         lines result.status result.journal O.tells (O.taken out.old) (O.taken out.new) shelf
         result.shelf }
 
-    // Words that aren't those of a run leave everything untouched, and a script that is refused leaves
-    // folder and clock so; what is written then.
+    // Words that aren't those of a run leave everything untouched, and a script that is refused
+    // leaves folder and clock so; what is written then.
     ensures usage { is_run (map string_bytes words.now) ≡ false →
         IsUntouched shelf result.shelf clock result.clock result.journal
         × (script.new ≡ script.old) × ((result.status ≡ 1) ⊎ (result.status ≡ 7))

@@ -1,8 +1,10 @@
 use super::rows::folder_of;
-use super::{Setting, bytes_of, count_of, ends, files_of, given, last_line, play, play_in};
+use super::sleeper::appends_and_stores;
+use super::{Setting, count_of, ends, files_of, given, last_line, play, play_in};
 use dv_model::{Bytes, List};
-use dv_shelf::{Folder, MemShelf, Name, OpenGate};
+use dv_shelf::{Folder, MemShelf, OpenGate};
 use std::alloc::Global;
+use std::process::Abort;
 use std::test::Fail;
 
 #[test]
@@ -58,9 +60,9 @@ const EVERY: &[u8] = b"a SELECT\nb SELECT\na APPEND (\\Deleted) {1}\nx\na APPEND
     b UID STORE 1:9 +FLAGS (k1)\na UID FETCH 1:9 (BODY[])\na CHECK\na EXPUNGE\nb CHECK\nb NOOP\n";
 
 /// How many calls the run has where none fails.
-fn calls(alloc: Global) -> Result<u64, Fail> {
-    let left = play(alloc, &folder_of(alloc, &[])?, &[], given(EVERY))?;
-    Ok(left.shelf.call_count())
+fn calls(alloc: Global, start: &Folder, script: &[u8]) -> Result<u32, Fail> {
+    let left = play(alloc, start, &[], given(script))?;
+    Ok(left.shelf.call_count().min(1000) as u32)
 }
 
 /// The last line of a SELECT over a folder.
@@ -84,8 +86,13 @@ fn mark_in(line: &[u8]) -> &[u8] {
 
 /// What comes of the run whose call of this number fails: its status, how many failures are told,
 /// and whether the folder opens at the mark that its last line names.
-fn failed(alloc: Global, call: u32) -> Result<(u8, usize, bool), Fail> {
-    let mut left = play(alloc, &folder_of(alloc, &[])?, &[call], given(EVERY))?;
+fn failed(
+    alloc: Global,
+    start: &Folder,
+    script: &[u8],
+    call: u32,
+) -> Result<(u8, usize, bool), Fail> {
+    let mut left = play(alloc, start, &[call], given(script))?;
     let told = count_of(left.output.as_slice(), b"NO [UNAVAILABLE] FAULTS 1\n");
     let folder = files_of(alloc, &mut left.shelf)?;
     let found = select(alloc, &folder)?;
@@ -93,45 +100,45 @@ fn failed(alloc: Global, call: u32) -> Result<(u8, usize, bool), Fail> {
     Ok((left.status, told, same))
 }
 
-#[test]
-fn each_failed_call_costs_one_command(rt: HostRuntime) -> Result<(), Fail> {
-    let alloc = rt.alloc();
-    let calls = calls(alloc)? as u32;
-    assert!(rt; calls > 30);
+/// Each call fails once: the first ones, of the opening, end the run; each other costs one command,
+/// and the folder opens to the journal, but perhaps where no write follows.
+fn each_fails(
+    rt: &impl Abort,
+    alloc: Global,
+    start: &Folder,
+    script: &[u8],
+    opening: u32,
+) -> Result<(), Fail> {
+    let calls = calls(alloc, start, script)?;
+    assert!(rt; calls > opening.saturating_add(10));
     for call in 1..=calls {
-        let (status, told, same) = failed(alloc, call)?;
-        if call <= 2 {
+        let (status, told, same) = failed(alloc, start, script, call)?;
+        if call <= opening {
             assert_eq!(rt; status, 2, "{call}");
         } else {
             assert_eq!(rt; (status, told), (0, 1), "{call}");
-            // the last write is undone by none behind it
             assert!(rt; same || call == calls, "{call}");
         }
     }
     Ok(())
 }
 
-/// The marks behind each group of the run where nothing fails. The STORE has none: its session has
-/// seen no message.
-const MARKS: [&[u8]; 6] = [
-    b"END 0 MARK 1:56",
-    b"END 0 MARK 1:72",
-    b"END 0 MARK 1:88",
-    b"END 0 MARK 1:164",
-    b"END 0 MARK 1:192",
-    b"END 0 MARK 1:260",
-];
-
 /// Whether each image of a folder that stops behind so many calls opens to the journal of the run,
-/// or to that with one group more.
-fn stopped(alloc: Global, stop: u32) -> Result<bool, Fail> {
-    let shelf = MemShelf::new(alloc, 1_000_000, List::new(alloc), Some(stop))?;
-    let left = play_in(alloc, shelf, &OpenGate, given(EVERY))?;
+/// or to that with one group more. Each mark has the number of groups before it.
+fn stopped(
+    alloc: Global,
+    start: &Folder,
+    script: &[u8],
+    marks: &[(usize, &[u8])],
+    stop: u32,
+) -> Result<bool, Fail> {
+    let shelf = MemShelf::of(alloc, start, 1_000_000, List::new(alloc), Some(stop))?;
+    let left = play_in(alloc, shelf, &OpenGate, given(script))?;
     let images = left.shelf.images(alloc)?;
     for image in images.as_slice() {
         let line = select(alloc, image)?;
         let mark = mark_in(line.as_slice());
-        let at = MARKS.iter().position(|m| *m == mark).unwrap_or(100);
+        let at = marks.iter().find(|m| m.1 == mark).map_or(1000, |m| m.0);
         if at < left.groups || at > left.groups.saturating_add(1) {
             return Ok(false);
         }
@@ -139,12 +146,67 @@ fn stopped(alloc: Global, stop: u32) -> Result<bool, Fail> {
     Ok(!images.is_empty())
 }
 
+/// The marks of the run over a new folder. Its STORE has no group, since its session has seen no
+/// message.
+const MARKS: &[(usize, &[u8])] = &[
+    (0, b"END 0 MARK 1:56"),
+    (1, b"END 0 MARK 1:72"),
+    (2, b"END 0 MARK 1:88"),
+    (3, b"END 0 MARK 1:164"),
+    (4, b"END 0 MARK 1:192"),
+    (5, b"END 0 MARK 1:260"),
+];
+
+#[test]
+fn each_failed_call_costs_one_command(rt: HostRuntime) -> Result<(), Fail> {
+    let alloc = rt.alloc();
+    each_fails(&rt, alloc, &folder_of(alloc, &[])?, EVERY, 2)
+}
+
 #[test]
 fn each_stop_leaves_the_journal_or_one_group_more(rt: HostRuntime) -> Result<(), Fail> {
     let alloc = rt.alloc();
-    let calls = calls(alloc)? as u32;
-    for stop in 0..calls {
-        assert!(rt; stopped(alloc, stop)?, "{stop}");
+    let start = folder_of(alloc, &[])?;
+    for stop in 0..calls(alloc, &start, EVERY)? {
+        assert!(rt; stopped(alloc, &start, EVERY, MARKS, stop)?, "{stop}");
+    }
+    Ok(())
+}
+
+/// Two appends, before the first of which a long log is rotated.
+const ROTATED: &[u8] = b"a SELECT\na APPEND () {1}\nx\na APPEND () {1}\ny\n";
+
+/// The marks of that run: the long log's end, and places of the new file.
+const ROTATED_MARKS: &[(usize, &[u8])] = &[
+    (0, b"END 0 MARK 1:131640"),
+    (0, b"END 0 MARK 2:40"),
+    (1, b"END 0 MARK 2:56"),
+    (2, b"END 0 MARK 2:72"),
+];
+
+/// A folder whose log is rotated before the next group.
+fn long_folder(alloc: Global) -> Result<Folder, Fail> {
+    let shelf = MemShelf::new(alloc, 100_000_000, List::new(alloc), None)?;
+    let script = appends_and_stores(alloc, 130)?;
+    let mut left = play_in(alloc, shelf, &OpenGate, given(script.as_slice()))?;
+    files_of(alloc, &mut left.shelf)
+}
+
+#[test]
+fn each_failed_call_of_a_rotation_costs_one_command(rt: HostRuntime) -> Result<(), Fail> {
+    let alloc = rt.alloc();
+    each_fails(&rt, alloc, &long_folder(alloc)?, ROTATED, 4)
+}
+
+#[test]
+fn each_stop_of_a_rotation_leaves_the_journal(rt: HostRuntime) -> Result<(), Fail> {
+    let alloc = rt.alloc();
+    let start = long_folder(alloc)?;
+    for stop in 0..calls(alloc, &start, ROTATED)? {
+        assert!(rt;
+            stopped(alloc, &start, ROTATED, ROTATED_MARKS, stop)?,
+            "{stop}"
+        );
     }
     Ok(())
 }
