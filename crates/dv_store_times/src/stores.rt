@@ -104,6 +104,21 @@ fn time_one<S: Shelf>(
     Ok(start.elapsed(&rt)?.as_micros())
 }
 
+// The command is written again and again.
+fn commit_each<S: Shelf>(
+    store: &mut Store<S, MemClock>,
+    view: &View,
+    command: &Command,
+) -> Result<(), Fault>
+    requires command { IsCommand command.now }
+    requires few { HasFewKeywords command.now }
+{
+    for _ in 0..WRITES {
+        commit(store, view, command)?;
+    }
+    Ok(())
+}
+
 fn time_appends<S: Shelf>(
     rt: HostRuntime,
     store: &mut Store<S, MemClock>,
@@ -111,13 +126,44 @@ fn time_appends<S: Shelf>(
 ) -> Result<u128, Fault> {
     let command = append(rt.alloc(), 0)?;
     let start = Instant::now(&rt)?;
-    for _ in 0..WRITES {
-        commit(store, view, &command)?;
-    }
+    commit_each(store, view, &command)?;
     Ok(start.elapsed(&rt)?.as_micros())
 }
 
-// A flag of the message of this UID is set and taken back by turns.
+// Two commands are written by turns.
+fn commit_by_turns<S: Shelf>(
+    store: &mut Store<S, MemClock>,
+    view: &View,
+    first: &Command,
+    second: &Command,
+) -> Result<(), Fault>
+    requires commands { IsCommand first.now × IsCommand second.now }
+    requires few { HasFewKeywords first.now × HasFewKeywords second.now }
+{
+    for _ in 0..WRITES / 2 {
+        commit(store, view, first)?;
+        commit(store, view, second)?;
+    }
+    Ok(())
+}
+
+// A flag of the message of this UID is set by a command and taken back by turns.
+fn time_turns<S: Shelf>(
+    rt: HostRuntime,
+    store: &mut Store<S, MemClock>,
+    view: &View,
+    uid: u32,
+    set: &Command,
+) -> Result<u128, Fault>
+    requires command { IsCommand set.now }
+    requires few { HasFewKeywords set.now }
+{
+    let take = change(rt.alloc(), uid, How::Remove)?;
+    let start = Instant::now(&rt)?;
+    commit_by_turns(store, view, set, &take)?;
+    Ok(start.elapsed(&rt)?.as_micros())
+}
+
 fn time_changes<S: Shelf>(
     rt: HostRuntime,
     store: &mut Store<S, MemClock>,
@@ -125,30 +171,36 @@ fn time_changes<S: Shelf>(
     uid: u32,
 ) -> Result<u128, Fault> {
     let set = change(rt.alloc(), uid, How::Add)?;
-    let take = change(rt.alloc(), uid, How::Remove)?;
-    let start = Instant::now(&rt)?;
-    for _ in 0..WRITES / 2 {
-        commit(store, view, &set)?;
-        commit(store, view, &take)?;
-    }
-    Ok(start.elapsed(&rt)?.as_micros())
+    time_turns(rt, store, view, uid, &set)
 }
 
-// Messages are appended as deleted, and each is expunged before the next one. The expunges alone
-// are timed.
+// A command, and an expunge behind it, by turns. The expunges alone are timed.
+fn time_each_expunge<S: Shelf>(
+    rt: HostRuntime,
+    store: &mut Store<S, MemClock>,
+    view: &View,
+    command: &Command,
+) -> Result<u128, Fault>
+    requires command { IsCommand command.now }
+    requires few { HasFewKeywords command.now }
+{
+    let mut times: u128 = 0;
+    for _ in 0..EXPUNGES {
+        commit(store, view, command)?;
+        let time = time_one(rt, store, view, &Command::Expunge)?;
+        times = times.saturating_add(time);
+    }
+    Ok(times)
+}
+
+// Messages are appended as deleted, and each is expunged before the next one.
 fn time_expunges<S: Shelf>(
     rt: HostRuntime,
     store: &mut Store<S, MemClock>,
     view: &View,
 ) -> Result<u128, Fault> {
     let command = append(rt.alloc(), DELETED)?;
-    let mut times: u128 = 0;
-    for _ in 0..EXPUNGES {
-        commit(store, view, &command)?;
-        let time = time_one(rt, store, view, &Command::Expunge)?;
-        times = times.saturating_add(time);
-    }
-    Ok(times)
+    time_each_expunge(rt, store, view, &command)
 }
 
 // What a session sees of a store of so many messages.
