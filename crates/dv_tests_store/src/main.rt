@@ -13,3 +13,6 @@ mod sleepers;
 mod views;
 #[cfg(test)]
 mod writes;
+
+// Nothing stands above these tests, so they are a program's, which does nothing.
+fn main(_rt: HostRuntime) {}

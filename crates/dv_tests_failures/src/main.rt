@@ -9,3 +9,6 @@ mod long_logs;
 mod runs;
 #[cfg(test)]
 mod states;
+
+// Nothing stands above these tests, so they are a program's, which does nothing.
+fn main(_rt: HostRuntime) {}
