@@ -17,7 +17,7 @@ fn empty_lists(alloc: Global, count: u32) -> Result<Vec<List<u32>>, NoMemory>
     ensures { IfOk result (λ lists. AreEmpty count lists.items) }
 {
     let mut lists = Vec::new(alloc);
-    for _ in 0..count {
+    for _k in 0..count {
         lists.push(List::new(alloc))?;
     }
     Ok(lists)

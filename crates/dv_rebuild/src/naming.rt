@@ -56,7 +56,7 @@ pub fn new_indexid(used: &[u32], now: u32) -> u32
     ensures some { 1 ≤ result }
 {
     let mut n = now.max(1);
-    for _ in used {
+    for _one in used {
         if !is_used(used, n) {
             return n;
         }

@@ -110,6 +110,26 @@ fn used_in(
     listed(alloc, of_log, of_rotated, of_index)
 }
 
+/// What is salvaged of a log up to its first fault, of a rotated log without one, and of a snapshot.
+fn from_files(
+    alloc: Global,
+    log: Option<File>,
+    rotated: Option<File>,
+    index: Option<Index>,
+) -> Result<Salvage, OpenFault>
+    requires log { IfSome log HasHeader }
+    requires rotated { IfSome rotated HasHeader }
+    requires valid { IfSome index (λ i. IsValid i.mailbox) }
+    ensures { (front : Option GoodLog) (scan : Scanned) → IsFileOf log front →
+        IsGoodOf rotated scan → IfOk result (λ made. salvaged_of made
+        ≡ salvaged_in front scan (snapshot_in index)) }
+{
+    match log {
+        Some(log) => with_log(alloc, &log, rotated, index),
+        None => without_log(alloc, index),
+    }
+}
+
 /// What is salvaged of a folder's files, and the indexids that they have.
 fn salvage(alloc: Global, texts: Texts) -> Result<(Salvage, List<u32>), OpenFault>
     ensures { IfOk result (λ x. Salvages texts (salvaged_of x.0) x.1) }
@@ -118,10 +138,7 @@ fn salvage(alloc: Global, texts: Texts) -> Result<(Salvage, List<u32>), OpenFaul
     let index = index_in(alloc, &texts.index)?;
     let used = used_in(alloc, &log, &texts.rotated, &index)?;
     let rotated = rotated_in(texts.rotated)?;
-    let salvage = match log {
-        Some(log) => with_log(alloc, &log, rotated, index)?,
-        None => without_log(alloc, index)?,
-    };
+    let salvage = from_files(alloc, log, rotated, index)?;
     Ok((salvage, used))
 }
 

@@ -87,8 +87,10 @@ pub fn rotated_in(bytes: Option<Bytes>) -> Result<Option<File>, OpenFault>
     match bytes {
         Some(bytes) => match File::read(bytes) {
             Ok(file) => Ok(Some(file)),
-            Err(OpenFault::NoMemory) => Err(OpenFault::NoMemory),
-            Err(_) => Ok(None),
+            Err(e) => match e {
+                OpenFault::NoMemory => Err(e),
+                _ => Ok(None),
+            },
         },
         None => Ok(None),
     }

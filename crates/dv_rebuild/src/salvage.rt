@@ -1,6 +1,7 @@
 //! What is salvaged of a mailbox, while the records of log files are applied to it.
 
 ghost use Rattle.std.specs.Prelude.{◌≡◌, ℕ, ◌≤◌, List, Some, length, is_some, IfOk, OnOk};
+ghost use Rattle.std.specs.List.{list_any};
 ghost use Rattle.dv_model.specs.Effects.{header_number};
 ghost use Rattle.dv_model.specs.Mailboxes.{IsValid, last_modseq};
 ghost use Rattle.dv_model.specs.Spelling.{IsRecord};
@@ -19,7 +20,8 @@ use dv_model::{Body, OpenFault, Part, Record};
 use std::alloc::Global;
 
 /// The place of the UIDVALIDITY in the header (Dovecot's `mail_index_header`), and that behind it.
-const VALIDITY: (usize, usize) = (24, 28);
+const VALIDITY_AT: usize = 24;
+const VALIDITY_END: usize = 28;
 
 /// A mailbox, as far as it is salvaged.
 #[derive(Drop)]
@@ -36,7 +38,15 @@ fn has_validity(part: &Part) -> bool
     ensures { result ≡ is_some (header_number part.now 24) }
 {
     let from = usize::from(part.offset);
-    from <= VALIDITY.0 && VALIDITY.1 <= from + part.bytes.len()
+    let bytes = part.bytes.as_slice();
+    from <= VALIDITY_AT && VALIDITY_END <= from + bytes.len()
+}
+
+/// Whether one of the parts does.
+fn have_validity(parts: &[Part]) -> bool
+    ensures { result ≡ list_any (λ part. is_some (header_number part 24)) parts.now }
+{
+    parts.iter().any(|part| has_validity(part))
 }
 
 /// Whether the record gives a UIDVALIDITY.
@@ -44,7 +54,7 @@ fn gives_validity(r: &Record) -> bool
     ensures { result ≡ gives_validity r.now }
 {
     match &r.body {
-        Body::HeaderUpdate(parts) => parts.as_slice().iter().any(|part| has_validity(part)),
+        Body::HeaderUpdate(parts) => have_validity(parts.as_slice()),
         _ => false,
     }
 }

@@ -124,3 +124,92 @@ fn empty_folder_gets_two_header_updates(rt: HostRuntime) -> Result<(), Fail> {
     assert!(rt; empty_is_told(rt.alloc())?);
     Ok(())
 }
+
+fn rebuilt_again_is_told(alloc: Global) -> Result<bool, Fail> {
+    let mut shelf = cut_folder(alloc, &[])?;
+    let _first = rebuilt_at(alloc, &mut shelf, 2000)?;
+    let again = rebuilt_at(alloc, &mut shelf, 2000)?;
+    let told = told_of(alloc, &mut shelf)?;
+    Ok(again
+        == Ok(Rebuilt {
+            kept: 3,
+            skipped: 1,
+            indexid: 2001,
+        })
+        && told
+            == Told {
+                length: 108,
+                uid_validity: 1000,
+                next_uid: 5,
+                highest: 13,
+                end: 104,
+                rows: 3,
+            })
+}
+
+#[test]
+fn rebuilt_folder_is_rebuilt_alike_with_another_number(rt: HostRuntime) -> Result<(), Fail> {
+    assert!(rt; rebuilt_again_is_told(rt.alloc())?);
+    Ok(())
+}
+
+// A message file as Dovecot writes it: the fields in another order, digits of upper case, and
+// further keys.
+const SERVED: &[u8] = b"2 C4A6F7B2C M1e\n\x01\x02N          0000000000000002\nhi\n\x01\x03\nP2\nV2\nZ2\nBINBOX\nR4A6F7B2C\nG0123456789abcdef0123456789ABCDEF\n\n";
+
+// A folder that another server made: its index is of a version that isn't read, its log has an
+// append of UID 2 with the flag Answered and then a record of no known form, and two of its three
+// numbers may be UIDs.
+fn served_folder(alloc: Global) -> Result<MemShelf, Fail> {
+    let mut log = Bytes::from_slice(alloc, CUT.as_slice().split_at(40).0)?;
+    log.extend(&[0x80, 0x80, 0x80, 0x84, 2, 0, 0, 0x10, 2, 0, 0, 0, 1, 0, 0, 0])?;
+    log.extend(&[0x80, 0x80, 0x80, 0x83, 0, 0, 0, 0x40, 9, 9, 9, 9])?;
+    let mut files = List::new(alloc);
+    add(alloc, &mut files, Name::Log, log.as_slice())?;
+    add(alloc, &mut files, Name::Index, &[7, 3, 240, 0, 80, 1, 20, 0])?;
+    add(alloc, &mut files, Name::Mail(0), SERVED)?;
+    add(alloc, &mut files, Name::Mail(1), SERVED)?;
+    add(alloc, &mut files, Name::Mail(2), SERVED)?;
+    Ok(MemShelf::of(alloc, &files, 10_000, List::new(alloc), None)?)
+}
+
+fn served_is_told(alloc: Global) -> Result<bool, Fail> {
+    let mut shelf = served_folder(alloc)?;
+    let rebuilt = rebuilt_at(alloc, &mut shelf, 1000)?;
+    let chain = open(alloc, &mut shelf).ok().ok_or("not opened")?;
+    Ok(rebuilt
+        == Ok(Rebuilt {
+            kept: 2,
+            skipped: 1,
+            indexid: 1001,
+        })
+        && chain.live.uid_validity() == 1001
+        && chain.live.next_uid() == 3
+        && chain.live.count() == 2
+        && chain.live.row(0).flags == 0
+        && chain.live.row(1).flags == 1)
+}
+
+#[test]
+fn folder_of_another_server_is_salvaged(rt: HostRuntime) -> Result<(), Fail> {
+    assert!(rt; served_is_told(rt.alloc())?);
+    Ok(())
+}
+
+// The listing, three files and four messages are read before the log is replaced.
+const CALLS: u32 = 9;
+
+fn failing_call_is_told(alloc: Global, n: u32) -> Result<bool, Fail> {
+    let mut shelf = cut_folder(alloc, &[n])?;
+    let failed = rebuilt_at(alloc, &mut shelf, 2000)? == Err(RebuildFault::Disk(1));
+    Ok(failed && rebuilt_at(alloc, &mut shelf, 2000)?.is_ok())
+}
+
+#[test]
+fn each_failing_call_is_told(rt: HostRuntime) -> Result<(), Fail> {
+    for n in 1..=CALLS {
+        assert!(rt; failing_call_is_told(rt.alloc(), n)?);
+    }
+    assert!(rt; !failing_call_is_told(rt.alloc(), CALLS + 1)?);
+    Ok(())
+}

@@ -1,0 +1,23 @@
+use Rattle.std.proofs.Common.{◌∙◌, ap, arith, subst, sym, ◌≤◌, ℕ}
+use Rattle.dv_openings.specs.Rebuilds.{raised_while}
+use Rattle.dv_rebuild.proofs.Plans.{next_some, raised_end, raised_step, raised_stop}
+use Rattle.dv_rebuild.proofs.naming.new_indexid.Goals as goal
+
+pub loop-_one-init : goal.loop-_one-init
+loop-_one-init c = record { is = ap (raised_while c.args.used.now c.args.used.now) (sym c.max-n.ensures); some = omega (arith, c.max-n.ensures) }
+
+pub loop-_one-preserved : goal.loop-_one-preserved
+loop-_one-preserved c =
+    let used = c.args.used.now in
+    let is = sym c.is_used.ensures ∙ c.if-not-is_used.false in
+    record {
+      is = c.loop-_one.invariant.is ∙ raised_step used c.loop-_one._one-index c.loop-_one.n c.loop-_one-test.true is ∙ ap (raised_while used _) (sym c.next_number.ensures);
+      some = subst (λ (k : ℕ). 1 ≤ k) (sym c.next_number.ensures) (next_some c.loop-_one.n);
+    }
+
+pub returns-then-not-is_used-clause-is : goal.returns-then-not-is_used-clause-is
+returns-then-not-is_used-clause-is c =
+    sym (c.loop-_one.invariant.is ∙ raised_stop c.args.used.now c.loop-_one._one-index c.loop-_one.n c.loop-_one-test.true (sym c.is_used.ensures ∙ c.if-not-is_used.true))
+
+pub returns-clause-is : goal.returns-clause-is
+returns-clause-is c = sym (c.loop-_one.invariant.is ∙ raised_end c.args.used.now c.loop-_one._one-index c.loop-_one.n c.loop-_one-test.false)
