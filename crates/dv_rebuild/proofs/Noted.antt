@@ -4,7 +4,7 @@ use Rattle.std.specs.Prelude.{cond, if◌then◌else◌, ◌||◌, filter, find,
 use Rattle.std.specs.List.{enumerate_from, list_any, position_or_len}
 use Rattle.std.specs.List.Sorted.{IsStrictlyIncreasing}
 use Rattle.std.proofs.lemmas.Bool.{eq-eqb, eqb-true, eqb-false, ltb-true, ltb-false, ne_eqb}
-use Rattle.std.proofs.lemmas.List.{append-nil, flat_map_more, get_or-set_same, get_or-set_other, length-set, length_push, take_more}
+use Rattle.std.proofs.lemmas.List.{append-nil, flat_map_more, get_or_default, get_or-set_same, get_or-set_other, length-set, length_push, take_more}
 use Rattle.std.proofs.lemmas.List.Elements.{filter_more}
 use Rattle.std.proofs.lemmas.List.Folds.{find_at, list_any-append}
 use Rattle.std.proofs.lemmas.List.FromFn.{get_or-enumerate_from, length-enumerate_from}
@@ -114,6 +114,14 @@ noted_more uid places i first lists new up less inside notes is = record {
         or_false true = refl
         or_false false = refl
 
+pub noted_push : (uid : ℕ) (places : List ℕ) (i : ℕ) (first lists : List (List ℕ)) (pushed d : List ℕ) → IsStrictlyIncreasing places → i < length places → All (λ p. p < length first) places → Notes uid (take i places) first lists
+    → pushed ≡ get_or lists (get_or places i 0) d ++ uid ∷ [] → Notes uid (take (i + 1) places) first (set lists (get_or places i 0) pushed)
+noted_push uid places i first lists pushed d up less inside notes is =
+    let here : get_or places i 0 < length first = inside i 0 less in
+    let within : get_or places i 0 < length lists = omega (arith, here, notes.many) in
+    noted_more uid places i first lists (set lists (get_or places i 0) pushed) up less within notes
+    (ap (set lists (get_or places i 0)) (is ∙ ap (λ (l : List ℕ). l ++ uid ∷ []) (get_or_default lists (get_or places i 0) d [] within)))
+
 -- ---- the UIDs of each keyword
 
 pub uids_none : (m : Mailbox) (lists : List (List ℕ)) → AreEmpty (length m.keywords) lists → AreUids m [] lists
@@ -147,6 +155,11 @@ get_is : (names : List (List ℕ)) (j : ℕ) (one : List ℕ) → slice_get name
 get_is [] j one e = absurd cc
 get_is (x ∷ names) zero one e = cc
 get_is (x ∷ names) (suc j) one e = get_is names j one e
+
+pub uids_at : (m : Mailbox) (kept : List ℕ) (k : ℕ) (lists : List (List ℕ)) (there d : List ℕ) → AreUids m kept lists → k < length m.keywords → there ≡ get_or lists k d → there ≡ filter (has_keyword m k) kept
+uids_at m kept k lists there d are less is =
+    let inside : k < length lists = omega (arith, less, are.many) in
+    is ∙ get_or_default lists k d [] inside ∙ are.each k less
 
 pub keywords_more : (m : Mailbox) (kept : List ℕ) (k : ℕ) (name : List ℕ) (first before new : List Record) → k < length m.keywords → slice_get m.keywords k ≡ Some name
     → before ≡ first ++ flat_map (keyword_records m kept) (take k (enumerate_from 0 m.keywords)) → new ≡ before ++ keyword_records m kept (k, name)

@@ -157,7 +157,10 @@ raised_here used more one n is = ap (λ (b : Bool). if b then raised_while used 
 raised_at : (used : List ℕ) (i : ℕ) → i < length used → (one : ℕ) × (drop i used ≡ one ∷ drop (i + 1) used)
 raised_at [] i less = absurd (omega (arith, less))
 raised_at (one ∷ used) zero less = (one, refl)
-raised_at (one ∷ used) (suc i) less = raised_at used i (omega (arith, less))
+raised_at (one ∷ used) (suc i) less =
+    let more = raised_at used i (omega (arith, less)) in
+    let place : suc i + 1 ≡ suc (i + 1) = omega arith in
+    (more.0, more.1 ∙ ap (λ (k : ℕ). more.0 ∷ drop k (one ∷ used)) (sym place))
 
 pub raised_step : (used : List ℕ) (i n : ℕ) → i < length used → list_any (nat_eq n) used ≡ true → raised_while used (drop i used) n ≡ raised_while used (drop (i + 1) used) (next_number n)
 raised_step used i n less is =

@@ -34,14 +34,16 @@ numbered (x ∷ names) n there =
     ⊎_elim (λ here. (0, omega arith, numbered_here x n here)) (λ later. let more = numbered names n later in (suc more.0, omega (arith, more.1), more.2))
     (Contains-append_cases (number_in x) (numbers_in names) n there)
 
-pub sorted_numbers : (names : List Name) (before numbers : List ℕ) → before ≡ numbers_in names → IsStrictlyIncreasing numbers → ((n : ℕ) → Contains numbers n ↔ Contains before n) → AreNumbersOf names numbers
-sorted_numbers names before numbers is rise same = record {
-  rise = rise;
-  each = λ n. (
-    λ there. (same n).1 (subst (λ (l : List ℕ). Contains l n) (sym is) (named names n there)),
-    λ there. numbered names n (subst (λ (l : List ℕ). Contains l n) is ((same n).0 there)),
-  );
-}
+pub sorted_numbers : (names : List Name) (before into sorted numbers : List ℕ) → before ≡ numbers_in names → into ≡ before → numbers ≡ sorted → IsStrictlyIncreasing sorted → ((n : ℕ) → Contains sorted n ↔ Contains into n) → AreNumbersOf names numbers
+sorted_numbers names before into sorted numbers is put back rise same =
+    let all : into ≡ numbers_in names = put ∙ is in
+    record {
+      rise = subst IsStrictlyIncreasing (sym back) rise;
+      each = λ n. (
+        λ there. subst (λ (l : List ℕ). Contains l n) (sym back) ((same n).1 (subst (λ (l : List ℕ). Contains l n) (sym all) (named names n there))),
+        λ there. numbered names n (subst (λ (l : List ℕ). Contains l n) all ((same n).0 (subst (λ (l : List ℕ). Contains l n) back there))),
+      );
+    }
 
 pub mail_numbers : (folder : Folder) (names : List Name) (numbers : List ℕ) → Lists folder names → AreNumbersOf names numbers → AreMailNumbers folder numbers
 mail_numbers folder names numbers lists are = record {

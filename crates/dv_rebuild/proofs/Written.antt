@@ -63,7 +63,7 @@ rebuilt_are s kept n uids names =
     let are : All IsRecord appends = appends_are rows (All-map HasUid (kept_row m) kept uids) in
     let named : All IsRecord keywords =
     flat_all IsNamed IsRecord (keyword_records m kept)
-    (λ keyword is. updates_are (ranges_of (filter (has_keyword m keyword.0) kept)) keyword.1 (ranges_are (filter (has_keyword m keyword.0) kept) (All-filter IsUid (has_keyword m keyword.0) kept uids)) is)
+    (λ keyword is. updates_are (ranges_of (filter (has_keyword m keyword.0) kept)) keyword.1 (ranges_are (filter (has_keyword m keyword.0) kept) (All-filter (has_keyword m keyword.0) IsUid kept uids)) is)
     (enumerate_from 0 m.keywords) (numbered_names 0 m.keywords names) in
     All-cons IsRecord validity _ (header_is_record 24 (if s.given then m.uid_validity else n) (omega arith))
     (All-append IsRecord (appends ++ keywords) _ (All-append IsRecord appends keywords are named) (All-cons IsRecord _ [] (header_is_record 28 _ (omega arith)) (All-nil IsRecord)))
@@ -71,7 +71,7 @@ rebuilt_are s kept n uids names =
 pub good_header : (indexid stamp highest : ℕ) → 1 ≤ indexid → indexid < 2 ^ 32 → stamp < 2 ^ 32 → highest < 2 ^ 64 → IsGoodHeader (header_of indexid stamp highest)
 good_header indexid stamp highest some below time number = record {
   size = refl;
-  wide = record { size = omega arith; numbers = (below, (omega arith, time)); previous = (omega arith, omega arith); modseq = number };
+  wide = record { size = omega arith; numbers = (below, omega arith, time); previous = (omega arith, omega arith); modseq = number };
   version = refl;
   numbers = (some, omega arith);
   little_endian = refl;

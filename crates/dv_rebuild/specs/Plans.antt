@@ -36,7 +36,7 @@ pub record Salvages (texts : Texts) (salvaged : Salvaged) (used : List ℕ) : Ty
   pub used_are : AreUsed log texts.rotated index used
 
 -- a mailbox that records leave: its numbers are ones that a log may have
-pub record IsLeft (m : Mailbox) : Type 0 where
+pub record HasLogNumbers (m : Mailbox) : Type 0 where
   pub valid : IsValid m
   pub small : m.uid_validity < 2 ^ 32
 
@@ -51,4 +51,4 @@ pub record IsPlan (texts : Texts) (kept : List ℕ) (now : ℕ) (plan : NewLog) 
   pub fits : log_end (rebuilt_records salvaged kept plan.indexid) ≤ last_end
   pub good : IsGoodHeader (header_of plan.indexid (stamp_of now) salvaged.mailbox.highest)
   pub records : All IsRecord (rebuilt_records salvaged kept plan.indexid)
-  pub left : IsLeft salvaged.mailbox
+  pub left : HasLogNumbers salvaged.mailbox

@@ -14,7 +14,7 @@ use Rattle.dv_rebuild.specs.declared.fault.RebuildFault.{RebuildFault}
 use Rattle.dv_rebuild.specs.declared.fault.RebuildFault.TheVariants as fault
 use Rattle.dv_rebuild.specs.declared.planning.NewLog.{NewLog}
 use Rattle.dv_rebuild.specs.declared.rebuilding.Rebuilt.{Rebuilt}
-use Rattle.dv_rebuild.specs.Plans.{IsLeft}
+use Rattle.dv_rebuild.specs.Plans.{HasLogNumbers}
 
 -- ---- what is made ready
 
@@ -33,7 +33,7 @@ pub record IsPrepared (folder : Folder) (now : ℕ) (x : NewLog × Rebuilt) : Ty
   pub tells : Tells does x.1
   pub good : IsGoodHeader (rebuilt_header does)
   pub records : All IsRecord (records_of does)
-  pub left : IsLeft does.salvaged.mailbox
+  pub left : HasLogNumbers does.salvaged.mailbox
 
 -- the folder as it was, or with this log
 abbrev pub IsOldOrPut : Folder → List ℕ → Folder → Type 0

@@ -9,7 +9,7 @@ ghost use Rattle.dv_openings.specs.Openings as openings;
 ghost use Rattle.dv_openings.specs.Openings.{joining};
 ghost use Rattle.dv_openings.specs.Salvages.{rebuilt_records, salvaged_in};
 ghost use Rattle.dv_chain.specs.Files.{HasHeader, HasSpots, IsFileOf, good_file, snapshot_in};
-ghost use Rattle.dv_rebuild.specs.Plans.{AreUsed, IsLeft, IsPlan, Salvages, header_of};
+ghost use Rattle.dv_rebuild.specs.Plans.{AreUsed, HasLogNumbers, IsPlan, Salvages, header_of};
 ghost use Rattle.dv_rebuild.specs.Reading.{IsGoodOf};
 ghost use Rattle.dv_rebuild.specs.Walks.{salvaged_of};
 
@@ -169,7 +169,7 @@ fn text_of(
         log_end (rebuilt_records (salvaged_of salvage.now) kept.now indexid) ≤ last_end) }
     ensures records { IfOk result (λ _.
         All IsRecord (rebuilt_records (salvaged_of salvage.now) kept.now indexid)) }
-    ensures left { IfOk result (λ _. IsLeft salvage.now.live.mailbox) }
+    ensures left { IfOk result (λ _. HasLogNumbers salvage.now.live.mailbox) }
 {
     let records = rebuilt_records(alloc, salvage, kept, indexid)?;
     let header = header(indexid, stamp, salvage.live.highest());

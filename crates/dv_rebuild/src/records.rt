@@ -6,7 +6,7 @@ ghost use Rattle.dv_model.specs.Mailboxes.{IsValid};
 ghost use Rattle.dv_model.specs.Sessions.{external_record, pieces};
 ghost use Rattle.dv_model.specs.Spelling.{IsRecord, IsUid};
 ghost use Rattle.dv_openings.specs.Salvages.{header_record, kept_row, rebuilt_records};
-ghost use Rattle.dv_rebuild.specs.Plans.{IsLeft};
+ghost use Rattle.dv_rebuild.specs.Plans.{HasLogNumbers};
 ghost use Rattle.dv_rebuild.specs.Walks.{salvaged_of};
 
 use crate::keywords::add_keywords;
@@ -106,7 +106,7 @@ pub fn rebuilt_records(
     ensures is { IfOk result (λ records. records
         ≡ rebuilt_records (salvaged_of salvage.now) kept.now n) }
     ensures valid { IfOk result (All IsRecord) }
-    ensures left { IsLeft salvage.now.live.mailbox }
+    ensures left { HasLogNumbers salvage.now.live.mailbox }
 {
     let next = next_uid(&salvage.live, kept);
     let validity = uid_validity(salvage, n);

@@ -1,5 +1,5 @@
-use Rattle.dv_rebuild.proofs.Noted.{empty_more, none_empty}
+use Rattle.dv_rebuild.proofs.Noted.{empty_more}
 use Rattle.dv_rebuild.proofs.keywords.empty_lists.Goals as goal
 
-pub loop-_k-preserved : goal.loop-_k-preserved
-loop-_k-preserved c = ?
+pub loop-k-preserved : goal.loop-k-preserved
+loop-k-preserved c = let h = c.push.ensures in ?
