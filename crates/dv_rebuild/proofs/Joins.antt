@@ -65,8 +65,8 @@ module _ (log : GoodLog) (s : Snapshot) where
     from_first_file first left before_is none seq there is =
         is
         ∙ sym (
-          ap (λ (x : Option Salvaged). first_salvaged x (salvaged_in_rotated log before s) (salvaged_before_log log s) s.mailbox) none
-          ∙ ap (λ (x : Option Salvaged). first_salvaged None x (salvaged_before_log log s) s.mailbox) (ap (λ (x : Option GoodLog). salvaged_in_rotated log x s) before_is ∙ there_in_first first left seq there)
+        ap (λ (x : Option Salvaged). first_salvaged x (salvaged_in_rotated log before s) (salvaged_before_log log s) s.mailbox) none
+        ∙ ap (λ (x : Option Salvaged). first_salvaged None x (salvaged_before_log log s) s.mailbox) (ap (λ (x : Option GoodLog). salvaged_in_rotated log x s) before_is ∙ there_in_first first left seq there)
         )
 
     neither : salvaged_in_log log s ≡ None → salvaged_in_rotated log before s ≡ None → salvaged_from log before (Some s) ≡ first_salvaged None None (salvaged_before_log log s) s.mailbox
@@ -80,8 +80,8 @@ module _ (log : GoodLog) (s : Snapshot) where
     from_named_end n start none nowhere there is number all =
         all ∙ ap (with_file log) (is ∙ ap (λ (k : ℕ). from_snapshot (with_numbers s k)) number)
         ∙ sym (
-          neither none nowhere
-          ∙ ap (λ (b : Bool). first_salvaged None None (if b then Some (with_file log (from_snapshot (with_numbers s (file_number log.header)))) else None) s.mailbox) there
+        neither none nowhere
+        ∙ ap (λ (b : Bool). first_salvaged None None (if b then Some (with_file log (from_snapshot (with_numbers s (file_number log.header)))) else None) s.mailbox) there
         )
 
     pub from_it_alone : salvaged_in_log log s ≡ None → salvaged_in_rotated log before s ≡ None
@@ -90,6 +90,6 @@ module _ (log : GoodLog) (s : Snapshot) where
     from_it_alone none nowhere elsewhere is =
         is
         ∙ sym (
-          neither none nowhere
-          ∙ ap (λ (b : Bool). first_salvaged None None (if b then Some (with_file log (from_snapshot (with_numbers s (file_number log.header)))) else None) s.mailbox) elsewhere
+        neither none nowhere
+        ∙ ap (λ (b : Bool). first_salvaged None None (if b then Some (with_file log (from_snapshot (with_numbers s (file_number log.header)))) else None) s.mailbox) elsewhere
         )

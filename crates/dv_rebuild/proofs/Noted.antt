@@ -4,7 +4,7 @@ use Rattle.std.specs.Prelude.{cond, if◌then◌else◌, ◌||◌, filter, find,
 use Rattle.std.specs.List.{enumerate_from, list_any, position_or_len}
 use Rattle.std.specs.List.Sorted.{IsStrictlyIncreasing}
 use Rattle.std.proofs.lemmas.Bool.{eq-eqb, eqb-true, eqb-false, ltb-true, ltb-false, ne_eqb}
-use Rattle.std.proofs.lemmas.List.{append-nil, flat_map_more, get_or_default, get_or-set_same, get_or-set_other, length-set, length_push, take_more}
+use Rattle.std.proofs.lemmas.List.{append-nil, drop_all, flat_map_more, get_or_default, get_or-set_same, get_or-set_other, length-set, length_push, take_all, take_more}
 use Rattle.std.proofs.lemmas.List.Elements.{filter_more}
 use Rattle.std.proofs.lemmas.List.Folds.{find_at, list_any-append}
 use Rattle.std.proofs.lemmas.List.FromFn.{get_or-enumerate_from, length-enumerate_from}
@@ -122,6 +122,11 @@ noted_push uid places i first lists pushed d up less inside notes is =
     noted_more uid places i first lists (set lists (get_or places i 0) pushed) up less within notes
     (ap (set lists (get_or places i 0)) (is ∙ ap (λ (l : List ℕ). l ++ uid ∷ []) (get_or_default lists (get_or places i 0) d [] within)))
 
+-- a slice of a whole vector is written back
+pub written_back : (len : ℕ) (new items : List (List ℕ)) → length new ≡ length items → len ≡ length items → take len (new ++ drop (length new) items) ≡ new
+written_back len new items same all =
+    ap (λ (l : List (List ℕ)). take len (new ++ l)) (drop_all (length new) items (omega (arith, same))) ∙ ap (take len) (append-nil new) ∙ take_all len new (omega (arith, same, all))
+
 -- ---- the UIDs of each keyword
 
 pub uids_none : (m : Mailbox) (lists : List (List ℕ)) → AreEmpty (length m.keywords) lists → AreUids m [] lists
@@ -143,9 +148,9 @@ uids_passed m kept i lists less is are = record {
   each = λ k below.
       are.each k below
       ∙ sym (
-        filter_more (has_keyword m k) kept i 0 less
-        ∙ ap (λ (b : Bool). filter (has_keyword m k) (take i kept) ++ (if b then get_or kept i 0 ∷ [] else [])) (keyword_gone m (get_or kept i 0) k is)
-        ∙ append-nil (filter (has_keyword m k) (take i kept))
+      filter_more (has_keyword m k) kept i 0 less
+      ∙ ap (λ (b : Bool). filter (has_keyword m k) (take i kept) ++ (if b then get_or kept i 0 ∷ [] else [])) (keyword_gone m (get_or kept i 0) k is)
+      ∙ append-nil (filter (has_keyword m k) (take i kept))
       );
 }
 

@@ -136,11 +136,11 @@ module _ (r : Rebuild) (good : IsGoodHeader (rebuilt_header r)) (all : All IsRec
       rotated_file = rotated_file;
       index_file = index_file;
       is = sym (
-        ap (λ (x : Option GoodLog). from_either file x (counted file index)) (first_joins_none file (new name.Log2) rotated refl rotated_file)
-        ∙ ap (from_either file None) (other_counts_none file index other)
-        ∙ nothing_first file None refl
-        ∙ ap (at_end file) applies
-      );
+          ap (λ (x : Option GoodLog). from_either file x (counted file index)) (first_joins_none file (new name.Log2) rotated refl rotated_file)
+          ∙ ap (from_either file None) (other_counts_none file index other)
+          ∙ nothing_first file None refl
+          ∙ ap (at_end file) applies
+          );
     };
   }
 

@@ -37,11 +37,7 @@ fn note(lists: &mut [List<u32>], uid: u32, places: &[u32]) -> Result<(), NoMemor
 
 /// For each keyword of the table, the UIDs of the kept messages that have it. `NoMemory` is the
 /// only error. The time is that of finding each message by halves, and of their keywords.
-fn uids_by_keyword(
-    alloc: Global,
-    live: &Live,
-    kept: &[u32],
-) -> Result<Vec<List<u32>>, NoMemory>
+fn uids_by_keyword(alloc: Global, live: &Live, kept: &[u32]) -> Result<Vec<List<u32>>, NoMemory>
     requires { IsValid live.now.mailbox }
     ensures { IfOk result (λ lists. AreUids live.now.mailbox kept.now lists.items) }
 {

@@ -107,11 +107,7 @@ fn add(sifted: &mut Sifted, n: u32, kept: bool) -> Result<(), NoMemory>
 
 /// Looks at the message files of these numbers, one after another, and keeps none in memory.
 /// `NoMemory` is also the answer where more than 4,294,967,295 files are skipped.
-pub fn sift<S: Shelf>(
-    alloc: Global,
-    shelf: &mut S,
-    numbers: &[u32],
-) -> Result<Sifted, ShelfFault>
+pub fn sift<S: Shelf>(alloc: Global, shelf: &mut S, numbers: &[u32]) -> Result<Sifted, ShelfFault>
     // Which are kept, and how many aren't.
     ensures sifted { S.tells → IfOk result (IsSifted (S.files shelf.old) numbers.now) }
     ensures uids { IfOk result (λ sifted. All IsUid sifted.kept) }

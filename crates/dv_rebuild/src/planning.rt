@@ -110,7 +110,8 @@ fn used_in(
     listed(alloc, of_log, of_rotated, of_index)
 }
 
-/// What is salvaged of a log up to its first fault, of a rotated log without one, and of a snapshot.
+/// What is salvaged of a log up to its first fault, of a rotated log without one, and of a
+/// snapshot.
 fn from_files(
     alloc: Global,
     log: Option<File>,

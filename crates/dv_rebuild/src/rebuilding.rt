@@ -60,7 +60,8 @@ fn prepare<S: Shelf>(
 
 /// Replaces the log by the new one, which was made ready.
 fn put<S: Shelf>(shelf: &mut S, log: &NewLog) -> Result<(), RebuildFault>
-    ensures files { S.tells → LeavesPut (S.files shelf.old) log.now.text (S.files shelf.new) result }
+    ensures files { S.tells →
+        LeavesPut (S.files shelf.old) log.now.text (S.files shelf.new) result }
     ensures since { S.tells → IsSettled S.files S.may_leave shelf.old →
         LeavesOnly S.moment S.left_since shelf.old shelf.new
         (IsOldOrPut (S.files shelf.old) log.now.text) }

@@ -18,6 +18,7 @@ use std::alloc::Global;
 
 /// The places of the UIDVALIDITY and the UIDNEXT in the header (Dovecot's `mail_index_header`).
 const VALIDITY_AT: u16 = 24;
+
 const NEXT_UID_AT: u16 = 28;
 
 /// The header update that gives a number its value.

@@ -21,6 +21,7 @@ use std::alloc::Global;
 
 /// The place of the UIDVALIDITY in the header (Dovecot's `mail_index_header`), and that behind it.
 const VALIDITY_AT: usize = 24;
+
 const VALIDITY_END: usize = 28;
 
 /// A mailbox, as far as it is salvaged.

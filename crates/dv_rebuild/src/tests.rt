@@ -34,7 +34,12 @@ struct Told {
     rows: u32,
 }
 
-fn add(alloc: Global, files: &mut List<(Name, Bytes)>, name: Name, bytes: &[u8]) -> Result<(), Fail> {
+fn add(
+    alloc: Global,
+    files: &mut List<(Name, Bytes)>,
+    name: Name,
+    bytes: &[u8],
+) -> Result<(), Fail> {
     files.push((name, Bytes::from_slice(alloc, bytes)?))?;
     Ok(())
 }
@@ -50,7 +55,11 @@ fn cut_folder(alloc: Global, fails: &[u32]) -> Result<MemShelf, Fail> {
     Ok(MemShelf::of(alloc, &files, 10_000, List::from_slice(alloc, fails)?, None)?)
 }
 
-fn rebuilt_at(alloc: Global, shelf: &mut MemShelf, now: u32) -> Result<Result<Rebuilt, RebuildFault>, Fail> {
+fn rebuilt_at(
+    alloc: Global,
+    shelf: &mut MemShelf,
+    now: u32,
+) -> Result<Result<Rebuilt, RebuildFault>, Fail> {
     let mut clock = MemClock::new(alloc, List::from_slice(alloc, &[now])?);
     Ok(rebuild(alloc, shelf, &mut clock))
 }
@@ -75,21 +84,23 @@ fn cut_is_told(alloc: Global) -> Result<bool, Fail> {
     let mut shelf = cut_folder(alloc, &[])?;
     let rebuilt = rebuilt_at(alloc, &mut shelf, 2000)?;
     let told = told_of(alloc, &mut shelf)?;
-    Ok(rebuilt
-        == Ok(Rebuilt {
-            kept: 3,
-            skipped: 1,
-            indexid: 2000,
-        })
-        && told
-            == Told {
-                length: 108,
-                uid_validity: 1000,
-                next_uid: 5,
-                highest: 10,
-                end: 104,
-                rows: 3,
+    Ok(
+        rebuilt
+            == Ok(Rebuilt {
+                kept: 3,
+                skipped: 1,
+                indexid: 2000,
             })
+            && told
+                == Told {
+                    length: 108,
+                    uid_validity: 1000,
+                    next_uid: 5,
+                    highest: 10,
+                    end: 104,
+                    rows: 3,
+                },
+    )
 }
 
 #[test]
@@ -102,21 +113,23 @@ fn empty_is_told(alloc: Global) -> Result<bool, Fail> {
     let mut shelf = MemShelf::new(alloc, 10_000, List::new(alloc), None)?;
     let rebuilt = rebuilt_at(alloc, &mut shelf, 0)?;
     let told = told_of(alloc, &mut shelf)?;
-    Ok(rebuilt
-        == Ok(Rebuilt {
-            kept: 0,
-            skipped: 0,
-            indexid: 1,
-        })
-        && told
-            == Told {
-                length: 76,
-                uid_validity: 1,
-                next_uid: 1,
-                highest: 3,
-                end: 72,
-                rows: 0,
+    Ok(
+        rebuilt
+            == Ok(Rebuilt {
+                kept: 0,
+                skipped: 0,
+                indexid: 1,
             })
+            && told
+                == Told {
+                    length: 76,
+                    uid_validity: 1,
+                    next_uid: 1,
+                    highest: 3,
+                    end: 72,
+                    rows: 0,
+                },
+    )
 }
 
 #[test]
@@ -130,21 +143,23 @@ fn rebuilt_again_is_told(alloc: Global) -> Result<bool, Fail> {
     let _first = rebuilt_at(alloc, &mut shelf, 2000)?;
     let again = rebuilt_at(alloc, &mut shelf, 2000)?;
     let told = told_of(alloc, &mut shelf)?;
-    Ok(again
-        == Ok(Rebuilt {
-            kept: 3,
-            skipped: 1,
-            indexid: 2001,
-        })
-        && told
-            == Told {
-                length: 108,
-                uid_validity: 1000,
-                next_uid: 5,
-                highest: 13,
-                end: 104,
-                rows: 3,
+    Ok(
+        again
+            == Ok(Rebuilt {
+                kept: 3,
+                skipped: 1,
+                indexid: 2001,
             })
+            && told
+                == Told {
+                    length: 108,
+                    uid_validity: 1000,
+                    next_uid: 5,
+                    highest: 13,
+                    end: 104,
+                    rows: 3,
+                },
+    )
 }
 
 #[test]
@@ -155,21 +170,36 @@ fn rebuilt_folder_is_rebuilt_alike_with_another_number(rt: HostRuntime) -> Resul
 
 // A message file as Dovecot writes it: the fields in another order, digits of upper case, and
 // further keys.
-const SERVED: &[u8] = b"2 C4A6F7B2C M1e\n\x01\x02N          0000000000000002\nhi\n\x01\x03\nP2\nV2\nZ2\nBINBOX\nR4A6F7B2C\nG0123456789abcdef0123456789ABCDEF\n\n";
+const SERVED: &[u8] = b"2 C4A6F7B2C M1e\n\x01\x02N          0000000000000002\nhi\n\x01\x03\n";
+
+const FURTHER: &[u8] = b"P2\nV2\nZ2\nBINBOX\nR4A6F7B2C\nG0123456789abcdef0123456789ABCDEF\n\n";
+
+fn add_served(alloc: Global, files: &mut List<(Name, Bytes)>, n: u32) -> Result<(), Fail> {
+    let mut mail = Bytes::from_slice(alloc, SERVED)?;
+    mail.extend(FURTHER)?;
+    add(alloc, files, Name::Mail(n), mail.as_slice())
+}
 
 // A folder that another server made: its index is of a version that isn't read, its log has an
 // append of UID 2 with the flag Answered and then a record of no known form, and two of its three
 // numbers may be UIDs.
 fn served_folder(alloc: Global) -> Result<MemShelf, Fail> {
     let mut log = Bytes::from_slice(alloc, CUT.as_slice().split_at(40).0)?;
-    log.extend(&[0x80, 0x80, 0x80, 0x84, 2, 0, 0, 0x10, 2, 0, 0, 0, 1, 0, 0, 0])?;
+    log.extend(&[
+        0x80, 0x80, 0x80, 0x84, 2, 0, 0, 0x10, 2, 0, 0, 0, 1, 0, 0, 0,
+    ])?;
     log.extend(&[0x80, 0x80, 0x80, 0x83, 0, 0, 0, 0x40, 9, 9, 9, 9])?;
     let mut files = List::new(alloc);
     add(alloc, &mut files, Name::Log, log.as_slice())?;
-    add(alloc, &mut files, Name::Index, &[7, 3, 240, 0, 80, 1, 20, 0])?;
-    add(alloc, &mut files, Name::Mail(0), SERVED)?;
-    add(alloc, &mut files, Name::Mail(1), SERVED)?;
-    add(alloc, &mut files, Name::Mail(2), SERVED)?;
+    add(
+        alloc,
+        &mut files,
+        Name::Index,
+        &[7, 3, 240, 0, 80, 1, 20, 0],
+    )?;
+    add_served(alloc, &mut files, 0)?;
+    add_served(alloc, &mut files, 1)?;
+    add_served(alloc, &mut files, 2)?;
     Ok(MemShelf::of(alloc, &files, 10_000, List::new(alloc), None)?)
 }
 
@@ -177,17 +207,19 @@ fn served_is_told(alloc: Global) -> Result<bool, Fail> {
     let mut shelf = served_folder(alloc)?;
     let rebuilt = rebuilt_at(alloc, &mut shelf, 1000)?;
     let chain = open(alloc, &mut shelf).ok().ok_or("not opened")?;
-    Ok(rebuilt
-        == Ok(Rebuilt {
-            kept: 2,
-            skipped: 1,
-            indexid: 1001,
-        })
-        && chain.live.uid_validity() == 1001
-        && chain.live.next_uid() == 3
-        && chain.live.count() == 2
-        && chain.live.row(0).flags == 0
-        && chain.live.row(1).flags == 1)
+    Ok(
+        rebuilt
+            == Ok(Rebuilt {
+                kept: 2,
+                skipped: 1,
+                indexid: 1001,
+            })
+            && chain.live.uid_validity() == 1001
+            && chain.live.next_uid() == 3
+            && chain.live.count() == 2
+            && chain.live.row(0).flags == 0
+            && chain.live.row(1).flags == 1,
+    )
 }
 
 #[test]

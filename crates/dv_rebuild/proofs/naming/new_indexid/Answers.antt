@@ -11,16 +11,16 @@ loop-one-preserved c =
     let used = c.args.used.now in
     let is = sym c.is_used.ensures ∙ c.if-not-is_used.false in
     record {
-      is = c.loop-one.invariant.is ∙ raised_step used c.loop-one.one-index c.loop-one.n c.loop-one-test.true is ∙ ap (raised_while used _) (sym c.next_number.ensures);
-      some = subst (λ (k : ℕ). 1 ≤ k) (sym c.next_number.ensures) (next_some c.loop-one.n);
+      is = c.loop-one.invariant.is ∙ raised_step used c.loop-one._one-index c.loop-one.n c.loop-one-test.true is ∙ ap (raised_while used _) (sym c.next_number-n.ensures);
+      some = subst (λ (k : ℕ). 1 ≤ k) (sym c.next_number-n.ensures) (next_some c.loop-one.n);
     }
 
 pub returns-then-not-is_used-clause-is : goal.returns-then-not-is_used-clause-is
 returns-then-not-is_used-clause-is c =
-    sym (c.loop-one.invariant.is ∙ raised_stop c.args.used.now c.loop-one.one-index c.loop-one.n c.loop-one-test.true (sym c.is_used.ensures ∙ c.if-not-is_used.true))
+    sym (c.loop-one.invariant.is ∙ raised_stop c.args.used.now c.loop-one._one-index c.loop-one.n c.loop-one-test.true (sym c.is_used.ensures ∙ c.if-not-is_used.true))
 
 pub returns-clause-is : goal.returns-clause-is
-returns-clause-is c = sym (c.loop-one.invariant.is ∙ raised_end c.args.used.now c.loop-one.one-index c.loop-one.n c.loop-one-test.false)
+returns-clause-is c = sym (c.loop-one.invariant.is ∙ raised_end c.args.used.now c.loop-one._one-index c.loop-one.n c.loop-one-test.false)
 
 pub returns-then-not-is_used-clause-some : goal.returns-then-not-is_used-clause-some
 returns-then-not-is_used-clause-some c = c.loop-one.invariant.some

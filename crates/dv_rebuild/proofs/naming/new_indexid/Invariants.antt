@@ -4,6 +4,6 @@ use Rattle.dv_rebuild.proofs.naming.new_indexid.Given as goal
 
 abbrev pub invariant-loop-one : goal.invariant-loop-one
 invariant-loop-one l = record {
-  is : new_indexid l.used l.now ≡ raised_while l.used (drop l.one-index l.used) l.n;
+  is : new_indexid l.used l.now ≡ raised_while l.used (drop l._one-index l.used) l.n;
   some : 1 ≤ l.n;
 }

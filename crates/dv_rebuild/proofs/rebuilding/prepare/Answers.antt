@@ -17,5 +17,5 @@ returns-clause-prepared g c = λ tells.
     let are = subst (λ l. AreNumbersOf l numbers) c.as_slice.ensures c.in-Ok.ensures in
     let sifts = subst (λ (l : List ℕ). IsSifted old l sifted) c.as_slice-2.ensures (subst (λ (f : Folder). IsSifted f c.as_slice-2.result.now sifted) looks.same (c.in_ok-sifted.ensures.sifted tells)) in
     let plan = subst (λ (l : List ℕ). IsPlan texts l c.args.now log) c.as_slice-3.ensures c.in-Ok-plan.ensures in
-    let kept = c.in-Ok-try_from.ensures in
-    prepared old c.args.now texts numbers sifted log (record { kept = c.in-Ok-try_from.kept; skipped = sifted.skipped; indexid = log.indexid }) (c.in_ok-texts.ensures.read tells) are sifts plan ? refl refl
+    let kept = c.in-Ok-try_from.ensures.1 ∙ c.len.ensures in
+    prepared old c.args.now texts numbers sifted log (record { kept = c.in-Ok-try_from.kept; skipped = sifted.skipped; indexid = log.indexid }) (c.in_ok-texts.ensures.read tells) are sifts plan kept refl refl
