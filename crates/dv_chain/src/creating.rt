@@ -18,7 +18,7 @@ use dv_shelf::{Name, Shelf};
 use std::alloc::Global;
 
 /// The header of a mailbox's first log file.
-fn first_header(indexid: u32) -> LogHeader
+pub fn first_header(indexid: u32) -> LogHeader
     ensures { result ≡ new_header indexid }
 {
     LogHeader {

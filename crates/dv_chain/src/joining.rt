@@ -15,14 +15,14 @@ use dv_model::{Mark, OpenFault};
 use std::alloc::Global;
 
 /// Whether one number comes next behind another.
-fn is_next(before: u32, number: u32) -> bool
+pub fn is_next(before: u32, number: u32) -> bool
     ensures { result ≡ nat_eq (before + 1) number }
 {
     u64::from(before) + 1 == u64::from(number)
 }
 
 /// Whether the rotated log goes before the log, which names its number and its end.
-pub fn joins(log: &File, rotated: &File) -> bool
+pub fn goes_before(log: &File, rotated: &File) -> bool
     ensures { (spots before : List Spot) →
         result ≡ joins (good_file log.now spots) (good_file rotated.now before) }
 {
@@ -33,7 +33,7 @@ pub fn joins(log: &File, rotated: &File) -> bool
 }
 
 /// Whether a snapshot stands at the end of the file before the log, as the log's header names it.
-fn is_before(log: &File, mark: Mark) -> bool
+pub fn is_before(log: &File, mark: Mark) -> bool
     ensures { result ≡ (nat_eq (mark.file_seq + 1) log.now.header.file_seq
         && nat_eq mark.offset log.now.header.prev_file_offset
         && nat_eq mark.file_seq log.now.header.prev_file_seq) }

@@ -14,5 +14,10 @@ mod sends;
 mod walking;
 
 pub use chain::Chain;
-pub use creating::create;
+pub use creating::{create, first_header};
+pub use file::File;
+pub use index::{Index, read_index};
+pub use joining::{goes_before, is_before, is_next};
+pub use mending::closed;
 pub use opening::open;
+pub use walking::{measure, record_at};

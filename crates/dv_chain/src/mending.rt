@@ -26,7 +26,7 @@ fn is_open(log: &File) -> bool
 }
 
 /// The bytes up to a place, and four zero bytes.
-fn closed(alloc: Global, bytes: &[u8], end: usize) -> Result<Bytes, OpenFault>
+pub fn closed(alloc: Global, bytes: &[u8], end: usize) -> Result<Bytes, OpenFault>
     requires { end ≤ length bytes.now }
     ensures ok { IfOk result (λ text. text ≡ take end bytes.now ++ closing) }
     ensures err { IfErr result (λ e. e ≡ fault.NoMemory) }

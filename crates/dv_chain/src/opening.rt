@@ -12,7 +12,7 @@ ghost use Rattle.dv_chain.specs.Rest.{Nothing, Rests};
 use crate::Chain;
 use crate::file::File;
 use crate::index::{Index, read_index};
-use crate::joining::{join, joins};
+use crate::joining::{goes_before, join};
 use crate::looking::look;
 use crate::mending::mend;
 use dv_apply::Live;
@@ -53,7 +53,7 @@ fn rotated_of(bytes: Bytes, log: &File) -> Result<Option<File>, OpenFault>
 {
     match File::read(bytes) {
         Ok(file) => {
-            if joins(log, &file) {
+            if goes_before(log, &file) {
                 Ok(Some(file))
             } else {
                 Ok(None)

@@ -15,7 +15,7 @@ use dv_model::{OpenFault, Record};
 use std::alloc::Global;
 
 /// The record that begins at a place, and the place behind it; None where the place is closed.
-fn record_at(alloc: Global, b: &[u8], at: usize) -> Result<Option<(Record, usize)>, OpenFault>
+pub fn record_at(alloc: Global, b: &[u8], at: usize) -> Result<Option<(Record, usize)>, OpenFault>
     requires inside { at ≤ length b.now }
     requires fits { at ≤ last_end }
     ensures record_at { IfOk result (λ next. IfSome next (λ x.

@@ -84,8 +84,8 @@ pub fn add_keyword_resets(
     Ok(())
 }
 
-// Adds the records that change one keyword of the messages in these ranges.
-fn add_keyword_update(
+/// Adds the records that change one keyword of the messages in these ranges.
+pub fn add_keyword_update(
     alloc: Global,
     how: How,
     name: &Bytes,

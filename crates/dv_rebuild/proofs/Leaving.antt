@@ -1,0 +1,48 @@
+-- What a rebuild leaves.
+use Rattle.std.proofs.Common.{◌≡◌, ◌⊎◌, inl, inr, ⊎_elim, ℕ, ◌^◌, ◌<◌, ◌≤◌, true, Bool, List, Some, refl, sym, ◌∙◌, ap, subst, arith, Result, Ok, Err}
+use Rattle.std.specs.Prelude.{if◌then◌else◌}
+use Rattle.std.proofs.lemmas.Bool.{leb-true}
+use Rattle.dv_shelf.specs.declared.shelf.Name.TheVariants as name
+use Rattle.dv_shelf.specs.Crashes.{LeavesOnly, Only}
+use Rattle.dv_shelf.specs.Folders.{Folder, with_file}
+use Rattle.dv_shelf.proofs.Moments.{weaker}
+use Rattle.dv_logfile.specs.Layout.{last_end, log_end}
+use Rattle.dv_openings.specs.Rebuilds.{Rebuild, rebuilt_text, records_of}
+use Rattle.dv_chain.specs.Openings.{OnlyLooks}
+use Rattle.dv_chain.proofs.Shelves.{looked_then, settled_still}
+use Rattle.dv_rebuild.specs.declared.fault.RebuildFault.{RebuildFault}
+use Rattle.dv_rebuild.specs.declared.fault.RebuildFault.TheVariants as fault
+use Rattle.dv_rebuild.specs.declared.planning.NewLog.{NewLog}
+use Rattle.dv_rebuild.specs.declared.rebuilding.Rebuilt.{Rebuilt}
+use Rattle.dv_rebuild.specs.Rebuilding.{IsOldOrPut, IsOldOrRebuilt, IsPrepared, IsRebuilt, LeavesPut, LeavesRebuilt, Rebuilds}
+use Rattle.dv_rebuild.proofs.Opens.{rebuilt_opens}
+
+module _ (old : Folder) (now : ℕ) (log : NewLog) (rebuilt : Rebuilt) (is : IsPrepared old now (log, rebuilt)) (clock : now < 2 ^ 32) where
+  abbrev pub put_rebuilds : (new : Folder) → new ≡ with_file old name.Log (Some log.text) → IsRebuilt old now new
+  put_rebuilds new put =
+      let text : new ≡ with_file old name.Log (Some (rebuilt_text is.does)) = put ∙ ap (λ (t : List ℕ). with_file old name.Log (Some t)) is.text in
+      record {
+        does = is.does;
+        is = is.is;
+        fits = is.fits;
+        leaves = text ∙ sym (ap (λ (b : Bool). if b then with_file old name.Log (Some (rebuilt_text is.does)) else old) is.fits);
+        opens = rebuilt_opens old new now is.does is.is clock is.good is.records (leb-true (log_end (records_of is.does)) last_end is.fits) is.left.valid.next_uid.0 is.left.valid.next_uid.1 is.left.small text;
+      }
+
+  pub put_told : (new : Folder) → new ≡ with_file old name.Log (Some log.text) → Rebuilds old now new rebuilt
+  put_told new put = record { made = put_rebuilds new put; tells = is.tells }
+
+  pub either_rebuilt : (new : Folder) → IsOldOrPut old log.text new → IsOldOrRebuilt old now new
+  either_rebuilt new step = ⊎_elim (λ same. inl same) (λ put. inr (put_rebuilds new put)) step
+
+  pub fault_left : (new : Folder) (e : RebuildFault) → LeavesPut old log.text new (Err e) → LeavesRebuilt old now new (Err e)
+  fault_left new fault.NoMemory leaves = absurd leaves
+  fault_left new (fault.Disk n) leaves = either_rebuilt new leaves
+
+module _ {S : Type 0} (files : S → Folder) (may_leave : S → Folder → Type 0) (moment : S → ℕ) (left_since : S → ℕ → Folder → Type 0) where
+  pub rebuilt_since : (old mid new : S) (now : ℕ) (log : NewLog) (rebuilt : Rebuilt) → IsPrepared (files old) now (log, rebuilt) → now < 2 ^ 32 → Only (files old) (may_leave old) → OnlyLooks files may_leave moment left_since old mid
+      → LeavesOnly moment left_since mid new (IsOldOrPut (files mid) log.text) → LeavesOnly moment left_since old new (IsOldOrRebuilt (files old) now)
+  rebuilt_since old mid new now log rebuilt is clock only looks since =
+      looked_then files may_leave moment left_since old mid new (IsOldOrRebuilt (files old) now) only (inl refl) looks
+      (weaker moment left_since mid new (IsOldOrPut (files mid) log.text) (IsOldOrRebuilt (files old) now) since
+      (λ c step. either_rebuilt (files old) now log rebuilt is clock c (subst (λ (d : Folder). IsOldOrPut d log.text c) looks.same step)))

@@ -1,0 +1,10 @@
+pub mod Walks
+pub mod Joins
+pub mod Sorted
+pub mod Plans
+pub mod Noted
+pub mod Kept
+pub mod Fresh
+pub mod Opens
+pub mod Written
+pub mod Leaving

@@ -1,0 +1,202 @@
+//! The new log, made ready before it is written.
+
+ghost use Rattle.std.specs.Prelude.{◌≡◌, ◌≤◌, All, List, None, Option, Some, IfOk, IfSome};
+ghost use Rattle.dv_model.specs.Mailboxes.{IsValid};
+ghost use Rattle.dv_model.specs.Spelling.{IsRecord, IsUid};
+ghost use Rattle.dv_logfile.specs.Layout.{last_end, log_end, log_text};
+ghost use Rattle.dv_logfile.specs.Scans.{GoodLog, Scanned, Spot};
+ghost use Rattle.dv_openings.specs.Openings as openings;
+ghost use Rattle.dv_openings.specs.Openings.{joining};
+ghost use Rattle.dv_openings.specs.Salvages.{rebuilt_records, salvaged_in};
+ghost use Rattle.dv_chain.specs.Files.{HasHeader, HasSpots, IsFileOf, good_file, snapshot_in};
+ghost use Rattle.dv_rebuild.specs.Plans.{AreUsed, HasLogNumbers, IsPlan, Salvages, header_of};
+ghost use Rattle.dv_rebuild.specs.Reading.{IsGoodOf};
+ghost use Rattle.dv_rebuild.specs.Walks.{salvaged_of};
+
+use crate::joining::join;
+use crate::naming::{listed, new_indexid};
+use crate::reading::{Texts, front_in, header_in, index_in, rotated_in};
+use crate::records::rebuilt_records;
+use crate::salvage::{Salvage, nothing, snapshot_alone};
+use dv_chain::{File, Index, first_header, goes_before};
+use dv_logfile::{LogHeader, create};
+use dv_model::{Bytes, List, NoMemory, OpenFault};
+use std::alloc::Global;
+
+/// The most bytes of a file.
+const LONGEST_LOG: usize = 1_073_741_824;
+
+/// The snapshot, where it is of the log's mailbox.
+fn counted(log: &File, index: Option<Index>) -> Option<Index>
+    requires { IfSome index (λ i. IsValid i.mailbox) }
+    ensures valid { IfSome result (λ i. IsValid i.mailbox) }
+    ensures is { (spots : List Spot) → snapshot_in result
+        ≡ openings.counted (good_file log.now spots) (snapshot_in index) }
+{
+    match index {
+        Some(index) => {
+            if index.indexid == log.header.indexid {
+                Some(index)
+            } else {
+                None
+            }
+        }
+        None => None,
+    }
+}
+
+/// The rotated log, where it goes before the log.
+fn joined(log: &File, rotated: Option<File>) -> Option<File>
+    requires { IfSome rotated HasHeader }
+    ensures header { IfSome result HasHeader }
+    ensures is { (spots : List Spot) (scan : Scanned) → IsGoodOf rotated scan →
+        IsFileOf result (joining (good_file log.now spots) scan) }
+{
+    match rotated {
+        Some(first) => {
+            if goes_before(log, &first) {
+                Some(first)
+            } else {
+                None
+            }
+        }
+        None => None,
+    }
+}
+
+/// What is salvaged of a log, of the rotated log where it has no fault, and of a snapshot.
+fn with_log(
+    alloc: Global,
+    log: &File,
+    rotated: Option<File>,
+    index: Option<Index>,
+) -> Result<Salvage, OpenFault>
+    requires log { HasHeader log.now }
+    requires rotated { IfSome rotated HasHeader }
+    requires valid { IfSome index (λ i. IsValid i.mailbox) }
+    ensures { (spots : List Spot) (scan : Scanned) → HasSpots spots log.now →
+        IsGoodOf rotated scan → IfOk result (λ made. salvaged_of made
+        ≡ salvaged_in (Some (good_file log.now spots)) scan (snapshot_in index)) }
+{
+    let first = joined(log, rotated);
+    join(alloc, log, &first, counted(log, index))
+}
+
+/// What is salvaged without a log: the snapshot alone, where there is one.
+fn without_log(alloc: Global, index: Option<Index>) -> Result<Salvage, OpenFault>
+    requires { IfSome index (λ i. IsValid i.mailbox) }
+    ensures { (scan : Scanned) → IfOk result (λ made. salvaged_of made
+        ≡ salvaged_in None scan (snapshot_in index)) }
+{
+    match index {
+        Some(index) => snapshot_alone(alloc, index),
+        None => Ok(nothing(alloc, 0)),
+    }
+}
+
+/// The indexids that the log, the rotated log of these bytes and the snapshot have.
+fn used_in(
+    alloc: Global,
+    log: &Option<File>,
+    rotated: &Option<Bytes>,
+    index: &Option<Index>,
+) -> Result<List<u32>, NoMemory>
+    ensures { (front : Option GoodLog) → IsFileOf log.now front →
+        IfOk result (AreUsed front rotated.now (snapshot_in index.now)) }
+{
+    let of_log = log.as_ref().map(|file| file.header.indexid);
+    let of_rotated = header_in(rotated).map(|header| header.indexid);
+    let of_index = index.as_ref().map(|index| index.indexid);
+    listed(alloc, of_log, of_rotated, of_index)
+}
+
+/// What is salvaged of a log up to its first fault, of a rotated log without one, and of a
+/// snapshot.
+fn from_files(
+    alloc: Global,
+    log: Option<File>,
+    rotated: Option<File>,
+    index: Option<Index>,
+) -> Result<Salvage, OpenFault>
+    requires log { IfSome log HasHeader }
+    requires rotated { IfSome rotated HasHeader }
+    requires valid { IfSome index (λ i. IsValid i.mailbox) }
+    ensures { (front : Option GoodLog) (scan : Scanned) → IsFileOf log front →
+        IsGoodOf rotated scan → IfOk result (λ made. salvaged_of made
+        ≡ salvaged_in front scan (snapshot_in index)) }
+{
+    match log {
+        Some(log) => with_log(alloc, &log, rotated, index),
+        None => without_log(alloc, index),
+    }
+}
+
+/// What is salvaged of a folder's files, and the indexids that they have.
+fn salvage(alloc: Global, texts: Texts) -> Result<(Salvage, List<u32>), OpenFault>
+    ensures { IfOk result (λ x. Salvages texts (salvaged_of x.0) x.1) }
+{
+    let log = front_in(alloc, texts.log)?;
+    let index = index_in(alloc, &texts.index)?;
+    let used = used_in(alloc, &log, &texts.rotated, &index)?;
+    let rotated = rotated_in(texts.rotated)?;
+    let salvage = from_files(alloc, log, rotated, index)?;
+    Ok((salvage, used))
+}
+
+/// The new log's header: the first of its files, whose modification sequences go on.
+fn header(indexid: u32, stamp: u32, highest: u64) -> LogHeader
+    ensures { result ≡ header_of indexid stamp highest }
+{
+    LogHeader {
+        create_stamp: stamp,
+        initial_modseq: highest,
+        ..first_header(indexid)
+    }
+}
+
+/// The new log's text. `NoMemory` is also the answer where it would be too long.
+fn text_of(
+    alloc: Global,
+    salvage: &Salvage,
+    kept: &[u32],
+    indexid: u32,
+    stamp: u32,
+) -> Result<Bytes, NoMemory>
+    requires { All IsUid kept.now }
+    ensures text { IfOk result (λ text. text ≡ log_text
+        (header_of indexid stamp salvage.now.live.mailbox.highest)
+        (rebuilt_records (salvaged_of salvage.now) kept.now indexid)) }
+    ensures fits { IfOk result (λ _.
+        log_end (rebuilt_records (salvaged_of salvage.now) kept.now indexid) ≤ last_end) }
+    ensures records { IfOk result (λ _.
+        All IsRecord (rebuilt_records (salvaged_of salvage.now) kept.now indexid)) }
+    ensures left { IfOk result (λ _. HasLogNumbers salvage.now.live.mailbox) }
+{
+    let records = rebuilt_records(alloc, salvage, kept, indexid)?;
+    let header = header(indexid, stamp, salvage.live.highest());
+    let text = create(alloc, &header, &records)?;
+    if text.len() > LONGEST_LOG {
+        return Err(NoMemory);
+    }
+    Ok(text)
+}
+
+/// A new log: its number and its text.
+#[derive(Drop)]
+pub struct NewLog {
+    pub indexid: u32,
+    pub text: Bytes,
+}
+
+/// The new log of a folder, from the texts of its files, the UIDs that are kept, rising, and a
+/// clock's reading. `NoMemory` is the only error, and also the answer where the log would be too
+/// long.
+pub fn plan(alloc: Global, texts: Texts, kept: &[u32], now: u32) -> Result<NewLog, OpenFault>
+    requires { All IsUid kept.now }
+    ensures { IfOk result (IsPlan texts kept.now now) }
+{
+    let (salvage, used) = salvage(alloc, texts)?;
+    let indexid = new_indexid(used.as_slice(), now);
+    let text = text_of(alloc, &salvage, kept, indexid, now.max(1))?;
+    Ok(NewLog { indexid, text })
+}

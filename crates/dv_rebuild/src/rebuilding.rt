@@ -1,0 +1,123 @@
+//! A damaged folder is rebuilt.
+
+ghost use Rattle.std.specs.Prelude.{◌≡◌, IfOk, OnOk};
+ghost use Rattle.dv_shelf.specs.Causes.{HasCauseOf};
+ghost use Rattle.dv_shelf.specs.Clocks.{behind};
+ghost use Rattle.dv_shelf.specs.Crashes.{IsSettled, LeavesOnly};
+ghost use Rattle.dv_chain.specs.Openings.{OnlyLooks};
+ghost use Rattle.dv_rebuild.specs.Rebuilding.{HasCause, IsOldOrPut, IsOldOrRebuilt, IsPrepared, LeavesPut, LeavesRebuilt};
+
+use crate::RebuildFault;
+use crate::mails::{numbers_of, sift};
+use crate::planning::{NewLog, plan};
+use crate::reading::read_texts;
+use dv_shelf::{Clock, Name, Shelf, ShelfFault};
+use std::alloc::Global;
+
+/// What a rebuild did.
+#[derive(Clone, Copy, PartialEq, Eq, Debug)]
+pub struct Rebuilt {
+    /// How many messages are kept.
+    pub kept: u32,
+    /// How many message files are skipped: their bytes aren't of the format, or their number may
+    /// be no UID.
+    pub skipped: u32,
+    /// The number of the new log.
+    pub indexid: u32,
+}
+
+/// What is to be written, and what will be said of it.
+fn prepare<S: Shelf>(
+    alloc: Global,
+    shelf: &mut S,
+    now: u32,
+) -> Result<(NewLog, Rebuilt), ShelfFault>
+    ensures prepared { S.tells → IfOk result (IsPrepared (S.files shelf.old) now) }
+    // Nothing is changed; a fault of the disk has its cause.
+    ensures looks { S.tells →
+        OnlyLooks S.files S.may_leave S.moment S.left_since shelf.old shelf.new }
+    ensures cause { HasCauseOf ShelfFault.Failed
+        (S.fault_count shelf.old) (S.fault_count shelf.new) result }
+{
+    let texts = read_texts(alloc, shelf)?;
+    let Ok(numbers) = numbers_of(alloc, texts.names.as_slice()) else {
+        return Err(ShelfFault::NoMemory);
+    };
+    let sifted = sift(alloc, shelf, numbers.as_slice())?;
+    let Ok(kept) = u32::try_from(sifted.kept.len()) else {
+        return Err(ShelfFault::NoMemory);
+    };
+    let Ok(log) = plan(alloc, texts, sifted.kept.as_slice(), now) else {
+        return Err(ShelfFault::NoMemory);
+    };
+    let rebuilt = Rebuilt {
+        kept,
+        skipped: sifted.skipped,
+        indexid: log.indexid,
+    };
+    Ok((log, rebuilt))
+}
+
+/// Replaces the log by the new one, which was made ready.
+fn put<S: Shelf>(shelf: &mut S, log: &NewLog) -> Result<(), RebuildFault>
+    ensures files { S.tells →
+        LeavesPut (S.files shelf.old) log.now.text (S.files shelf.new) result }
+    ensures since { S.tells → IsSettled S.files S.may_leave shelf.old →
+        LeavesOnly S.moment S.left_since shelf.old shelf.new
+        (IsOldOrPut (S.files shelf.old) log.now.text) }
+    ensures settled { S.tells → IsSettled S.files S.may_leave shelf.old →
+        OnOk result (IsSettled S.files S.may_leave shelf.new) }
+    ensures cause { HasCause (S.fault_count shelf.old) (S.fault_count shelf.new) result }
+{
+    match shelf.replace(Name::Log, log.text.as_slice()) {
+        Ok(()) => Ok(()),
+        Err(_) => Err(RebuildFault::Disk(shelf.faults())),
+    }
+}
+
+/// Rebuilds the folder at this reading of the clock.
+fn rebuild_at<S: Shelf>(alloc: Global, shelf: &mut S, now: u32) -> Result<Rebuilt, RebuildFault>
+    ensures files { S.tells → LeavesRebuilt (S.files shelf.old) now (S.files shelf.new) result }
+    ensures since { S.tells → IsSettled S.files S.may_leave shelf.old →
+        LeavesOnly S.moment S.left_since shelf.old shelf.new
+        (IsOldOrRebuilt (S.files shelf.old) now) }
+    ensures settled { S.tells → IsSettled S.files S.may_leave shelf.old →
+        OnOk result (IsSettled S.files S.may_leave shelf.new) }
+    ensures cause { HasCause (S.fault_count shelf.old) (S.fault_count shelf.new) result }
+{
+    match prepare(alloc, shelf, now) {
+        Ok((log, rebuilt)) => {
+            put(shelf, &log)?;
+            Ok(rebuilt)
+        }
+        Err(ShelfFault::Failed) => Err(RebuildFault::Disk(shelf.faults())),
+        Err(ShelfFault::NoMemory) => Err(RebuildFault::NoMemory),
+    }
+}
+
+/// Rebuilds a damaged folder, or one that another server made: its message files are kept, and its
+/// log is replaced by a new one that has them, with the flags and keywords that are left in the old
+/// log, the rotated log and the snapshot. Nothing else is written: the old snapshot and the rotated
+/// log, which are of another number, don't count any more. The folder is listed, the log, the
+/// rotated log and the snapshot are read, and then each message file by itself, by rising number.
+pub fn rebuild<S: Shelf, C: Clock>(
+    alloc: Global,
+    shelf: &mut S,
+    clock: &mut C,
+) -> Result<Rebuilt, RebuildFault>
+    // What is left behind Ok, and behind an error.
+    ensures files { S.tells → C.tells → LeavesRebuilt
+        (S.files shelf.old) (C.upcoming clock.old 0) (S.files shelf.new) result }
+    // What a crash leaves, at any moment and behind Ok.
+    ensures since { S.tells → C.tells → IsSettled S.files S.may_leave shelf.old →
+        LeavesOnly S.moment S.left_since shelf.old shelf.new
+        (IsOldOrRebuilt (S.files shelf.old) (C.upcoming clock.old 0)) }
+    ensures settled { S.tells → IsSettled S.files S.may_leave shelf.old →
+        OnOk result (IsSettled S.files S.may_leave shelf.new) }
+    // The clock is read once; a fault of the disk has its cause.
+    ensures clock { C.tells → C.upcoming clock.new ≡ behind (C.upcoming clock.old) 1 }
+    ensures cause { HasCause (S.fault_count shelf.old) (S.fault_count shelf.new) result }
+{
+    let now = clock.now();
+    rebuild_at(alloc, shelf, now)
+}
