@@ -8,8 +8,9 @@ none is given: a file system in memory, and one on a disk) both programs in turn
 messages to a new mailbox and then add a flag to one message after another, 10,000 times; the median
 of five such turns counts. Dovecot runs by itself, without a server, in sdbox format and with
 mail_fsync=always, and its client waits for each answer. This program reads a script and syncs each
-command's group before it answers. Then, in the first directory, 1,000 STOREs and NOOPs over a mailbox
-of 100 messages and one of 100,000.
+command's group before it answers. Then, in the first directory, 2,000 STOREs and 200,000 NOOPs over a
+mailbox of 100 messages and one of 100,000, less what SELECT alone takes, the shortest of nine runs of
+each in turn.
 
 Where Debian's dovecot-imapd isn't installed, or this isn't run as root, Dovecot is left out.
 """
@@ -82,6 +83,7 @@ class Imap:
             [IMAP, "-c", conf],
             stdin=subprocess.PIPE,
             stdout=subprocess.PIPE,
+            stderr=subprocess.DEVNULL,
             env={"HOME": self.place, "USER": "root", "PATH": os.environ["PATH"]},
             bufsize=0,
             user=USER,
@@ -150,24 +152,35 @@ def beside(program, directory):
         print(f"{directory} ratio: APPEND {ratios[0]:.2f}, STORE {ratios[1]:.2f}", flush=True)
 
 
-def over(program, directory, rows, commands):
-    """The seconds of some commands over so many messages, less those of opening alone."""
-    place = tempfile.mkdtemp(prefix="sdbox.", dir=directory)
-    box = os.path.join(place, "box")
-    try:
-        play(program, box, b"a SELECT\n" + b"a APPEND () {0}\n\n" * rows + b"a CHECK\n")
-        alone = statistics.median(play(program, box, b"a SELECT\n") for _ in range(TURNS))
-        all_of = statistics.median(play(program, box, b"a SELECT\n" + commands) for _ in range(TURNS))
-        return all_of - alone
-    finally:
-        shutil.rmtree(place)
+def filled(program, place, rows):
+    """A folder with so many messages, and a snapshot."""
+    box = os.path.join(place, f"box{rows}")
+    play(program, box, b"a SELECT\n" + b"a APPEND () {0}\n\n" * rows + b"a CHECK\n")
+    return box
+
+
+def shortest(program, box, commands):
+    """The seconds of some commands over a folder, less those of SELECT alone."""
+    times = ([], [])
+    for _ in range(9):
+        for kept, script in zip(times, (b"", commands)):
+            kept.append(play(program, box, b"a SELECT\n" + script))
+    return min(times[1]) - min(times[0])
 
 
 def sizes(program, directory):
-    stores = b"".join(b"a STORE %d +FLAGS (k%d)\n" % (i % 100 + 1, i % 7) for i in range(1_000))
-    for name, commands in (("STORE", stores), ("NOOP", b"a NOOP\n" * 1_000)):
-        few, many = (over(program, directory, rows, commands) for rows in (100, 100_000))
-        print(f"1,000 {name} over 100 messages {few:.4f} s, over 100,000 {many:.4f} s", flush=True)
+    """A log is rotated in some of the runs, which the shortest leaves out."""
+    stores = b"".join(
+        b"a STORE %d %sFLAGS (\\Seen)\n" % (i % 100 + 1, b"+-"[i // 100 % 2 :][:1]) for i in range(2_000)
+    )
+    place = tempfile.mkdtemp(prefix="sdbox.", dir=directory)
+    try:
+        boxes = [filled(program, place, rows) for rows in (100, 100_000)]
+        for name, commands in (("2,000 STORE", stores), ("200,000 NOOP", b"a NOOP\n" * 200_000)):
+            few, many = (shortest(program, box, commands) for box in boxes)
+            print(f"{name} over 100 messages {few:.4f} s, over 100,000 {many:.4f} s", flush=True)
+    finally:
+        shutil.rmtree(place)
 
 
 def main():
