@@ -91,12 +91,11 @@ fn obeyed(rt: HostRuntime, words: &[&str]) -> Result<(u8, MemSink, MemSink), Fai
 
 /// The number at a place of a file.
 fn number_at(bytes: &[u8], at: usize) -> u64 {
-    let mut number = 0;
-    for k in 0..4 {
-        let byte = bytes.get(at.wrapping_add(k)).copied().unwrap_or(0);
-        number += u64::from(byte) << (8 * k as u32);
+    let (_, rest) = bytes.split_at(at.min(bytes.len()));
+    match rest {
+        [a, b, c, d, ..] => u64::from(u32::from_le_bytes([*a, *b, *c, *d])),
+        _ => 0,
     }
-    number
 }
 
 #[test]

@@ -543,10 +543,10 @@ fn is_text(alloc: Global, output: &[u8], row: &Row) -> Result<bool, Fail> {
     for part in row.text {
         text.extend(part.as_bytes())?;
     }
-    if row.text[0].is_empty() {
-        return Ok(output.ends_with(text.as_slice()));
+    match row.text {
+        [first, ..] if first.is_empty() => Ok(output.ends_with(text.as_slice())),
+        _ => Ok(output == text.as_slice()),
     }
-    Ok(output == text.as_slice())
 }
 
 fn play_row(rt: &impl Abort, alloc: Global, row: &Row) -> Result<(), Fail> {
