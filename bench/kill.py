@@ -1,13 +1,13 @@
 #!/usr/bin/env python3
 """Kills the built program at random moments, and looks for each message that it had acknowledged.
 
-Usage: bench/kill.py PROGRAM OPENER [TIMES [DIRECTORY]]
+Usage: bench/kill.py PROGRAM [TIMES [DIRECTORY]]
 
-PROGRAM is the built binary crates/dv_cli/out/dv_cli, and OPENER crates/dv_opening_times/out/dv_opening_times.
-Each run appends to a new folder in DIRECTORY, or in the system's place for temporary files, until it is
-killed by SIGKILL. What OPENER then finds in the folder is to be each message that a whole line of the
-output acknowledges, and at most one more. A killed process loses nothing that the system has taken, so
-this shows the order of the program's calls and not the disk's.
+PROGRAM is the built binary crates/dv_cli/out/dv_cli. Each run appends to a new folder in DIRECTORY, or
+in the system's place for temporary files, until it is killed by SIGKILL. What the next run finds in the
+folder is to be each message that a whole line of the output acknowledges, with its bytes, and at most
+one more. A killed process loses nothing that the system has taken, so this shows the order of the
+program's calls and not the disk's.
 """
 
 import random
@@ -19,7 +19,7 @@ import time
 from pathlib import Path
 
 APPENDS = 2_000
-SCRIPT = ("a SELECT\n" + "a APPEND ()\n" * APPENDS).encode()
+SCRIPT = ("a SELECT\n" + "a APPEND () {5}\nhello\n" * APPENDS).encode()
 
 
 def start(program, place):
@@ -35,28 +35,27 @@ def acknowledged(place):
     return sum(b" OK [APPENDUID " in line for line in lines)
 
 
-def found(opener, place):
-    """How many messages the folder has; none where it has no log yet."""
-    if not (place / "box" / "dovecot.index.log").exists():
-        return 0
-    said = subprocess.run([opener, place / "box"], capture_output=True, check=True).stdout.decode()
-    rows = re.search(r" (\d+) rows, ", said)
-    if not rows:
-        sys.exit(f"the folder isn't opened: {said.strip()}")
-    return int(rows[1])
+def found(program, place):
+    """How many messages the next run finds, with their bytes."""
+    script = b"a SELECT\na UID FETCH 1:* (BODY[])\n"
+    said = subprocess.run([program, place / "box", "run"], input=script, capture_output=True, check=True).stdout
+    rows = int(re.search(rb"^a \* (\d+) EXISTS", said)[1])
+    if said.count(b" BODY[] {5}\nhello)\n") != rows:
+        sys.exit("a message has lost its bytes")
+    return rows
 
 
 def main():
-    if not 3 <= len(sys.argv) <= 5:
+    if not 2 <= len(sys.argv) <= 4:
         sys.exit(__doc__)
-    program, opener = (Path(word).resolve() for word in sys.argv[1:3])
-    times = int(sys.argv[3]) if len(sys.argv) > 3 else 300
-    directory = sys.argv[4] if len(sys.argv) > 4 else None
+    program = Path(sys.argv[1]).resolve()
+    times = int(sys.argv[2]) if len(sys.argv) > 2 else 300
+    directory = sys.argv[3] if len(sys.argv) > 3 else None
     with tempfile.TemporaryDirectory(dir=directory) as folder:
         before = time.perf_counter()
         start(program, Path(folder)).wait()
         whole = time.perf_counter() - before
-        if acknowledged(Path(folder)) != APPENDS or found(opener, Path(folder)) != APPENDS:
+        if acknowledged(Path(folder)) != APPENDS or found(program, Path(folder)) != APPENDS:
             sys.exit("a whole run doesn't keep all messages")
     killed = further = 0
     for _ in range(times):
@@ -66,7 +65,7 @@ def main():
             time.sleep(random.uniform(0, whole))
             run.kill()
             killed += run.wait() != 0
-            told, kept = acknowledged(place), found(opener, place)
+            told, kept = acknowledged(place), found(program, place)
             if not told <= kept <= told + 1:
                 sys.exit(f"{told} messages acknowledged, {kept} found")
             further += kept - told
