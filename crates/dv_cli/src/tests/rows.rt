@@ -62,7 +62,7 @@ const ONE_SHOWN: &str = "a * 1 EXISTS\na * OK [UIDVALIDITY 1000]\na * OK [UIDNEX
 const SEEN_SELECTED: &str = "a * 1 EXISTS\na * OK [UIDVALIDITY 1000]\na * OK [UIDNEXT 2]\n\
     a * 1 FETCH (UID 1 FLAGS (\\Seen))\na OK [MARK 1:92] SELECT\n";
 
-const ROWS: &[Row] = &[
+const EMPTY: &[Row] = &[
     Row {
         files: NEW,
         fails: &[],
@@ -96,6 +96,9 @@ const ROWS: &[Row] = &[
             "END 0 MARK 1:152 GROUPS 3\n",
         ],
     },
+];
+
+const EXPUNGED: &[Row] = &[
     // expunged numbers fall from the highest
     Row {
         files: NEW,
@@ -142,6 +145,9 @@ const ROWS: &[Row] = &[
             "b NO [EXPUNGEISSUED] UID 1 MARK 1:100\nEND 0 MARK 1:100 GROUPS 2\n",
         ],
     },
+];
+
+const UNTOLD: &[Row] = &[
     // a row that a session wasn't told of is passed over by its STORE
     Row {
         files: NEW,
@@ -186,6 +192,9 @@ const ROWS: &[Row] = &[
             "END 0 MARK 1:76 GROUPS 1\n",
         ],
     },
+];
+
+const FAILED: &[Row] = &[
     // a failed write is undone by the next
     Row {
         files: NEW,
@@ -213,6 +222,9 @@ const ROWS: &[Row] = &[
             "END 0 MARK 1:72 GROUPS 1\n",
         ],
     },
+];
+
+const LOGS: &[Row] = &[
     // a log without the four bytes behind its end
     Row {
         files: &[(
@@ -256,6 +268,9 @@ const ROWS: &[Row] = &[
             "END 0 MARK 1:120 GROUPS 0\n",
         ],
     },
+];
+
+const MESSAGES: &[Row] = &[
     // a snapshot with the cache
     Row {
         files: ONE_SEEN,
@@ -294,6 +309,9 @@ const ROWS: &[Row] = &[
             "END 0 MARK 1:72 GROUPS 0\n",
         ],
     },
+];
+
+const NUMBERS: &[Row] = &[
     // numbers that aren't there
     Row {
         files: NEW,
@@ -333,6 +351,9 @@ const ROWS: &[Row] = &[
             "END 0 MARK 1:112 GROUPS 1\n",
         ],
     },
+];
+
+const DAMAGED: &[Row] = &[
     // folders that aren't opened
     Row {
         files: &[(Name::Mail(1), &[FIRST_FILE])],
@@ -369,6 +390,9 @@ const ROWS: &[Row] = &[
         status: 3,
         text: &["FAULT 3 BadLogHeader\n"],
     },
+];
+
+const BEHIND: &[Row] = &[
     Row {
         files: &[(
             Name::Log,
@@ -415,6 +439,9 @@ const ROWS: &[Row] = &[
         status: 3,
         text: &["FAULT 3 BadIndex\n"],
     },
+];
+
+const RECORDS: &[Row] = &[
     // a UID that was given before
     Row {
         files: &[(Name::Log, &[HEADER, VALIDITY, APPEND, APPEND, CLOSED])],
@@ -454,6 +481,9 @@ const ROWS: &[Row] = &[
         status: 3,
         text: &["FAULT 3 BadRecord 56\n"],
     },
+];
+
+const INDEXES: &[Row] = &[
     // a UID of 0
     Row {
         files: &[(
@@ -492,6 +522,9 @@ const ROWS: &[Row] = &[
         status: 0,
         text: &[SELECTED, "END 0 MARK 1:56 GROUPS 0\n"],
     },
+];
+
+const ENDS: &[Row] = &[
     // the first call fails
     Row {
         files: NEW,
@@ -564,10 +597,69 @@ fn play_row(rt: &impl Abort, alloc: Global, row: &Row) -> Result<(), Fail> {
     Ok(())
 }
 
-#[test]
-fn each_script_is_answered(rt: HostRuntime) -> Result<(), Fail> {
-    for row in ROWS {
-        play_row(&rt, rt.alloc(), row)?;
+fn play_rows(rt: &impl Abort, alloc: Global, rows: &[Row]) -> Result<(), Fail> {
+    for row in rows {
+        play_row(rt, alloc, row)?;
     }
     Ok(())
+}
+
+#[test]
+fn session_reads_what_it_wrote(rt: HostRuntime) -> Result<(), Fail> {
+    play_rows(&rt, rt.alloc(), EMPTY)
+}
+
+#[test]
+fn expunges_are_told_where_numbers_may_change(rt: HostRuntime) -> Result<(), Fail> {
+    play_rows(&rt, rt.alloc(), EXPUNGED)
+}
+
+#[test]
+fn rows_that_were_not_told_are_passed_over(rt: HostRuntime) -> Result<(), Fail> {
+    play_rows(&rt, rt.alloc(), UNTOLD)
+}
+
+#[test]
+fn failed_write_is_undone_by_the_next(rt: HostRuntime) -> Result<(), Fail> {
+    play_rows(&rt, rt.alloc(), FAILED)
+}
+
+#[test]
+fn log_that_others_wrote_is_read(rt: HostRuntime) -> Result<(), Fail> {
+    play_rows(&rt, rt.alloc(), LOGS)
+}
+
+#[test]
+fn messages_are_read_from_cache_and_files(rt: HostRuntime) -> Result<(), Fail> {
+    play_rows(&rt, rt.alloc(), MESSAGES)
+}
+
+#[test]
+fn missing_numbers_and_old_sequences_are_refused(rt: HostRuntime) -> Result<(), Fail> {
+    play_rows(&rt, rt.alloc(), NUMBERS)
+}
+
+#[test]
+fn folder_without_a_good_log_is_not_opened(rt: HostRuntime) -> Result<(), Fail> {
+    play_rows(&rt, rt.alloc(), DAMAGED)
+}
+
+#[test]
+fn log_that_follows_nothing_is_not_opened(rt: HostRuntime) -> Result<(), Fail> {
+    play_rows(&rt, rt.alloc(), BEHIND)
+}
+
+#[test]
+fn damaged_records_are_named(rt: HostRuntime) -> Result<(), Fail> {
+    play_rows(&rt, rt.alloc(), RECORDS)
+}
+
+#[test]
+fn snapshot_that_is_none_counts_as_none(rt: HostRuntime) -> Result<(), Fail> {
+    play_rows(&rt, rt.alloc(), INDEXES)
+}
+
+#[test]
+fn failed_calls_and_bad_scripts_end_a_run(rt: HostRuntime) -> Result<(), Fail> {
+    play_rows(&rt, rt.alloc(), ENDS)
 }
