@@ -10,7 +10,7 @@ first=${1:-1}
 last=${2:-1000}
 place=$(mktemp -d /dev/shm/refused.XXXXXX)
 trap 'rm -rf "$place"' EXIT
-printf 'a SELECT\na APPEND ()\na APPEND ()\na NOOP\n' > "$place/script"
+printf 'a SELECT\na APPEND () {0}\n\na APPEND () {0}\n\na NOOP\n' > "$place/script"
 
 # How many records the log has, or an error where it isn't whole: a header of 40 bytes, records
 # whose first four bytes are a size of 7 bits a byte times 4, and four zero bytes at the end.
