@@ -17,8 +17,10 @@ pub mod Results
 pub mod Flags
 pub mod Numbering
 pub mod Servable
+pub mod Generated
 pub mod Turns
 pub mod Looking
 pub mod Served
 pub mod Running
 pub mod Untouched
+pub mod NextRuns

@@ -12,7 +12,7 @@ use Rattle.dv_script.specs.Sources.{IsOf, all_named, named}
 use Rattle.dv_serial.specs.Serves.{IsServable}
 use Rattle.dv_serial.proofs.Flags.{flags_fit}
 
-abbrev IsFine : NamedLine → Type 0
+abbrev pub IsFine : NamedLine → Type 0
 IsFine line = IsServable line.1
 
 -- ---- one line
@@ -88,13 +88,14 @@ pub script_servable : (lines : List NamedLine) (b : List ℕ) → IsScript lines
     → All (λ (line : NamedLine). IsServable line.1) lines
 script_servable lines b is = subst (All IsFine) (sym is.are) (pieces_are is.pieces is.each)
 
+-- and so it is with the lines as the program has them
+pub of_named : (lines : List Line) → All IsFine (all_named lines)
+    → All (λ (line : Line). IsServable line.command) lines
+of_named [] all = All-nil (λ (line : Line). IsServable line.command)
+of_named (line ∷ lines) all =
+    All-cons (λ (line : Line). IsServable line.command) line lines (All-head IsFine (named line) (all_named lines) all) (of_named lines (All-tail IsFine (named line) (all_named lines) all))
+
 pub lines_servable : (result : Result (List Line) ScriptEnd) (b : List ℕ) → IsOf result b
     → IfOk result (λ lines. All (λ (line : Line). IsServable line.command) lines)
 lines_servable (Err e) b is = tt
 lines_servable (Ok lines) b is = of_named lines (script_servable (all_named lines) b is)
-  where
-    of_named : (ls : List Line) → All IsFine (all_named ls)
-        → All (λ (line : Line). IsServable line.command) ls
-    of_named [] all = All-nil (λ (line : Line). IsServable line.command)
-    of_named (line ∷ ls) all =
-        All-cons (λ (line : Line). IsServable line.command) line ls (All-head IsFine (named line) (all_named ls) all) (of_named ls (All-tail IsFine (named line) (all_named ls) all))

@@ -9,3 +9,4 @@ pub mod Runs
 pub mod Numbering
 pub mod Laws
 pub mod Others
+pub mod NextRuns

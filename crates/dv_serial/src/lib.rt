@@ -8,10 +8,12 @@ mod reading;
 mod seats;
 mod serial;
 mod serving;
+mod sinks;
 mod told;
 
-pub use laws::commands_are_servable;
+pub use laws::{commands_are_servable, generated_are_servable, next_runs_begin};
 pub use lines::LineEnd;
 pub use numbers::{Numbered, Turn, number_lines};
 pub use seats::new_seats;
 pub use serial::Serial;
+pub use sinks::NullSink;

@@ -78,6 +78,20 @@ impl<S, C> Serial<S, C> {
         self.journal.len()
     }
 
+    /// How many messages the mailbox has. Takes no memory.
+    pub fn message_count(&self) -> u32
+        ensures { result ≡ length self.now.store.chain.live.mailbox.rows }
+    {
+        self.store.live().count()
+    }
+
+    /// The UID that the next message will have (RFC 3501, section 2.3.1.1). Takes no memory.
+    pub fn next_uid(&self) -> u32
+        ensures { result ≡ self.now.store.chain.live.mailbox.next_uid }
+    {
+        self.store.live().next_uid()
+    }
+
     /// The folder, the clock, and the groups that were written, each with the number of its
     /// session.
     pub fn parts(self) -> (S, C, List<Entry>)
