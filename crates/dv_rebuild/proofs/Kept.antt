@@ -1,11 +1,11 @@
 -- The records of a rebuilt log give the kept messages.
-use Rattle.std.proofs.Common.{◌≡◌, ℕ, zero, suc, ◌+◌, ◌-◌, ◌*◌, ◌/◌, ◌^◌, ◌<◌, ◌≤◌, max, min, true, false, Bool, nat_eq, List, [], ◌∷◌, ◌++◌, length, map, take, drop, Option, Some, None, refl, sym, ◌∙◌, ap, subst, arith, append_assoc}
-use Rattle.std.specs.Prelude.{if◌then◌else◌, option_and_then, option_map, fold, flat_map, nat_lt, cond, filter}
+use Rattle.std.proofs.Common.{◌≡◌, ℕ, zero, suc, ◌+◌, ◌-◌, ◌*◌, ◌/◌, ◌^◌, ◌<◌, ◌≤◌, max, true, false, Bool, List, [], ◌∷◌, ◌++◌, length, map, take, drop, Option, Some, None, refl, sym, ◌∙◌, ap, subst, arith, append_assoc}
+use Rattle.std.specs.Prelude.{if◌then◌else◌, option_and_then, option_map, fold, flat_map, filter}
 use Rattle.std.specs.List.{enumerate_from, list_any}
 use Rattle.std.specs.List.Sorted.{IsStrictlyIncreasing}
 use Rattle.std.specs.Int.{w32, to_le_bytes, from_le_bytes}
 use Rattle.std.proofs.lemmas.Bool.{le-ltb}
-use Rattle.std.proofs.lemmas.List.{append-nil, take-append-drop, length-drop, length-take}
+use Rattle.std.proofs.lemmas.List.{append-nil, take-append-drop, length-drop}
 use Rattle.std.proofs.lemmas.Nat.{from_le_bytes-to_le_bytes_4}
 use Rattle.dv_model.specs.declared.types.Body.TheVariants as body
 use Rattle.dv_model.specs.declared.types.How.TheVariants.{Add}
@@ -14,10 +14,10 @@ use Rattle.dv_model.specs.declared.types.NewRow.{NewRow}
 use Rattle.dv_model.specs.declared.types.Pair.{Pair}
 use Rattle.dv_model.specs.declared.types.Record.{Record}
 use Rattle.dv_model.specs.declared.types.Row.{Row}
-use Rattle.dv_model.specs.Effects.{after_record, applied, effect, fresh_row, is_as_before, is_in_pairs, keywords_after, place_of, stamped, stamped_row, with_changed, with_higher, with_keyword, with_keywords, with_name, with_named, with_row, with_rows}
+use Rattle.dv_model.specs.Effects.{after_record, applied, fresh_row, is_as_before, is_in_pairs, keywords_after, place_of, stamped, stamped_row, with_higher, with_keyword, with_keywords, with_named, with_row, with_rows}
 use Rattle.dv_model.proofs.Clients.{rising_tail}
 use Rattle.dv_model.proofs.Transcripts.{applied_append}
-use Rattle.dv_model.specs.Sessions.{external_record, first_pieces, keyword_updates, piece_size, pieces, ranges_of}
+use Rattle.dv_model.specs.Sessions.{external_record, first_pieces, piece_size, pieces, ranges_of}
 use Rattle.dv_openings.specs.Salvages.{Salvaged, has_keyword, header_record, keyword_records, kept_row, rebuilt_records}
 
 -- ---- UIDs and flags
@@ -95,7 +95,7 @@ pub record Has (m : Mailbox) (rows : List NewRow) (validity next : ℕ) : Type 0
   pub next_is : m.next_uid ≡ next
 
 -- an append of rows
-abbrev append_of : List NewRow → Record
+abbrev pub append_of : List NewRow → Record
 append_of rows = external_record (body.Append rows)
 
 one_after : (m n : Mailbox) (r : Record) → after_record m r ≡ Some n → applied m (r ∷ []) ≡ Some n

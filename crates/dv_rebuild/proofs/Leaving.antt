@@ -1,5 +1,5 @@
 -- What a rebuild leaves.
-use Rattle.std.proofs.Common.{◌≡◌, ◌⊎◌, inl, inr, ⊎_elim, ℕ, ◌^◌, ◌<◌, ◌≤◌, true, Bool, List, Some, refl, sym, ◌∙◌, ap, subst, arith, Result, Ok, Err}
+use Rattle.std.proofs.Common.{◌≡◌, inl, inr, ⊎_elim, ℕ, ◌^◌, ◌<◌, Bool, List, Some, refl, sym, ◌∙◌, ap, subst, Err}
 use Rattle.std.specs.Prelude.{if◌then◌else◌}
 use Rattle.std.proofs.lemmas.Bool.{leb-true}
 use Rattle.dv_shelf.specs.declared.shelf.Name.TheVariants as name
@@ -7,9 +7,9 @@ use Rattle.dv_shelf.specs.Crashes.{LeavesOnly, Only}
 use Rattle.dv_shelf.specs.Folders.{Folder, with_file}
 use Rattle.dv_shelf.proofs.Moments.{weaker}
 use Rattle.dv_logfile.specs.Layout.{last_end, log_end}
-use Rattle.dv_openings.specs.Rebuilds.{Rebuild, rebuilt_text, records_of}
+use Rattle.dv_openings.specs.Rebuilds.{rebuilt_text, records_of}
 use Rattle.dv_chain.specs.Openings.{OnlyLooks}
-use Rattle.dv_chain.proofs.Shelves.{looked_then, settled_still}
+use Rattle.dv_chain.proofs.Shelves.{looked_then}
 use Rattle.dv_rebuild.specs.declared.fault.RebuildFault.{RebuildFault}
 use Rattle.dv_rebuild.specs.declared.fault.RebuildFault.TheVariants as fault
 use Rattle.dv_rebuild.specs.declared.planning.NewLog.{NewLog}
@@ -26,7 +26,7 @@ module _ (old : Folder) (now : ℕ) (log : NewLog) (rebuilt : Rebuilt) (is : IsP
         is = is.is;
         fits = is.fits;
         leaves = text ∙ sym (ap (λ (b : Bool). if b then with_file old name.Log (Some (rebuilt_text is.does)) else old) is.fits);
-        opens = rebuilt_opens old new now is.does is.is clock is.good is.records (leb-true (log_end (records_of is.does)) last_end is.fits) is.left.valid.next_uid.0 is.left.valid.next_uid.1 is.left.small text;
+        opens = rebuilt_opens old new now is.does is.is clock is.good is.records (leb-true (log_end (records_of is.does)) last_end is.fits) is.left text;
       }
 
   pub put_told : (new : Folder) → new ≡ with_file old name.Log (Some log.text) → Rebuilds old now new rebuilt

@@ -4,6 +4,7 @@ pub mod Sorted
 pub mod Plans
 pub mod Noted
 pub mod Kept
+pub mod Named
 pub mod Fresh
 pub mod Opens
 pub mod Written

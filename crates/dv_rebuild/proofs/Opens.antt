@@ -1,12 +1,13 @@
 -- What opening finds in a rebuilt folder.
-use Rattle.std.proofs.Common.{◌≡◌, ◌≢◌, ℕ, ◌+◌, ◌^◌, ◌<◌, ◌≤◌, max, true, false, Bool, ◌&&◌, nat_eq, nat_le, List, [], ◌∷◌, ◌++◌, All, length, map, Option, Some, None, refl, sym, ◌∙◌, ap, subst, arith}
+use Rattle.std.proofs.Common.{◌≡◌, ◌≢◌, ℕ, ◌+◌, ◌^◌, ◌<◌, ◌≤◌, true, false, Bool, ◌&&◌, nat_eq, nat_le, List, [], ◌∷◌, ◌++◌, All, length, map, Option, Some, None, refl, sym, ◌∙◌, ap, subst, arith}
 use Rattle.std.specs.Prelude.{if◌then◌else◌, ◌||◌, is_some, filter, option_map}
 use Rattle.std.specs.List.{list_any}
 use Rattle.std.specs.List.Sorted.{IsStrictlyIncreasing}
-use Rattle.std.proofs.lemmas.Bool.{eqb-true, eqb-false, leb-true, ne_eqb}
+use Rattle.std.proofs.lemmas.Bool.{eqb-false, leb-true, ne_eqb}
+use Rattle.std.proofs.lemmas.List.Elements.{All-nil}
 use Rattle.std.proofs.lemmas.List.Kept.{IsStrictlyIncreasing-filter}
+use Rattle.dv_model.specs.declared.types.Extension.{Extension}
 use Rattle.dv_model.specs.declared.types.Mailbox.{Mailbox}
-use Rattle.dv_model.specs.declared.types.NewRow.{NewRow}
 use Rattle.dv_model.specs.declared.types.Record.{Record}
 use Rattle.dv_model.specs.Effects.{applied}
 use Rattle.dv_model.specs.Mailboxes.{empty_mailbox}
@@ -18,13 +19,16 @@ use Rattle.dv_logfile.specs.declared.header.LogHeader.{LogHeader}
 use Rattle.dv_logfile.specs.Layout.{IsGoodHeader, last_end, log_end}
 use Rattle.dv_logfile.specs.Scans.{BadHeader, BadSpot, Good, GoodLog, IsScanned, Missing, Scanned, Spot, spots_of}
 use Rattle.dv_logfile.proofs.Spots.{written_good}
-use Rattle.dv_openings.specs.Openings.{Finds, Found, Gives, IsFound, IsIndex, Snapshot, at_end, counted, file_applied, from_either, joining, joins, raised}
+use Rattle.dv_openings.specs.Openings.{Gives, IsIndex, Snapshot, at_end, counted, file_applied, from_either, joining, raised}
 use Rattle.dv_openings.specs.Rebuilds.{IsRebuild, Rebuild, as_list, is_kept, last_uid, new_indexid, rebuilt_header, rebuilt_text, records_of, stamp_of, used_indexids}
+use Rattle.dv_openings.specs.TrueCaches.{HasTrueCache, look_in}
 use Rattle.dv_chain.proofs.Joins.{nothing_first}
 use Rattle.dv_chain.proofs.Spots.{spots_give}
-use Rattle.dv_rebuild.specs.Rebuilding.{HasKept, OpensTo}
+use Rattle.dv_rebuild.specs.Plans.{HasLogNumbers}
+use Rattle.dv_rebuild.specs.Rebuilding.{OpensTo}
 use Rattle.dv_rebuild.proofs.Fresh.{not_used}
 use Rattle.dv_rebuild.proofs.Kept.{Gives as KeptGives, Uids, records_give}
+use Rattle.dv_rebuild.proofs.Named.{IsUnmarked, kept_named, still_bare}
 
 -- ---- the number is no other file's
 
@@ -98,11 +102,19 @@ kept_are_uids folder (n ∷ ns) = by_test (is_kept folder n) refl (kept_are_uids
         ((leb-true 1 n parts.0, leb-true n last_uid parts.1), others)
     by_test false e others = others
 
+-- ---- the cache
+
+-- without extensions nothing is looked up in it
+bare_true : (folder : Folder) (indexid : ℕ) (m : Mailbox) → m.extensions ≡ [] → HasTrueCache folder indexid m
+bare_true folder indexid m bare row cached here is =
+    let nothing : None ≡ Some is.look = sym (ap (λ (es : List Extension). look_in es row.parts) bare) ∙ is.asked in
+    absurd cc
+
 -- ---- the folder
 
 -- The folder's log is the rebuilt one, and its other files are looked at.
 module _ (r : Rebuild) (good : IsGoodHeader (rebuilt_header r)) (all : All IsRecord (records_of r)) (fits : log_end (records_of r) ≤ last_end)
-    (some : 1 ≤ r.salvaged.mailbox.next_uid) (below : r.salvaged.mailbox.next_uid < 2 ^ 32) (small : r.salvaged.mailbox.uid_validity < 2 ^ 32)
+    (left : HasLogNumbers r.salvaged.mailbox)
     (up : IsStrictlyIncreasing r.kept) (uids : Uids r.kept) where
   written : (places : List ℕ) × (length places ≡ length (records_of r)) × IsScanned (Some (rebuilt_text r)) (Good (record { header = rebuilt_header r; spots = spots_of places (records_of r); end = log_end (records_of r) }))
   written = written_good (rebuilt_header r) (records_of r) good all fits
@@ -114,20 +126,28 @@ module _ (r : Rebuild) (good : IsGoodHeader (rebuilt_header r)) (all : All IsRec
   start = raised (rebuilt_header r) (empty_mailbox r.indexid)
 
   validity_small : (b : Bool) → (if b then r.salvaged.mailbox.uid_validity else r.indexid) < 2 ^ 32
-  validity_small true = small
+  validity_small true = left.small
   validity_small false = good.wide.numbers.0
 
   gives : KeptGives r.salvaged r.kept r.indexid start
-  gives = records_give r.salvaged r.kept r.indexid start refl refl some up uids (validity_small r.salvaged.given) below
+  gives = records_give r.salvaged r.kept r.indexid start refl refl left.valid.next_uid.0 up uids (validity_small r.salvaged.given) left.valid.next_uid.1
 
   applies : file_applied file (empty_mailbox r.indexid) ≡ Gives gives.after
   applies = spots_give start gives.after file.spots (ap (applied start) (records_of_spots written.0 (records_of r) written.1) ∙ gives.is)
+
+  unmarked : IsUnmarked start
+  unmarked = record { table_is = refl; rows = All-nil (λ row. row.keywords ≡ []); bare = refl }
 
   pub opens_to : (new : Folder) (rotated : Scanned) (index : Option Snapshot) → new name.Log ≡ Some (rebuilt_text r) → IsScanned (new name.Log2) rotated → IsIndex (new name.Index) index
       → ((s : Snapshot) → index ≡ Some s → r.indexid ≢ s.indexid) → OpensTo r new
   opens_to new rotated index here rotated_file index_file other = record {
     mailbox = gives.after;
-    has = record { rows = gives.has.rows_are; uid_validity = gives.has.validity_is; next_uid = gives.has.next_is };
+    has = record {
+      rows = gives.has.rows_are;
+      keywords = kept_named r.salvaged r.kept r.indexid start gives.after left.valid gives.is unmarked gives.has.rows_are;
+      uid_validity = gives.has.validity_is;
+      next_uid = gives.has.next_is;
+    };
     found = record {
       log = Good file;
       rotated = rotated;
@@ -142,19 +162,20 @@ module _ (r : Rebuild) (good : IsGoodHeader (rebuilt_header r)) (all : All IsRec
           ∙ ap (at_end file) applies
           );
     };
+    cache = λ indexid. bare_true new indexid gives.after (still_bare r.salvaged r.kept r.indexid start gives.after left.valid gives.is unmarked);
   }
 
 -- behind the replace
 pub rebuilt_opens : (old new : Folder) (now : ℕ) (r : Rebuild) → IsRebuild old now r → now < 2 ^ 32 → IsGoodHeader (rebuilt_header r) → All IsRecord (records_of r) → log_end (records_of r) ≤ last_end
-    → 1 ≤ r.salvaged.mailbox.next_uid → r.salvaged.mailbox.next_uid < 2 ^ 32 → r.salvaged.mailbox.uid_validity < 2 ^ 32 → new ≡ with_file old name.Log (Some (rebuilt_text r)) → OpensTo r new
-rebuilt_opens old new now r is clock good all fits some below small put =
+    → HasLogNumbers r.salvaged.mailbox → new ≡ with_file old name.Log (Some (rebuilt_text r)) → OpensTo r new
+rebuilt_opens old new now r is clock good all fits left put =
     let file = Some (rebuilt_text r) in
     let kept : List ℕ = filter (is_kept old) is.numbers in
     let up : IsStrictlyIncreasing r.kept = subst IsStrictlyIncreasing (sym is.keeps) (IsStrictlyIncreasing-filter (is_kept old) is.numbers is.mails.rise) in
     let uids : Uids r.kept = subst Uids (sym is.keeps) (kept_are_uids old is.numbers) in
     let log2 : new name.Log2 ≡ old name.Log2 = ap (λ (d : Folder). d name.Log2) put ∙ with_else old name.Log file name.Log2 (λ e. cc) in
     let index : new name.Index ≡ old name.Index = ap (λ (d : Folder). d name.Index) put ∙ with_else old name.Log file name.Index (λ e. cc) in
-    opens_to r good all fits some below small up uids new is.salvages.rotated is.salvages.index (ap (λ (d : Folder). d name.Log) put ∙ with_here old name.Log file)
+    opens_to r good all fits left up uids new is.salvages.rotated is.salvages.index (ap (λ (d : Folder). d name.Log) put ∙ with_here old name.Log file)
     (subst (λ (x : Option (List ℕ)). IsScanned x is.salvages.rotated) (sym log2) is.salvages.rotated_file)
     (subst (λ (x : Option (List ℕ)). IsIndex x is.salvages.index) (sym index) is.salvages.index_file)
     (λ s there e. fresh is.salvages.log is.rotated s now clock (sym (is.named ∙ ap (λ (x : Option Snapshot). new_indexid (used_indexids is.salvages.log is.rotated x) now) there) ∙ e))

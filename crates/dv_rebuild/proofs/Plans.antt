@@ -1,5 +1,5 @@
 -- The new log, made ready.
-use Rattle.std.proofs.Common.{◌≡◌, ◌⊎◌, inl, inr, ℕ, zero, suc, ◌+◌, ◌^◌, ◌<◌, ◌≤◌, max, true, false, Bool, List, [], ◌∷◌, ◌++◌, All, length, take, drop, nat_eq, nat_le, Option, Some, None, refl, sym, ◌∙◌, ap, subst, arith}
+use Rattle.std.proofs.Common.{◌≡◌, inl, inr, ℕ, zero, suc, ◌+◌, ◌<◌, ◌≤◌, true, false, Bool, List, [], ◌∷◌, ◌++◌, length, take, drop, nat_eq, Option, Some, None, refl, sym, ◌∙◌, ap, subst, arith}
 use Rattle.std.specs.Prelude.{if◌then◌else◌, option_map, IfOk, IfSome, IsNone, Result, Ok, Err}
 use Rattle.std.specs.List.{list_any}
 use Rattle.std.proofs.lemmas.Bool.{le-leb}
@@ -7,18 +7,16 @@ use Rattle.std.proofs.lemmas.List.{drop_all}
 use Rattle.dv_model.specs.declared.types.OpenFault.{OpenFault}
 use Rattle.dv_model.specs.declared.types.OpenFault.TheVariants as fault
 use Rattle.dv_model.specs.Sessions.{next_number}
-use Rattle.dv_model.specs.Spelling.{is_closed}
-use Rattle.dv_shelf.specs.declared.shelf.Name.TheVariants as name
-use Rattle.dv_shelf.specs.Folders.{Folder, Lists, with_file}
+use Rattle.dv_shelf.specs.Folders.{Folder}
 use Rattle.dv_logfile.specs.declared.header.LogHeader.{LogHeader}
 use Rattle.dv_logfile.specs.Layout.{IsHeader, closing, last_end, log_end}
 use Rattle.dv_logfile.specs.Scans.{BadHeader, BadSpot, Good, GoodLog, IsFaulty, IsGood, IsScanned, Missing, Scanned, Spot}
 use Rattle.dv_logfile.proofs.OneScan.{scans_one}
 use Rattle.dv_openings.specs.Openings.{IsIndex, Snapshot, joining, joins}
-use Rattle.dv_openings.specs.Rebuilds.{IsHeaderIn, IsRebuild, Rebuild, as_list, new_indexid, raised_while, rebuilt_fits, stamp_of, used_indexids}
+use Rattle.dv_openings.specs.Rebuilds.{IsHeaderIn, IsRebuild, Rebuild, new_indexid, raised_while, stamp_of}
 use Rattle.dv_openings.specs.Salvages.{IsFront, IsLogFront, Salvaged, rebuilt_records, salvaged_in}
 use Rattle.dv_chain.specs.declared.file.File.{File}
-use Rattle.dv_chain.specs.Files.{HasHeader, HasSpots, IsFileOf, ReadsFile, good_file}
+use Rattle.dv_chain.specs.Files.{HasHeader, IsFileOf, ReadsFile, good_file}
 use Rattle.dv_chain.specs.Walks.{IsWalked, Measures}
 use Rattle.dv_chain.proofs.Mended.{cut_at_end}
 use Rattle.dv_rebuild.specs.declared.mails.Sifted.{Sifted}
@@ -28,7 +26,7 @@ use Rattle.dv_rebuild.specs.declared.rebuilding.Rebuilt.{Rebuilt}
 use Rattle.dv_rebuild.specs.Mails.{AreNumbersOf, IsSifted}
 use Rattle.dv_rebuild.specs.Plans.{AreUsed, IsPlan, Salvages}
 use Rattle.dv_rebuild.specs.Reading.{AreTexts, IsCut, IsFrontOf, IsGoodOf, IsWholeIn}
-use Rattle.dv_rebuild.specs.Rebuilding.{IsPrepared, Tells}
+use Rattle.dv_rebuild.specs.Rebuilding.{IsPrepared}
 use Rattle.dv_rebuild.proofs.Sorted.{mail_numbers}
 
 -- ---- the log, up to its first fault

@@ -1,5 +1,5 @@
 -- What is salvaged, record by record.
-use Rattle.std.proofs.Common.{◌≡◌, ℕ, ◌+◌, ◌≤◌, max, true, false, Bool, nat_eq, List, [], ◌∷◌, length, drop, Option, Some, None, refl, sym, ◌∙◌, ap, subst}
+use Rattle.std.proofs.Common.{◌≡◌, ℕ, ◌≤◌, max, true, false, Bool, List, length, drop, Some, None, refl, sym, ◌∙◌, ap}
 use Rattle.std.specs.Prelude.{if◌then◌else◌, ◌||◌}
 use Rattle.std.proofs.lemmas.Bool.{eq-eqb, ne_eqb}
 use Rattle.dv_model.specs.declared.types.Mailbox.{Mailbox}
@@ -8,12 +8,9 @@ use Rattle.dv_model.specs.Effects.{after_record}
 use Rattle.dv_model.specs.Spelling.{is_closed}
 use Rattle.dv_logfile.specs.Layout.{last_end}
 use Rattle.dv_logfile.specs.Scans.{GoodLog, Spot}
-use Rattle.dv_openings.specs.Openings.{file_number, records_from}
+use Rattle.dv_openings.specs.Openings.{file_number}
 use Rattle.dv_openings.specs.Salvages.{Salvaged, gives_validity, with_file, with_file_from, with_spot, with_spots}
-use Rattle.dv_chain.specs.declared.file.File.{File}
-use Rattle.dv_chain.specs.Files.{HasSpots, good_file}
 use Rattle.dv_chain.specs.Walks.{IsLeft}
-use Rattle.dv_chain.proofs.Files.{has_left, left_at}
 use Rattle.dv_chain.proofs.Walks.{Read, leads, none_left}
 use Rattle.dv_rebuild.specs.Walks.{TakesOne}
 

@@ -1,15 +1,16 @@
 -- What a rebuild answers, and what it leaves of the folder.
-use Rattle.std.specs.Prelude.{◌≡◌, ◌⊎◌, ℕ, ◌+◌, max, ◌≤◌, true, List, length, map, fold, Some, Result, Ok, Err, ⊤, All, if◌then◌else◌}
+use Rattle.std.specs.Prelude.{◌≡◌, ◌⊎◌, ℕ, ◌+◌, max, ◌≤◌, true, List, [], length, map, fold, Some, option_map, unwrap_or, Result, Ok, Err, ⊤, All, if◌then◌else◌}
 use Rattle.dv_model.specs.declared.types.Mailbox.{Mailbox}
-use Rattle.dv_model.specs.declared.types.NewRow.{NewRow}
 use Rattle.dv_model.specs.Counts.{Rose}
 use Rattle.dv_model.specs.Spelling.{IsRecord}
+use Rattle.dv_model.specs.Views.{names_of, row_of}
 use Rattle.dv_shelf.specs.declared.shelf.Name.TheVariants as name
 use Rattle.dv_shelf.specs.Folders.{Folder, with_file}
 use Rattle.dv_logfile.specs.Layout.{IsGoodHeader, log_end}
 use Rattle.dv_openings.specs.Openings.{Finds, IsFound}
 use Rattle.dv_openings.specs.Rebuilds.{IsRebuild, Rebuild, rebuilt_fits, rebuilt_folder, rebuilt_header, rebuilt_text, records_of}
 use Rattle.dv_openings.specs.Salvages.{kept_row}
+use Rattle.dv_openings.specs.TrueCaches.{HasTrueCache}
 use Rattle.dv_rebuild.specs.declared.fault.RebuildFault.{RebuildFault}
 use Rattle.dv_rebuild.specs.declared.fault.RebuildFault.TheVariants as fault
 use Rattle.dv_rebuild.specs.declared.planning.NewLog.{NewLog}
@@ -47,18 +48,26 @@ LeavesPut old text new (Err (fault.Disk faults)) = IsOldOrPut old text new
 
 -- ---- what is left
 
--- The mailbox has the kept messages with their salvaged flags, in the order of their UIDs, and no
--- other; and the salvaged UIDVALIDITY, where one was given, and a UIDNEXT above all of them.
+-- the names of the keywords that the message of this UID has in a mailbox, where there is one
+abbrev pub keyword_names : Mailbox → ℕ → List (List ℕ)
+keyword_names m uid = names_of m (unwrap_or (option_map (λ row. row.keywords) (row_of m uid)) [])
+
+-- The mailbox has the kept messages, in the order of their UIDs, and no other. Each has its
+-- salvaged flags, and its salvaged keywords, by their names, and no other. The UIDVALIDITY is the
+-- salvaged one, where one was given, and the UIDNEXT is above all UIDs.
 pub record HasKept (does : Rebuild) (m : Mailbox) : Type 0 where
   pub rows : map (λ row. record { uid = row.uid; flags = row.flags }) m.rows ≡ map (kept_row does.salvaged.mailbox) does.kept
+  pub keywords : map (λ row. names_of m row.keywords) m.rows ≡ map (keyword_names does.salvaged.mailbox) does.kept
   pub uid_validity : m.uid_validity ≡ (if does.salvaged.given then does.salvaged.mailbox.uid_validity else does.indexid)
   pub next_uid : m.next_uid ≡ fold (λ next uid. max next (uid + 1)) does.salvaged.mailbox.next_uid does.kept
 
--- opening finds that mailbox, at the end of the log's records
+-- Opening finds that mailbox, at the end of the log's records. What is looked up for its messages
+-- in the cache file, which stays, is true.
 pub record OpensTo (does : Rebuild) (new : Folder) : Type 0 where
   pub mailbox : Mailbox
   pub has : HasKept does mailbox
   pub found : IsFound new (Finds mailbox (record { file_seq = 1; offset = log_end (records_of does) }))
+  pub cache : (indexid : ℕ) → HasTrueCache new indexid mailbox
 
 -- the folder is rebuilt, at this reading of the clock
 pub record IsRebuilt (old : Folder) (now : ℕ) (new : Folder) : Type 0 where

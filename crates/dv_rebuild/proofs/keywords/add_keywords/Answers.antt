@@ -1,13 +1,12 @@
-use Rattle.std.proofs.Common.{◌≡◌, ◌∙◌, ◌<◌, ◌≤◌, ◌++◌, List, ap, arith, length, subst, take}
-use Rattle.std.specs.Prelude.{Some, filter, flat_map, slice_get}
+use Rattle.std.proofs.Common.{◌≡◌, ◌∙◌, ◌<◌, ◌≤◌, ◌++◌, List, ap, arith, length, subst}
+use Rattle.std.specs.Prelude.{Some, flat_map, slice_get}
 use Rattle.std.specs.List.{enumerate_from}
 use Rattle.std.proofs.lemmas.List.{take_all}
 use Rattle.std.proofs.lemmas.List.FromFn.{length-enumerate_from}
 use Rattle.dv_model.specs.declared.types.How.TheVariants.{Add}
 use Rattle.dv_model.specs.declared.types.Pair.{Pair}
-use Rattle.dv_model.specs.declared.types.Record.{Record}
 use Rattle.dv_model.specs.Sessions.{keyword_updates, ranges_of}
-use Rattle.dv_openings.specs.Salvages.{has_keyword, keyword_records}
+use Rattle.dv_openings.specs.Salvages.{keyword_records}
 use Rattle.dv_rebuild.proofs.Noted.{keywords_more, uids_at}
 use Rattle.dv_rebuild.proofs.keywords.add_keywords.Goals as goal
 

@@ -1,4 +1,3 @@
-use Rattle.std.proofs.Common.{◌≡◌}
 use Rattle.dv_rebuild.proofs.Plans.{header_there}
 use Rattle.dv_rebuild.proofs.reading.header_in.Goals as goal
 

@@ -1,4 +1,4 @@
-use Rattle.std.proofs.Common.{◌∙◌, List, ℕ, ap, refl, subst}
+use Rattle.std.proofs.Common.{◌∙◌, List, ℕ, refl, subst}
 use Rattle.dv_shelf.specs.Folders.{Folder}
 use Rattle.dv_rebuild.specs.Mails.{AreNumbersOf, IsSifted}
 use Rattle.dv_rebuild.specs.Plans.{IsPlan}

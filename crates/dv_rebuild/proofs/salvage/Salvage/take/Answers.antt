@@ -1,6 +1,5 @@
-use Rattle.std.proofs.Common.{◌≡◌, ◌∙◌, ap, false}
+use Rattle.std.proofs.Common.{◌∙◌, ap, false}
 use Rattle.dv_model.specs.declared.types.Mailbox.{Mailbox}
-use Rattle.dv_openings.specs.Salvages.{Salvaged}
 use Rattle.dv_apply.specs.States.{Kept}
 use Rattle.dv_apply.proofs.Refusing.{refused_none}
 use Rattle.dv_rebuild.specs.Walks.{salvaged_of}
