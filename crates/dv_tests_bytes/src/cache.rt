@@ -152,79 +152,27 @@ fn finds(alloc: Global, file: &[u8], offset: u32, given: &Given) -> Result<Optio
     }
 }
 
-// The length of the file of these rows, and whether a row of it is found as it was given.
-fn kept(
-    alloc: Global,
-    rows: &[Given],
-    offset: u32,
-    given: &Given,
-) -> Result<(usize, Option<bool>), NoMemory> {
-    let file = file_of(alloc, rows)?;
-    let found = finds(alloc, file.as_slice(), offset, given)?;
-    Ok((file.len(), found))
-}
-
 const FIRST: Asked = (7, 9, 5, 32);
 
 #[test]
-fn file_without_rows_is_a_header(rt: HostRuntime) {
-    assert_eq!(rt; has_file(rt.alloc(), &[], EMPTY), Ok(true));
-    assert_eq!(rt; is_found(rt.alloc(), EMPTY, FIRST), Ok(false));
-}
-
-#[test]
-fn unreadable_message_has_an_entry_of_zeros(rt: HostRuntime) {
-    let row = Given {
+fn worked_files_both_ways(rt: HostRuntime) {
+    let alloc = rt.alloc();
+    assert_eq!(rt; has_file(alloc, &[], EMPTY), Ok(true));
+    assert_eq!(rt; is_found(alloc, EMPTY, FIRST), Ok(false));
+    let unreadable = Given {
         uid: 5,
         sizes: (0, 0),
         fields: None,
     };
-    assert_eq!(rt; has_file(rt.alloc(), &[row], UNKNOWN), Ok(true));
-    assert_eq!(rt; is_found(rt.alloc(), UNKNOWN, FIRST), Ok(false));
-}
-
-fn row_with<'a>(uid: u32, sizes: (u32, u32), fields: &'a Fields<'a>) -> Given<'a> {
-    Given {
-        uid,
-        sizes,
-        fields: Some(fields),
-    }
-}
-
-#[test]
-fn row_without_subject_both_ways(rt: HostRuntime) {
-    let row = row_with(5, (300, 310), FIELDS);
-    assert_eq!(rt; has_file(rt.alloc(), &[row], KNOWN), Ok(true));
-    assert_eq!(rt; finds(rt.alloc(), KNOWN, 32, &row), Ok(Some(true)));
-}
-
-const OTHERS: [Asked; 8] = [
-    (7, 8, 5, 32),
-    (8, 9, 5, 32),
-    (7, 9, 6, 32),
-    (7, 9, 5, 0),
-    (7, 9, 5, 16),
-    (7, 9, 5, 33),
-    (7, 9, 5, 48),
-    (7, 9, 5, 4_294_967_280),
-];
-
-#[test]
-fn other_files_uids_and_offsets_have_no_row(rt: HostRuntime) {
-    for asked in OTHERS {
-        assert_eq!(rt; is_found(rt.alloc(), KNOWN, asked), Ok(false), "{asked:?}");
-    }
-}
-
-#[test]
-fn cut_file_has_no_row(rt: HostRuntime) {
-    for end in 0..KNOWN.len() {
-        assert_eq!(rt;
-            is_found(rt.alloc(), &KNOWN[..end], FIRST),
-            Ok(false),
-            "{end}"
-        );
-    }
+    assert_eq!(rt; has_file(alloc, &[unreadable], UNKNOWN), Ok(true));
+    assert_eq!(rt; is_found(alloc, UNKNOWN, FIRST), Ok(false));
+    let row = Given {
+        uid: 5,
+        sizes: (300, 310),
+        fields: Some(FIELDS),
+    };
+    assert_eq!(rt; has_file(alloc, &[row], KNOWN), Ok(true));
+    assert_eq!(rt; finds(alloc, KNOWN, 32, &row), Ok(Some(true)));
 }
 
 // Whether a row is found in the file with one byte changed.
@@ -237,22 +185,15 @@ fn is_found_with(alloc: Global, at: usize, byte: u8) -> Result<bool, NoMemory> {
 }
 
 // A place, another byte there, and whether a row is found all the same.
-const DAMAGES: [(usize, u8, bool); 12] = [
-    // `dvca`, the version, the number of entries and the length
+const DAMAGES: [(usize, u8, bool); 5] = [
+    // `dvca`
     (0, b'D', false),
-    (4, 2, false),
-    (16, 0, false),
-    (20, 0x49, false),
-    // the place of the fields: none, one byte on, at the end, behind the end, far behind it
-    (44, 0, false),
-    (44, 49, false),
-    (44, 74, false),
+    // the place of the fields: behind the end, far behind it
     (44, 75, false),
     (47, 0xff, false),
     // the last field is longer than what is left
     (67, 4, false),
-    // the last field is shorter, and the zero bytes of the header aren't looked at
-    (67, 2, true),
+    // the zero bytes of the header aren't looked at
     (24, 1, true),
 ];
 
@@ -265,56 +206,4 @@ fn damaged_file_has_no_row(rt: HostRuntime) {
             "{at} {byte}"
         );
     }
-}
-
-const LIMIT: u32 = 1 << 31;
-
-const NONE: &Fields<'static> = &[None, None, None, None, None];
-
-fn sizes() -> [Given<'static>; 4] {
-    [
-        row_with(1, (LIMIT, LIMIT), FIELDS),
-        row_with(2, (LIMIT + 1, 1), FIELDS),
-        row_with(3, (1, LIMIT + 1), FIELDS),
-        row_with(4, (1, 2), NONE),
-    ]
-}
-
-// What is kept of the row at this place.
-fn kept_of(alloc: Global, at: usize, offset: u32) -> Result<(usize, Option<bool>), NoMemory> {
-    let rows = sizes();
-    match rows.as_slice().get(at) {
-        Some(row) => kept(alloc, &rows, offset, row),
-        None => Err(NoMemory),
-    }
-}
-
-#[test]
-fn sizes_above_two_gibibytes_are_not_kept(rt: HostRuntime) {
-    let length = 32 + 4 * 16 + 26 + 20;
-    assert_eq!(rt; kept_of(rt.alloc(), 0, 32), Ok((length, Some(true))));
-    assert_eq!(rt; kept_of(rt.alloc(), 1, 48), Ok((length, None)));
-    assert_eq!(rt; kept_of(rt.alloc(), 2, 64), Ok((length, None)));
-    assert_eq!(rt; kept_of(rt.alloc(), 3, 80), Ok((length, Some(true))));
-}
-
-// The same of a row whose second field has so many bytes.
-fn kept_with(alloc: Global, len: usize) -> Result<(usize, Option<bool>), NoMemory> {
-    let long = vec![in alloc; b'x'; len]?;
-    let fields: Fields = [Some(b"d"), Some(&long), None, None, None];
-    let row = Given {
-        uid: 5,
-        sizes: (1, 1),
-        fields: Some(&fields),
-    };
-    kept(alloc, &[row], 32, &row)
-}
-
-#[test]
-fn more_than_65536_bytes_of_fields_are_not_kept(rt: HostRuntime) {
-    assert_eq!(rt;
-        kept_with(rt.alloc(), 65_535),
-        Ok((48 + 20 + 65_536, Some(true)))
-    );
-    assert_eq!(rt; kept_with(rt.alloc(), 65_536), Ok((48, None)));
 }

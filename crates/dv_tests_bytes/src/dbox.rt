@@ -1,5 +1,4 @@
 use dv_dbox::{BoxEnd, BoxFault, Message, read, write};
-use dv_fields::{field_of, physical, virtual_size};
 use dv_model::NoMemory;
 use std::alloc::Global;
 use std::test::*;
@@ -65,13 +64,6 @@ fn has_line(alloc: Global, file: &[u8], line: &[u8]) -> Result<bool, BoxEnd> {
     }
 }
 
-fn has_field(alloc: Global, message: &[u8], name: &[u8], wanted: &[u8]) -> Result<bool, NoMemory> {
-    match field_of(alloc, message, name)? {
-        Some(value) => Ok(value.as_slice() == wanted),
-        None => Ok(false),
-    }
-}
-
 #[test]
 fn usual_file_is_read(rt: HostRuntime) {
     let alloc = rt.alloc();
@@ -80,15 +72,6 @@ fn usual_file_is_read(rt: HostRuntime) {
     assert_eq!(rt; numbers_in(alloc, USUAL), Ok(wanted));
     assert_eq!(rt; holds(alloc, USUAL, HELLO), Ok(true));
     assert_eq!(rt; has_line(alloc, USUAL, b"Xabc"), Ok(true));
-}
-
-#[test]
-fn message_of_the_usual_file_has_these_sizes(rt: HostRuntime) {
-    assert_eq!(rt;
-        has_field(rt.alloc(), HELLO, b"subject", b"Hello world"),
-        Ok(true)
-    );
-    assert_eq!(rt; (physical(HELLO), virtual_size(HELLO)), (29, 30));
 }
 
 fn writes(
@@ -120,146 +103,35 @@ fn fault_of(alloc: Global, file: &[u8]) -> Option<BoxFault> {
     }
 }
 
-// The first part that is missing in the first bytes of the usual file.
-fn missing(end: usize) -> BoxFault {
-    match end {
-        0..16 => BoxFault::BadHeader,
-        16..46 => BoxFault::BadMessageHeader,
-        46..75 => BoxFault::BadSize,
-        75..79 => BoxFault::BadEnd,
-        _ => BoxFault::BadMetadata,
-    }
-}
-
-#[test]
-fn cut_file_is_refused_by_its_first_missing_part(rt: HostRuntime) {
-    for end in 0..USUAL.len() {
-        let fault = fault_of(rt.alloc(), &USUAL[..end]);
-        assert_eq!(rt; fault, Some(missing(end)), "{end}");
-    }
-    assert_eq!(rt; fault_of(rt.alloc(), USUAL), None);
-}
-
-// The fault of a file of these two pieces.
-fn fault_of_both(alloc: Global, head: &[u8], tail: &[u8]) -> Result<Option<BoxFault>, NoMemory> {
-    let mut file = head.to_vec(alloc)?;
-    file.extend_from_slice(tail)?;
-    Ok(fault_of(alloc, &file))
-}
-
-const HEADER: Option<BoxFault> = Some(BoxFault::BadHeader);
-
-const MESSAGE_HEADER: Option<BoxFault> = Some(BoxFault::BadMessageHeader);
-
-const SIZE: Option<BoxFault> = Some(BoxFault::BadSize);
-
-const END: Option<BoxFault> = Some(BoxFault::BadEnd);
-
-const METADATA: Option<BoxFault> = Some(BoxFault::BadMetadata);
-
-const HEADS: [(&[u8], Option<BoxFault>); 16] = [
-    (b"2 M1e C0", None),
-    (b"2 C00000001 Xa M1E X M20 C", None),
-    (b"1 M1e C1", HEADER),
-    (b"2 M1f C1", HEADER),
-    (b"2 M01e C1", HEADER),
-    (b"2 C1", HEADER),
-    (b"2 m1e C1", HEADER),
-    (b"2 M1e", HEADER),
-    (b"2 M1e C", HEADER),
-    (b"2 M1e Cg", HEADER),
-    (b"2 M1e C000000001", HEADER),
-    (b"2 M1e C1 ", HEADER),
-    (b"2 M1e  C1", HEADER),
-    (b"2 M1e C1 1a", HEADER),
-    (b"2M1e C1", HEADER),
-    (b"2 M1e C1\r", HEADER),
-];
-
-#[test]
-fn first_broken_header_is_named(rt: HostRuntime) {
-    let tail = b"\n\x01\x02N abcdefgh 0000000000000002\nhi\n\x01\x03\n\nrest";
-    for (head, wanted) in HEADS {
-        assert_eq!(rt;
-            fault_of_both(rt.alloc(), head, tail),
-            Ok(wanted),
-            "{head:?}"
-        );
-    }
-}
-
-const TAILS: [(&[u8], Option<BoxFault>); 19] = [
-    (b"\x01\x02N          0000000000000000\n\n\x01\x03\n\n", None),
+// Files that each break the form at one place.
+const FAULTS: [(&[u8], BoxFault); 6] = [
+    (b"2 M1f C1\n", BoxFault::BadHeader),
     (
-        b"\x01\x02N          000000000000000A\n0123456789\n\x01\x03\n\n",
-        None,
+        b"2 M1e C1\n\x01\x02N         x0000000000000000\n\n\x01\x03\n\n",
+        BoxFault::BadMessageHeader,
     ),
     (
-        b"\x01\x02M          0000000000000000\n\n\x01\x03\n\n",
-        MESSAGE_HEADER,
+        b"2 M1e C1\n\x01\x02N          ffffffffffffffff\n\n\x01\x03\n\n",
+        BoxFault::BadSize,
     ),
     (
-        b"\x01\x02N         x0000000000000000\n\n\x01\x03\n\n",
-        MESSAGE_HEADER,
+        b"2 M1e C1\n\x01\x02N          0000000000000001\n\n\x01\x03\n\n",
+        BoxFault::BadEnd,
     ),
     (
-        b"\x01\x02N          000000000000000x\n\n\x01\x03\n\n",
-        MESSAGE_HEADER,
+        b"2 M1e C1\n\x01\x02N          0000000000000000\n\n\x01\x03\nR1\n",
+        BoxFault::BadMetadata,
     ),
     (
-        b"\x01\x02N          0000000000000000\r\n\x01\x03\n\n",
-        MESSAGE_HEADER,
-    ),
-    (b"\x01\x02N          ffffffffffffffff\n\n\x01\x03\n\n", SIZE),
-    (b"\x01\x02N          0000000000000001\n\n\x01\x03\n\n", END),
-    (b"\x01\x02N          0000000000000000\n\n\x01\x02\n\n", END),
-    (
-        b"\x01\x02N          0000000000000000\n\n\x01\x03\nR1",
-        METADATA,
-    ),
-    (
-        b"\x01\x02N          0000000000000000\n\n\x01\x03\nR1\n",
-        METADATA,
-    ),
-    (
-        b"\x01\x02N          0000000000000000\n\n\x01\x03\n1R\n\n",
-        METADATA,
-    ),
-    (
-        b"\x01\x02N          0000000000000000\n\n\x01\x03\nR\n\n",
-        METADATA,
-    ),
-    (
-        b"\x01\x02N          0000000000000000\n\n\x01\x03\nZ0123456789abcdef0\n\n",
-        METADATA,
-    ),
-    (
-        b"\x01\x02N          0000000000000000\n\n\x01\x03\nV-1\n\n",
-        METADATA,
-    ),
-    (
-        b"\x01\x02N          0000000000000000\n\n\x01\x03\nG00\n\n",
-        METADATA,
-    ),
-    (
-        b"\x01\x02N          0000000000000000\n\n\x01\x03\nR1\r\n\n",
-        METADATA,
-    ),
-    (
-        b"\x01\x02N          0000000000000000\n\n\x01\x03\nR1\nRx\n\nR",
-        None,
-    ),
-    (
-        b"\x01\x02N          0000000000000000\n\n\x01\x03\nX\n\nGx\n",
-        None,
+        b"2 M1e C1\n\x01\x02N          0000000000000000\n\n\x01\x03\nG00\n\n",
+        BoxFault::BadMetadata,
     ),
 ];
 
 #[test]
 fn first_broken_part_is_named(rt: HostRuntime) {
-    for (tail, wanted) in TAILS {
-        let fault = fault_of_both(rt.alloc(), b"2 M1e C1\n", tail);
-        assert_eq!(rt; fault, Ok(wanted), "{tail:?}");
+    for (file, fault) in FAULTS {
+        assert_eq!(rt; fault_of(rt.alloc(), file), Some(fault), "{file:?}");
     }
 }
 

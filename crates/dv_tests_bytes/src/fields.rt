@@ -26,27 +26,17 @@ fn has_value(alloc: Global, message: &[u8], name: &[u8], wanted: &[u8]) -> Resul
 }
 
 // A message, the name of a field and its value.
-const VALUES: [(&[u8], &[u8], &[u8]); 22] = [
+const VALUES: [(&[u8], &[u8], &[u8]); 12] = [
     (HELLO, b"subject", b"Hello world"),
-    (HELLO, b"SUBJECT", b"Hello world"),
     (HELLO, b"Hi", b"(none)"),
-    (HELLO, b"Subjec", b"(none)"),
     (MIXED, b"from me thu", b"(none)"),
-    (MIXED, b"a", b"1"),
     (MIXED, b"b", b"2"),
     (MIXED, b"C", b"(none)"),
-    (MIXED, b"C ", b"4"),
-    (MIXED, b"D", b"(none)"),
     (FOLDED, b"A", b"one\ttwo \tthree"),
-    (FOLDED, b"Subject", b"(none)"),
     (FOLDED, b"Sub ject", b"x"),
     (FOLDED, b"E", b""),
-    (FOLDED, b"F", b"(none)"),
     (LONE, b"A", b"1\rB: 2\r"),
-    (LONE, b"B", b"(none)"),
     (LONE, b"C", b"3"),
-    (LONE, b" G", b"0"),
-    (b"\r\nA: 1\n", b"A", b"(none)"),
     (b"\nA: 1\n", b"A", b"(none)"),
     (b"", b"", b"(none)"),
 ];
@@ -62,45 +52,13 @@ fn fields_of_mail(rt: HostRuntime) {
     }
 }
 
-// A message with a field that is folded into two lines of 998 bytes, and a subject.
-fn long_lines(alloc: Global) -> Result<Vec<u8>, NoMemory> {
-    let long = vec![in alloc; b'a'; 990]?;
-    let mut message = b"X-Long: ".to_vec(alloc)?;
-    message.extend_from_slice(&long)?;
-    message.extend_from_slice(b"\r\n ")?;
-    message.extend_from_slice(&long)?;
-    message.extend_from_slice(b"\r\nSubject: end\r\n\r\n")?;
-    Ok(message)
-}
-
-fn long_value(alloc: Global) -> Result<usize, NoMemory> {
-    let message = long_lines(alloc)?;
-    let value = value(alloc, &message, b"x-long")?;
-    Ok(value.len())
-}
-
-fn is_subject_behind(alloc: Global) -> Result<bool, NoMemory> {
-    let message = long_lines(alloc)?;
-    has_value(alloc, &message, b"subject", b"end")
-}
-
-#[test]
-fn lines_of_998_bytes(rt: HostRuntime) {
-    assert_eq!(rt; long_value(rt.alloc()), Ok(1981));
-    assert_eq!(rt; is_subject_behind(rt.alloc()), Ok(true));
-}
-
 #[test]
 fn sizes_of_line_ends(rt: HostRuntime) {
-    let cases: [(&[u8], u64, u64); 8] = [
+    let cases: [(&[u8], u64, u64); 4] = [
         (HELLO, 29, 30),
-        (b"hello", 5, 5),
         (b"", 0, 0),
-        (b"\n", 1, 2),
-        (b"\r\n", 2, 2),
         (b"a\nb\r\nc\r", 7, 8),
         (b"\r\r\n\n", 4, 5),
-        (b"\r", 1, 1),
     ];
     for (message, bytes, as_sent) in cases {
         assert_eq!(rt;
@@ -108,34 +66,4 @@ fn sizes_of_line_ends(rt: HostRuntime) {
             (bytes, as_sent)
         );
     }
-}
-
-// A header of a million lines like this, and a subject.
-fn million(alloc: Global, line: &[u8]) -> Result<Vec<u8>, NoMemory> {
-    let mut message = b"A: 1\r\n".to_vec(alloc)?;
-    for _ in 0..1_000_000 {
-        message.extend_from_slice(line)?;
-    }
-    message.extend_from_slice(b"Subject: end\r\n\r\n")?;
-    Ok(message)
-}
-
-// Its sizes, where its subject is found.
-fn million_sizes(alloc: Global, line: &[u8]) -> Result<Option<(u64, u64)>, NoMemory> {
-    let message = million(alloc, line)?;
-    if has_value(alloc, &message, b"subject", b"end")? {
-        Ok(Some((physical(&message), virtual_size(&message))))
-    } else {
-        Ok(None)
-    }
-}
-
-// The longest messages that are taken: a million lines of 32 bytes, each a field or all of one.
-#[test]
-fn header_of_a_million_lines(rt: HostRuntime) {
-    let sizes = Some((32_000_022, 32_000_022));
-    let field = b"X-Some-Field: abcdefghijklmnop\r\n";
-    assert_eq!(rt; million_sizes(rt.alloc(), field), Ok(sizes));
-    let folded = b" abcdefghijklmnopqrstuvwxyz123\r\n";
-    assert_eq!(rt; million_sizes(rt.alloc(), folded), Ok(sizes));
 }

@@ -20,18 +20,14 @@ fn code_of(size: u32) -> Option<[u8; 4]> {
     }
 }
 
+const BYTES: [u8; 9] = [0xff, 1, 2, 3, 4, 5, 6, 7, 8];
+
 #[test]
-fn sizes_both_ways(rt: HostRuntime) {
+fn numbers_both_ways(rt: HostRuntime) {
     for (size, code) in SIZES {
         assert_eq!(rt; (code_of(size), size_value(code)), (Some(code), Some(size)));
     }
     assert_eq!(rt; size_value([0x80, 0x80, 0x00, 0x84]), None);
-}
-
-const BYTES: [u8; 9] = [0xff, 1, 2, 3, 4, 5, 6, 7, 8];
-
-#[test]
-fn fields_are_little_endian(rt: HostRuntime) {
     let numbers = (u16_at(&BYTES, 1), u32_at(&BYTES, 1), u64_at(&BYTES, 1));
     assert_eq!(rt; numbers, (0x0201, 0x0403_0201, 0x0807_0605_0403_0201));
 }

@@ -4,8 +4,6 @@
 #[cfg(test)]
 mod folder;
 #[cfg(test)]
-mod index;
-#[cfg(test)]
 mod logfile;
 #[cfg(test)]
 mod shelf;

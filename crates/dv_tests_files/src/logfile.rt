@@ -4,25 +4,12 @@ ghost use Rattle.dv_logfile.specs.Layout.{IsGroupText};
 
 mod scans;
 
-use dv_logfile::{CommitFault, Debt, LogFile, LogHeader, create, group_text, scan};
+use dv_logfile::{CommitFault, Debt, LogFile, group_text, scan};
 use dv_model::{Bytes, Group, List, Mark, Record};
 use dv_records::decode;
 use dv_shelf::{MemShelf, Name, Shelf};
 use std::alloc::Global;
 use std::test::Fail;
-
-const HEADER: LogHeader = LogHeader {
-    major_version: 1,
-    minor_version: 3,
-    hdr_size: 40,
-    indexid: 1000,
-    file_seq: 1,
-    prev_file_seq: 0,
-    prev_file_offset: 0,
-    create_stamp: 1000,
-    initial_modseq: 1,
-    compat_flags: 1,
-};
 
 // The header, the record of a UIDVALIDITY of 1000, and an append of UID 1.
 const LOG: [u8; 76] = [
@@ -36,13 +23,6 @@ const LOG: [u8; 76] = [
 // `STORE 1 +FLAGS (\Seen)`.
 const SEEN: [u8; 20] = [
     0x80, 0x80, 0x80, 0x85, 4, 0, 0, 0x10, 1, 0, 0, 0, 1, 0, 0, 0, 8, 0, 0, 0,
-];
-
-// `STORE 1 FLAGS (\Draft k1)`.
-const DRAFT: [u8; 60] = [
-    0x80, 0x80, 0x80, 0x85, 4, 0, 0, 0x10, 1, 0, 0, 0, 1, 0, 0, 0, 16, 15, 0, 0, //
-    0x80, 0x80, 0x80, 0x84, 0, 8, 0, 0x10, 1, 0, 0, 0, 1, 0, 0, 0, //
-    0x80, 0x80, 0x80, 0x86, 0, 4, 0, 0x10, 0, 0, 2, 0, 0x6b, 0x31, 0, 0, 1, 0, 0, 0, 1, 0, 0, 0,
 ];
 
 // So many records that these bytes begin with.
@@ -130,39 +110,6 @@ fn log_with(alloc: Global, group: &[u8]) -> Result<Bytes, Fail> {
     Ok(log)
 }
 
-#[test]
-fn a_log_is_header_records_and_zero_bytes(rt: HostRuntime) -> Result<(), Fail> {
-    let alloc = rt.alloc();
-    let records = records_of(alloc, &LOG[40..], 2)?;
-    let text = create(alloc, &HEADER, &records)?;
-    assert_eq!(rt; text.as_slice(), LOG.as_slice());
-    Ok(())
-}
-
-#[test]
-fn a_group_of_three_records_is_committed(rt: HostRuntime) -> Result<(), Fail> {
-    let alloc = rt.alloc();
-    let mut shelf = shelf_of(alloc, &LOG, &[], None)?;
-    let mut log = LogFile {
-        file_seq: 1,
-        end: 72,
-        count: 2,
-        debt: Debt::None,
-    };
-    let text = text_of(alloc, &DRAFT, 3)?;
-    let mark = log.commit(&mut shelf, &text).ok().ok_or("a fault")?;
-    assert!(rt;
-        mark == Mark {
-            file_seq: 1,
-            offset: 132
-        }
-    );
-    assert_eq!(rt; log.count, 5);
-    let bytes = log_of(alloc, &mut shelf)?;
-    assert_eq!(rt; bytes.as_slice(), log_with(alloc, &DRAFT)?.as_slice());
-    Ok(())
-}
-
 // After a stop behind the first three calls both ends are found, before it the old one alone, and
 // behind all four calls the new one alone.
 #[test]
@@ -200,8 +147,6 @@ fn a_failed_sync_is_healed_and_the_group_committed_again(rt: HostRuntime) -> Res
     let failed = log.commit(&mut shelf, &text);
     assert!(rt; failed.err() == Some(CommitFault::Disk(1)));
     assert!(rt; log.debt == Debt::Gate);
-    let (before, after) = ends_of(alloc, &shelf, 72, 92)?;
-    assert!(rt; before > 0 && after > 0);
     if log.end != 72 || log.heal(&mut shelf).is_err() || log.debt != Debt::None {
         return Err(Fail::from("not healed"));
     }
@@ -220,7 +165,5 @@ fn a_failed_sync_is_healed_and_the_group_committed_again(rt: HostRuntime) -> Res
     assert_eq!(rt; log.count, 3);
     let bytes = log_of(alloc, &mut shelf)?;
     assert_eq!(rt; bytes.as_slice(), log_with(alloc, &SEEN)?.as_slice());
-    let (before, _) = ends_of(alloc, &shelf, 72, 92)?;
-    assert_eq!(rt; before, 0);
     Ok(())
 }

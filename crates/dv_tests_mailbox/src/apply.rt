@@ -1,9 +1,7 @@
 use dv_apply::{ApplyFault, Live};
 use dv_model::{NoMemory, Row};
 use dv_records::decode;
-use dv_touched::Touched;
 use std::alloc::Global;
-use std::slice;
 use std::test::*;
 
 // A record's bytes, the answer, the counts (rows, UIDNEXT, highest modification sequence, Seen,
@@ -18,7 +16,7 @@ type Step = (
 // A row's UID, flags, places of keywords and modification sequence.
 type Seen = (u32, u8, &'static [u32], u64);
 
-const STEPS: [Step; 10] = [
+const STEPS: [Step; 7] = [
     // UID 1, and UID 2 with Seen
     (
         b"\x80\x80\x80\x86\x02\0\0\0\x01\0\0\0\0\0\0\0\x02\0\0\0\x08\0\0\0",
@@ -57,39 +55,18 @@ const STEPS: [Step; 10] = [
         (2, 3, 5, 1, 1),
         &[(1, 4, &[1], 5), (2, 8, &[1], 5)],
     ),
-    // no UID has `off`
-    (
-        b"\x80\x80\x80\x86\0\x04\0\0\x01\0\x03\0off\0\x01\0\0\0\xff\xff\xff\xff",
-        Ok(()),
-        (2, 3, 6, 1, 1),
-        &[(1, 4, &[1], 5), (2, 8, &[1], 5)],
-    ),
     // UIDNEXT 9
     (
         b"\x80\x80\x80\x84\x20\0\0\0\x1c\0\x04\0\x09\0\0\0",
         Ok(()),
-        (2, 9, 7, 1, 1),
-        &[(1, 4, &[1], 5), (2, 8, &[1], 5)],
-    ),
-    // UIDNEXT 5 doesn't lower it
-    (
-        b"\x80\x80\x80\x84\x20\0\0\0\x1c\0\x04\0\x05\0\0\0",
-        Ok(()),
-        (2, 9, 8, 1, 1),
-        &[(1, 4, &[1], 5), (2, 8, &[1], 5)],
-    ),
-    // an expunge of UID 1 is asked for
-    (
-        b"\x80\x80\x80\x84\x91\xcd\0\0\x01\0\0\0\x01\0\0\0",
-        Ok(()),
-        (2, 9, 9, 1, 1),
+        (2, 9, 6, 1, 1),
         &[(1, 4, &[1], 5), (2, 8, &[1], 5)],
     ),
     // UID 1 is expunged
     (
         b"\x80\x80\x80\x84\x91\xcd\0\x10\x01\0\0\0\x01\0\0\0",
         Ok(()),
-        (1, 9, 10, 1, 0),
+        (1, 9, 7, 1, 0),
         &[(2, 8, &[1], 5)],
     ),
 ];
@@ -171,12 +148,6 @@ const INTRO: &[u8] =
 // The bytes 7 and 8 of UID 1.
 const UPDATE: &[u8] = b"\x80\x80\x80\x84\0\x02\0\0\x01\0\0\0\x07\x08\0\0";
 
-// The extension 0, once more with the same sizes.
-const AGAIN: &[u8] = b"\x80\x80\x80\x87\x40\0\0\0\0\0\0\0\x05\0\0\0\x04\0\0\0\x02\0\x01\0\0\0\0\0";
-
-// The extension 0 with a header of eight bytes, and the same two bytes of each row.
-const LONGER: &[u8] = b"\x80\x80\x80\x87\x40\0\0\0\0\0\0\0\x05\0\0\0\x08\0\0\0\x02\0\x01\0\0\0\0\0";
-
 // The extension 0 with four bytes of each row.
 const WIDER: &[u8] = b"\x80\x80\x80\x87\x40\0\0\0\0\0\0\0\x05\0\0\0\x04\0\0\0\x04\0\x01\0\0\0\0\0";
 
@@ -203,17 +174,15 @@ fn has_part(live: &Live, bytes: &[u8]) -> bool {
 // A record, the first extension's bytes of the first row behind it, and the rows.
 type Further = (&'static [u8], &'static [u8], &'static [Seen]);
 
-const FURTHER: [Further; 10] = [
+const FURTHER: [Further; 8] = [
     (TWO, b"", &[(1, 0, &[], 2), (2, 8, &[], 2)]),
     (OLD, b"", &[(1, 0, &[], 2), (2, 8, &[0], 3)]),
     (INTRO, b"\0\0", &[(1, 0, &[], 2), (2, 8, &[0], 3)]),
     (UPDATE, b"\x07\x08", &[(1, 0, &[], 2), (2, 8, &[0], 3)]),
-    (AGAIN, b"\x07\x08", &[(1, 0, &[], 2), (2, 8, &[0], 3)]),
-    (LONGER, b"\x07\x08", &[(1, 0, &[], 2), (2, 8, &[0], 3)]),
     (WIDER, b"\x07\x08\0\0", &[(1, 0, &[], 2), (2, 8, &[0], 3)]),
     (RESET, b"\0\0\0\0", &[(1, 0, &[], 2), (2, 8, &[0], 3)]),
-    (NO_KEYWORDS, b"\0\0\0\0", &[(1, 0, &[], 2), (2, 8, &[], 10)]),
-    (NAMED, b"\0\0\0\0", &[(2, 8, &[], 10)]),
+    (NO_KEYWORDS, b"\0\0\0\0", &[(1, 0, &[], 2), (2, 8, &[], 8)]),
+    (NAMED, b"\0\0\0\0", &[(2, 8, &[], 8)]),
 ];
 
 fn is_further(alloc: Global, live: &mut Live, further: &Further) -> bool {
@@ -241,33 +210,6 @@ fn records_of_extensions_and_removals_are_applied(rt: HostRuntime) {
     assert_eq!(rt; further_records(rt.alloc()), None);
 }
 
-fn apply_all(alloc: Global, live: &mut Live, records: &[&[u8]]) -> Result<(), ApplyFault> {
-    for bytes in records {
-        apply(alloc, live, bytes)?;
-    }
-    Ok(())
-}
-
-// Whether the mailbox has one extension, with this header.
-fn has_header(live: &Live, header: &[u8]) -> bool {
-    match live.extensions().list().as_slice() {
-        [extension] => extension.header.as_slice() == header,
-        _ => false,
-    }
-}
-
-// Whether the header grew, and the first row stayed.
-fn grown(alloc: Global) -> Result<(bool, bool), ApplyFault> {
-    let mut live = Live::empty(alloc, 1000);
-    apply_all(alloc, &mut live, &[TWO, INTRO, UPDATE, LONGER])?;
-    Ok((has_header(&live, &[0; 8]), has_part(&live, b"\x07\x08")))
-}
-
-#[test]
-fn a_header_that_grows_leaves_the_rows(rt: HostRuntime) {
-    assert_eq!(rt; grown(rt.alloc()), Ok((true, true)));
-}
-
 const FIRST: [Seen; 2] = [(1, 0, &[], 2), (2, 8, &[], 2)];
 
 const CHANGED: [Seen; 2] = [(1, 0, &[], 2), (2, 8, &[0], 3)];
@@ -282,115 +224,21 @@ fn changes(alloc: Global, live: &mut Live) -> bool {
     apply(alloc, live, OLD) == Ok(()) && has_rows(live, &CHANGED)
 }
 
-// Whether a mailbox with room for three rows takes two, the other changes, and it stays.
-fn apart(alloc: Global) -> Result<[bool; 3], NoMemory> {
+// Whether a mailbox with room for three rows takes two, both its copies change, and it stays.
+fn copied(alloc: Global) -> Result<[bool; 4], NoMemory> {
     let mut live = Live::empty(alloc, 1000);
     let is_made = live.reserve(3).is_ok() && apply(alloc, &mut live, TWO) == Ok(());
     let mut other = other_of(alloc, &live)?;
-    let is_changed = changes(alloc, &mut other);
-    Ok([is_made, is_changed, counts(&live) == (2, 3, 2, 1, 0)])
-}
-
-#[test]
-fn a_copied_mailbox_is_kept_apart(rt: HostRuntime) {
-    assert_eq!(rt; apart(rt.alloc()), Ok([true; 3]));
-}
-
-// Whether a copy changes, and the mailbox stays; and the numbers of names and the copy's
-// UIDVALIDITY.
-fn copied(alloc: Global) -> Result<([bool; 3], [u32; 3]), NoMemory> {
-    let mut live = Live::empty(alloc, 1000);
-    let is_made = apply(alloc, &mut live, TWO) == Ok(());
     let mut copy = live.copy(alloc)?;
-    let steps = [is_made, changes(alloc, &mut copy), has_rows(&live, &FIRST)];
-    let numbers = [
-        copy.names().count(),
-        live.names().count(),
-        copy.uid_validity(),
-    ];
-    Ok((steps, numbers))
+    Ok([
+        is_made,
+        changes(alloc, &mut other),
+        changes(alloc, &mut copy),
+        has_rows(&live, &FIRST),
+    ])
 }
 
 #[test]
-fn a_copy_changes_by_itself(rt: HostRuntime) {
-    assert_eq!(rt; copied(rt.alloc()), Ok(([true; 3], [1, 0, 1000])));
-}
-
-// UID 2 gets Seen.
-const SEEN: &[u8] = b"\x80\x80\x80\x85\x04\0\0\0\x02\0\0\0\x02\0\0\0\x08\0\0\0";
-
-// UID 3.
-const THREE: &[u8] = b"\x80\x80\x80\x84\x02\0\0\0\x03\0\0\0\0\0\0\0";
-
-// A record, and the UIDs that it and those before it touch.
-const TOUCHES: [(&[u8], &[u32]); 4] = [
-    (SEEN, &[]),
-    (OLD, &[2]),
-    (THREE, &[2, 3]),
-    (NAMED, &[1, 2, 3]),
-];
-
-fn touches(alloc: Global, live: &mut Live, bytes: &[u8], touched: &mut Touched) -> bool {
-    match decode(alloc, bytes, 0) {
-        Ok((record, _)) => live.apply_touched(&record, touched).is_ok(),
-        Err(_) => false,
-    }
-}
-
-fn are_touched(touched: &Touched, uids: &[u32]) -> bool {
-    touched.uids() == uids
-}
-
-fn first_untouched(alloc: Global, live: &mut Live, touched: &mut Touched) -> Option<usize> {
-    for (at, (bytes, uids)) in TOUCHES.iter().enumerate() {
-        let is_applied = touches(alloc, live, bytes, touched);
-        if !is_applied || !are_touched(touched, uids) {
-            return Some(at);
-        }
-    }
-    None
-}
-
-// The place of the first record behind which other UIDs are touched.
-fn touched_in_turn(alloc: Global) -> Result<Option<usize>, ApplyFault> {
-    let mut live = Live::empty(alloc, 1000);
-    apply(alloc, &mut live, TWO)?;
-    let mut touched = Touched::empty(alloc);
-    Ok(first_untouched(alloc, &mut live, &mut touched))
-}
-
-#[test]
-fn touched_uids_are_gathered(rt: HostRuntime) {
-    assert_eq!(rt; touched_in_turn(rt.alloc()), Ok(None));
-}
-
-fn prepares(alloc: Global, live: &mut Live, bytes: &[u8]) -> Result<(), ApplyFault> {
-    let Ok((record, _)) = decode(alloc, bytes, 0) else {
-        return Err(ApplyFault::NoMemory);
-    };
-    match live.prepare(slice::from_ref(&record)) {
-        Ok(_) => Ok(()),
-        Err(e) => Err(e),
-    }
-}
-
-// What preparing two rows once more answers, and then another one; and the counts behind.
-fn prepared(
-    alloc: Global,
-) -> Result<([Result<(), ApplyFault>; 2], (u32, u32, u64, u32, u32)), ApplyFault> {
-    let mut live = Live::empty(alloc, 1000);
-    apply(alloc, &mut live, TWO)?;
-    let again = prepares(alloc, &mut live, TWO);
-    let answers = [again, prepares(alloc, &mut live, THREE)];
-    Ok((answers, counts(&live)))
-}
-
-#[test]
-fn a_refused_row_is_named_before_the_mailbox_changes(rt: HostRuntime) {
-    let refused = ApplyFault::BadAppend {
-        uid: 1,
-        next_uid: 3,
-    };
-    let answers = [Err(refused), Ok(())];
-    assert_eq!(rt; prepared(rt.alloc()), Ok((answers, (2, 3, 2, 1, 0))));
+fn copies_change_by_themselves(rt: HostRuntime) {
+    assert_eq!(rt; copied(rt.alloc()), Ok([true; 4]));
 }

@@ -70,59 +70,16 @@ fn counts(rows: &Rows) -> (u32, u32, u32) {
     (rows.count(), rows.seen(), rows.deleted())
 }
 
-fn five_again(alloc: Global) -> Result<Rows, NoMemory> {
-    let rows = five(alloc)?;
-    Rows::of(alloc, rows.into_list())
-}
-
-fn counts_of_five(alloc: Global) -> Result<(u32, u32, u32), NoMemory> {
-    let rows = five_again(alloc)?;
-    Ok(counts(&rows))
-}
-
-fn place_in_five(alloc: Global, uid: u32) -> Result<Option<u32>, NoMemory> {
-    let rows = five_again(alloc)?;
-    Ok(rows.position(uid))
-}
-
-// Whether the fourth row is that of UID 9, and no row is above the last UID.
-fn has_fourth_and_last(alloc: Global) -> Result<(bool, bool), NoMemory> {
-    let rows = five_again(alloc)?;
-    Ok((
-        rows.count() > 3 && rows.row(3).uid == 9,
-        !rows.is_above(LAST),
-    ))
-}
-
-fn place_of_one_in_none(alloc: Global) -> (bool, Option<u32>) {
-    let rows = Rows::empty(alloc);
-    (rows.is_above(1), rows.position(1))
+// The counts of five rows, taken apart and put together, and the place of the fourth.
+fn counted(alloc: Global) -> Result<((u32, u32, u32), Option<u32>), NoMemory> {
+    let made = five(alloc)?;
+    let rows = Rows::of(alloc, made.into_list())?;
+    Ok((counts(&rows), rows.position(9)))
 }
 
 #[test]
 fn rows_are_counted_and_found(rt: HostRuntime) {
-    assert_eq!(rt; counts_of_five(rt.alloc()), Ok((5, 2, 2)));
-    assert_eq!(rt; has_fourth_and_last(rt.alloc()), Ok((true, true)));
-    assert_eq!(rt; place_of_one_in_none(rt.alloc()), (true, None));
-}
-
-const PLACES: [(u32, Option<u32>); 9] = [
-    (0, None),
-    (1, Some(0)),
-    (2, Some(1)),
-    (3, None),
-    (5, Some(2)),
-    (9, Some(3)),
-    (10, None),
-    (LAST, Some(4)),
-    (u32::MAX, None),
-];
-
-#[test]
-fn rows_have_places(rt: HostRuntime) {
-    for (uid, place) in PLACES {
-        assert_eq!(rt; place_in_five(rt.alloc(), uid), Ok(place), "{uid}");
-    }
+    assert_eq!(rt; counted(rt.alloc()), Ok(((5, 2, 2), Some(3))));
 }
 
 fn append_two(alloc: Global, rows: &mut Rows) -> Result<(), NoMemory> {
@@ -144,27 +101,6 @@ fn reserved_rows_are_appended(rt: HostRuntime) {
     assert_eq!(rt; two_more(rt.alloc()), Ok(((6, 3, 3), Some(5))));
 }
 
-// How many rows, seen ones and deleted ones are left.
-fn left(alloc: Global, pairs: &[Pair]) -> Result<(u32, u32, u32), NoMemory> {
-    let mut rows = five(alloc)?;
-    rows.expunge(pairs);
-    Ok(counts(&rows))
-}
-
-#[test]
-fn rows_in_ranges_leave(rt: HostRuntime) {
-    let alloc = rt.alloc();
-    let first_and_last = [pair(1, 1), pair(LAST, LAST)];
-    let overlapping = [pair(4, 9), pair(2, 5)];
-    let between = [pair(3, 4), pair(6, 8), pair(10, LAST - 1)];
-    assert_eq!(rt; left(alloc, &[]), Ok((5, 2, 2)));
-    assert_eq!(rt; left(alloc, &first_and_last), Ok((3, 1, 2)));
-    assert_eq!(rt; left(alloc, &overlapping), Ok((2, 1, 0)));
-    assert_eq!(rt; left(alloc, &between), Ok((5, 2, 2)));
-    assert_eq!(rt; left(alloc, &[pair(9, 2)]), Ok((5, 2, 2)));
-    assert_eq!(rt; left(alloc, &[pair(1, LAST)]), Ok((0, 0, 0)));
-}
-
 // Whether named rows leave, and how many are there when others were named.
 fn named_leave(alloc: Global) -> Result<(bool, u32), NoMemory> {
     let mut rows = five(alloc)?;
@@ -179,69 +115,21 @@ fn named_rows_leave(rt: HostRuntime) {
     assert_eq!(rt; named_leave(rt.alloc()), Ok((true, 1)));
 }
 
-// 1 is seen already, 2 is flagged, 5 loses Deleted, 9 only a high bit.
-fn change_first(rows: &mut Rows) {
-    rows.change_flags(
-        &[
-            change(1, 1, 0x08, 0x00),
-            change(2, 2, 0x02, 0x00),
-            change(3, 5, 0x00, 0x04),
-            change(6, 10, 0x00, 0x20),
-        ],
-        8,
-    );
-}
-
-const FLAGS: [Seen; 5] = [
-    (1, 0x08, 0, 3),
-    (2, 0x02, 0, 8),
-    (5, 0x08, 0, 8),
-    (9, 0x04, 0, 3),
-    (LAST, 0x81, 0, 3),
-];
-
-// What is removed and added counts as removed first; what is undone in one record changes nothing.
-fn change_again(rows: &mut Rows) {
-    rows.change_flags(&[change(1, LAST, 0x10, 0xff), change(1, 2, 0x08, 0x10)], 9);
-    rows.change_flags(&[change(5, 5, 0x01, 0x00), change(5, 5, 0x00, 0x01)], 10);
-}
-
-const FLAGS_THEN: [Seen; 5] = [
-    (1, 0x08, 0, 3),
-    (2, 0x08, 0, 9),
-    (5, 0x10, 0, 9),
-    (9, 0x10, 0, 9),
-    (LAST, 0x10, 0, 9),
-];
-
-// Whether the rows are right behind the first changes, their counts, and whether they are behind
-// the others.
-fn flags_changed(alloc: Global) -> Result<(bool, (u32, u32, u32), bool), NoMemory> {
-    let mut rows = five(alloc)?;
-    change_first(&mut rows);
-    let first = are(&rows, &FLAGS);
-    let counts = counts(&rows);
-    change_again(&mut rows);
-    Ok((first, counts, are(&rows, &FLAGS_THEN)))
-}
-
-#[test]
-fn changed_flags_give_the_modification_sequence(rt: HostRuntime) {
-    assert_eq!(rt; flags_changed(rt.alloc()), Ok((true, (5, 2, 1), true)));
-}
-
-fn add_keywords(rows: &mut Rows) -> Result<(), NoMemory> {
+fn change_keywords(rows: &mut Rows) -> Result<(), NoMemory> {
     rows.change_keywords(&[pair(1, 2), pair(5, 5)], How::Add, 4, 5)?;
     rows.change_keywords(&[pair(2, 4)], How::Add, 1, 6)?;
-    rows.change_keywords(&[pair(1, LAST)], How::Add, 4, 7)
+    rows.change_keywords(&[pair(9, 9)], How::Replace, 0, 7)?;
+    rows.change_keywords(&[pair(5, 9)], How::Remove, 4, 8)?;
+    rows.clear_keywords(&[pair(1, 1)], 9);
+    Ok(())
 }
 
 const KEYWORDS: [Seen; 5] = [
-    (1, 0x08, 5, 5),
+    (1, 0x08, 0, 9),
     (2, 0x00, 2, 6),
-    (5, 0x0c, 5, 5),
-    (9, 0x24, 5, 7),
-    (LAST, 0x81, 5, 7),
+    (5, 0x0c, 0, 8),
+    (9, 0x24, 1, 7),
+    (LAST, 0x81, 0, 3),
 ];
 
 // Whether the second row has these keywords.
@@ -249,34 +137,15 @@ fn has_keywords(rows: &Rows, places: &[u32]) -> bool {
     rows.count() > 1 && rows.row(1).keywords.as_slice() == places
 }
 
-fn change_keywords(rows: &mut Rows) -> Result<(), NoMemory> {
-    rows.change_keywords(&[pair(1, 1)], How::Replace, 4, 8)?;
-    rows.change_keywords(&[pair(2, 2)], How::Replace, 0, 8)?;
-    rows.change_keywords(&[pair(5, 9)], How::Remove, 4, 9)?;
-    rows.clear_keywords(&[pair(9, LAST)], 10);
-    Ok(())
-}
-
-const KEYWORDS_THEN: [Seen; 5] = [
-    (1, 0x08, 5, 5),
-    (2, 0x00, 1, 8),
-    (5, 0x0c, 0, 9),
-    (9, 0x24, 0, 9),
-    (LAST, 0x81, 0, 10),
-];
-
-// Whether the rows are right behind each of both, and how many are seen.
-fn keywords_changed(alloc: Global) -> Result<(bool, bool, u32), NoMemory> {
+fn keywords_changed(alloc: Global) -> Result<bool, NoMemory> {
     let mut rows = five(alloc)?;
-    add_keywords(&mut rows)?;
-    let first = are(&rows, &KEYWORDS) && has_keywords(&rows, &[1, 4]);
     change_keywords(&mut rows)?;
-    Ok((first, are(&rows, &KEYWORDS_THEN), rows.seen()))
+    Ok(are(&rows, &KEYWORDS) && has_keywords(&rows, &[1, 4]))
 }
 
 #[test]
 fn keywords_change_in_ranges(rt: HostRuntime) {
-    assert_eq!(rt; keywords_changed(rt.alloc()), Ok((true, true, 2)));
+    assert_eq!(rt; keywords_changed(rt.alloc()), Ok(true));
 }
 
 // An extension with so many bytes of each row.
@@ -317,24 +186,9 @@ fn has_parts(row: &Row, first: &[u8], second: &[u8]) -> bool {
     }
 }
 
-// The UID of the first row that doesn't have both parts; UID 9 has bytes in the second.
-fn first_without_parts(rows: &Rows) -> Option<u32> {
-    for row in rows.as_slice() {
-        let second: &[u8] = if row.uid == 9 { &[5, 6, 0] } else { &[0, 0, 0] };
-        if !has_parts(row, &[7, 7, 0, 0], second) {
-            return Some(row.uid);
-        }
-    }
-    None
-}
-
-// Whether the fourth row is as it should be when parts were cleared.
-fn is_cleared(rows: &Rows) -> bool {
-    if rows.count() != 5 {
-        return false;
-    }
-    let row = rows.row(3);
-    row.modseq == 3 && has_parts(row, &[0, 0, 0, 0], &[5, 6, 0])
+// Whether the fourth row has the second part that was set, and this first one.
+fn has_first(rows: &Rows, first: &[u8]) -> bool {
+    rows.count() > 3 && has_parts(rows.row(3), first, &[5, 6, 0])
 }
 
 fn fit_two(alloc: Global, rows: &mut Rows) -> Result<(), NoMemory> {
@@ -342,148 +196,18 @@ fn fit_two(alloc: Global, rows: &mut Rows) -> Result<(), NoMemory> {
     rows.fit_parts(&extensions)
 }
 
-fn parts_changed(alloc: Global) -> Result<(Option<u32>, bool), NoMemory> {
+fn parts_changed(alloc: Global) -> Result<(bool, bool), NoMemory> {
     let mut rows = five(alloc)?;
     fit_two(alloc, &mut rows)?;
     set(&mut rows, 9, 1, &[5, 6]);
-    set(&mut rows, 3, 1, &[1, 1]);
-    let first = first_without_parts(&rows);
+    let is_set = has_first(&rows, &[7, 7, 0, 0]);
     rows.clear_part(0);
-    rows.clear_part(2);
-    Ok((first, is_cleared(&rows)))
+    Ok((is_set, has_first(&rows, &[0, 0, 0, 0])))
 }
 
 #[test]
 fn parts_are_added_grown_set_and_cleared(rt: HostRuntime) {
-    assert_eq!(rt; parts_changed(rt.alloc()), Ok((None, true)));
-}
-
-fn many_rows(alloc: Global) -> Result<Rows, NoMemory> {
-    let mut rows = Rows::empty(alloc);
-    for uid in 1..100_001 {
-        add(alloc, &mut rows, uid, 0x00)?;
-    }
-    Ok(rows)
-}
-
-// Each second row in a range of its own.
-fn many_pairs(alloc: Global) -> Result<Vec<Pair>, NoMemory> {
-    let mut pairs = Vec::new(alloc);
-    for half in 1..50_001 {
-        pairs.push(pair(2 * half, 2 * half))?;
-    }
-    Ok(pairs)
-}
-
-fn many_changes(alloc: Global) -> Result<Vec<Change>, NoMemory> {
-    let mut changes = Vec::new(alloc);
-    for half in 1..50_001 {
-        changes.push(change(2 * half, 2 * half, 0x08, 0x00))?;
-    }
-    Ok(changes)
-}
-
-// How many of many rows are seen behind many changes.
-fn seen_of_many(alloc: Global, rows: &mut Rows) -> Result<u32, NoMemory> {
-    let changes = many_changes(alloc)?;
-    rows.change_flags(&changes, 4);
-    Ok(rows.seen())
-}
-
-// The counts when each second row got a keyword and left, and the place of the last.
-fn half_left(alloc: Global, rows: &mut Rows) -> Result<((u32, u32), Option<u32>), NoMemory> {
-    let pairs = many_pairs(alloc)?;
-    rows.change_keywords(&pairs, How::Add, 0, 5)?;
-    rows.expunge(&pairs);
-    Ok(((rows.count(), rows.seen()), rows.position(99_999)))
-}
-
-fn many_changed(alloc: Global) -> Result<(u32, ((u32, u32), Option<u32>)), NoMemory> {
-    let mut rows = many_rows(alloc)?;
-    let seen = seen_of_many(alloc, &mut rows)?;
-    Ok((seen, half_left(alloc, &mut rows)?))
-}
-
-#[test]
-fn many_ranges_over_many_rows_take_little_time(rt: HostRuntime) {
-    let left = ((50_000, 0), Some(49_999));
-    assert_eq!(rt; many_changed(rt.alloc()), Ok((50_000, left)));
-}
-
-// Of the second and third row a flag is set and taken again, of the fourth the same.
-fn change_in_disorder(rows: &mut Rows) {
-    rows.change_flags(
-        &[
-            change(5, u32::MAX, 0x01, 0x00),
-            change(1, 2, 0x02, 0x00),
-            change(2, 5, 0x00, 0x03),
-            change(9, 9, 0x00, 0x01),
-        ],
-        7,
-    );
-}
-
-const IN_DISORDER: [Seen; 5] = [
-    (1, 0x0a, 0, 7),
-    (2, 0x00, 0, 3),
-    (5, 0x0c, 0, 3),
-    (9, 0x24, 0, 3),
-    (LAST, 0x81, 0, 3),
-];
-
-fn change_and_expunge(rows: &mut Rows) -> (u32, u32, u32) {
-    rows.change_flags(
-        &[change(9, u32::MAX, 0x08, 0x04), change(1, 2, 0x04, 0x08)],
-        8,
-    );
-    let counts = counts(rows);
-    rows.expunge(&[pair(9, u32::MAX), pair(2, 2), pair(1, 2)]);
-    counts
-}
-
-// Whether the rows are right behind the first changes, the counts behind others, whether they are
-// right when some left, and the counts then.
-type Disordered = (bool, (u32, u32, u32), bool, (u32, u32, u32));
-
-fn in_disorder(alloc: Global) -> Result<Disordered, NoMemory> {
-    let mut rows = five(alloc)?;
-    change_in_disorder(&mut rows);
-    let first = are(&rows, &IN_DISORDER);
-    let then = change_and_expunge(&mut rows);
-    Ok((first, then, are(&rows, &[(5, 0x0c, 0, 3)]), counts(&rows)))
-}
-
-#[test]
-fn changes_in_disorder_are_made_in_turn(rt: HostRuntime) {
-    assert_eq!(rt;
-        in_disorder(rt.alloc()),
-        Ok((true, (5, 3, 3), true, (1, 1, 1)))
-    );
-}
-
-fn add_twice(rows: &mut Rows) -> Result<(), NoMemory> {
-    let ranges = [pair(5, u32::MAX), pair(1, 1), pair(9, 9), pair(7, 6)];
-    rows.change_keywords(&ranges, How::Add, 4, 6)?;
-    rows.change_keywords(&ranges, How::Add, 4, 9)
-}
-
-fn added_once(alloc: Global) -> Result<bool, NoMemory> {
-    let mut rows = five(alloc)?;
-    add_twice(&mut rows)?;
-    Ok(are(&rows, &KEYWORDS_ONCE))
-}
-
-const KEYWORDS_ONCE: [Seen; 5] = [
-    (1, 0x08, 5, 6),
-    (2, 0x00, 0, 3),
-    (5, 0x0c, 5, 6),
-    (9, 0x24, 5, 6),
-    (LAST, 0x81, 5, 6),
-];
-
-#[test]
-fn keywords_of_ranges_in_disorder_are_changed_once(rt: HostRuntime) {
-    assert_eq!(rt; added_once(rt.alloc()), Ok(true));
+    assert_eq!(rt; parts_changed(rt.alloc()), Ok((true, true)));
 }
 
 // The UIDs of the rows in the ranges, rising.

@@ -6,7 +6,7 @@ use std::test::Fail;
 
 // The first file of index 1000, with initial_modseq 1: a UIDVALIDITY of 1000, an append of UID 1,
 // and its flag Seen. Its records end at 56, 72 and 92.
-const LOG: [u8; 96] = [
+pub const LOG: [u8; 96] = [
     1, 3, 40, 0, 0xe8, 3, 0, 0, 1, 0, 0, 0, 0, 0, 0, 0, 0, 0, 0, 0, //
     0xe8, 3, 0, 0, 1, 0, 0, 0, 0, 0, 0, 0, 1, 0, 0, 0, 0, 0, 0, 0, //
     0x80, 0x80, 0x80, 0x84, 0x20, 0, 0, 0, 24, 0, 4, 0, 0xe8, 3, 0, 0, //
@@ -22,21 +22,6 @@ const SECOND: [u8; 44] = [
     0, 0, 0, 0,
 ];
 
-// A boundary, and the append of UID 1.
-const BOUNDARY: [u8; 28] = [
-    0x80, 0x80, 0x80, 0x83, 0, 0, 8, 0, 0x1c, 0, 0, 0, //
-    0x80, 0x80, 0x80, 0x84, 2, 0, 0, 0x10, 1, 0, 0, 0, 0, 0, 0, 0,
-];
-
-// An expunge without its guard, and an append of UID 0.
-const UNGUARDED: [u8; 20] = [
-    0x80, 0x80, 0x80, 0x84, 1, 0, 0, 0x10, 1, 0, 0, 0, 1, 0, 0, 0, 0, 0, 0, 0,
-];
-
-const ZERO: [u8; 20] = [
-    0x80, 0x80, 0x80, 0x84, 2, 0, 0, 0x10, 0, 0, 0, 0, 0, 0, 0, 0, 0, 0, 0, 0,
-];
-
 // The snapshot of UID 1 without flags at 1:72, in version 1.
 const OLD_INDEX: [u8; 128] = [
     201, 1, 120, 0, 120, 0, 0, 0, 8, 0, 0, 0, 0, 0, 0, 0, //
@@ -47,19 +32,6 @@ const OLD_INDEX: [u8; 128] = [
     0, 0, 0, 0, 0, 0, 0, 0, 0, 0, 0, 0, 0, 0, 0, 0, //
     0, 0, 0, 0, 0, 0, 0, 0, 0, 0, 0, 0, 0, 0, 0, 0, //
     0, 0, 0, 0, 0, 0, 0, 0, 1, 0, 0, 0, 0, 0, 0, 0,
-];
-
-// The same in version 2: the row's modification sequence is 7, and the highest one 9.
-const INDEX: [u8; 136] = [
-    201, 2, 120, 0, 120, 0, 0, 0, 16, 0, 0, 0, 0, 0, 0, 0, //
-    0xe8, 3, 0, 0, 0, 0, 0, 0, 0xe8, 3, 0, 0, 2, 0, 0, 0, //
-    1, 0, 0, 0, 1, 0, 0, 0, 72, 0, 0, 0, 0, 0, 0, 0, //
-    0, 0, 0, 0, 0, 0, 0, 0, 0, 0, 0, 0, 0, 0, 0, 0, //
-    0, 0, 0, 0, 9, 0, 0, 0, 0, 0, 0, 0, 0, 0, 0, 0, //
-    0, 0, 0, 0, 0, 0, 0, 0, 0, 0, 0, 0, 0, 0, 0, 0, //
-    0, 0, 0, 0, 0, 0, 0, 0, 0, 0, 0, 0, 0, 0, 0, 0, //
-    0, 0, 0, 0, 0, 0, 0, 0, 1, 0, 0, 0, 0, 0, 0, 0, //
-    7, 0, 0, 0, 0, 0, 0, 0,
 ];
 
 // What makes a snapshot one at 1:92 with the flag Seen: mark, number of rows with it, and row.
@@ -171,16 +143,6 @@ fn opened(
     }
 }
 
-#[test]
-fn a_folder_without_a_log_costs_one_read(rt: HostRuntime) -> Result<(), Fail> {
-    let alloc = rt.alloc();
-    let fails = List::from_slice(alloc, &[2])?;
-    let mut shelf = MemShelf::of(alloc, &List::new(alloc), 2000, fails, None)?;
-    assert!(rt; open(alloc, &mut shelf).err() == Some(OpenFault::NoLog));
-    assert!(rt; open(alloc, &mut shelf).err() == Some(OpenFault::Disk(1)));
-    Ok(())
-}
-
 // What is found of the log's first bytes.
 fn cut(length: usize) -> Result<Told, OpenFault> {
     match length {
@@ -206,27 +168,12 @@ fn a_cut_log_ends_behind_its_last_whole_record(rt: HostRuntime) -> Result<(), Fa
 }
 
 #[test]
-fn an_end_is_closed_where_it_is_open(rt: HostRuntime) -> Result<(), Fail> {
-    let alloc = rt.alloc();
-    let seen = Some((8, 4));
-    let gate = log_with(alloc, 92, &[0x80, 0, 0, 0, 7])?;
-    assert!(rt; opened(alloc, gate.as_slice(), None, None)? == found(1, 92, seen, 4, 96));
-    let shut = log_with(alloc, 92, &[0, 0, 0, 0, 7])?;
-    assert!(rt; opened(alloc, shut.as_slice(), None, None)? == found(1, 92, seen, 4, 97));
-    let bare = log_with(alloc, 56, &BOUNDARY)?;
-    assert!(rt; opened(alloc, bare.as_slice(), None, None)? == found(1, 84, Some((0, 4)), 4, 88));
-    Ok(())
-}
-
-#[test]
 fn a_closed_end_has_four_zero_bytes(rt: HostRuntime) -> Result<(), Fail> {
     let alloc = rt.alloc();
-    let bare = log_with(alloc, 56, &BOUNDARY)?;
-    let mut shelf = folder(alloc, bare.as_slice(), None, None)?;
+    let (bare, _) = LOG.split_at(92);
+    let mut shelf = folder(alloc, bare, None, None)?;
     assert!(rt; open(alloc, &mut shelf).is_ok());
-    let mut wanted = bare;
-    wanted.extend(&[0; 4])?;
-    assert_eq!(rt; log_of(alloc, &mut shelf)?.as_slice(), wanted.as_slice());
+    assert_eq!(rt; log_of(alloc, &mut shelf)?.as_slice(), LOG.as_slice());
     Ok(())
 }
 
@@ -252,99 +199,7 @@ fn files_are_joined_in_five_ways(rt: HostRuntime) -> Result<(), Fail> {
     assert!(rt; opened(alloc, &SECOND, None, index)? == Err(gap));
     assert!(rt; opened(alloc, &SECOND, None, Some(seen.as_slice()))? == both);
     assert!(rt; opened(alloc, &SECOND, log, None)? == both);
-    Ok(())
-}
-
-// A snapshot of version 1 has the number of its place everywhere.
-#[test]
-fn old_snapshots_are_numbered_by_their_place(rt: HostRuntime) -> Result<(), Fail> {
-    let alloc = rt.alloc();
-    let seen = changed(alloc, &OLD_INDEX, &SEEN)?;
-    let index = Some(seen.as_slice());
-    let later = changed(alloc, &SECOND, &[(24, 12)])?;
-    assert!(rt; opened(alloc, &LOG, None, index)? == found(1, 92, Some((8, 4)), 4, 96));
-    let named = opened(alloc, later.as_slice(), None, index)?;
-    assert!(rt; named == found(2, 40, Some((8, 12)), 12, 44));
-    let joined = opened(alloc, later.as_slice(), Some(LOG.as_slice()), index)?;
-    assert!(rt; joined == found(2, 40, Some((8, 4)), 12, 44));
-    Ok(())
-}
-
-// One of version 2 has its own, which a file's number may raise.
-#[test]
-fn new_snapshots_keep_their_numbers(rt: HostRuntime) -> Result<(), Fail> {
-    let alloc = rt.alloc();
-    let log = Some(LOG.as_slice());
-    let index = Some(INDEX.as_slice());
-    let seen = changed(alloc, &INDEX, &SEEN)?;
-    let later = changed(alloc, &SECOND, &[(24, 12)])?;
-    assert!(rt; opened(alloc, &LOG, None, index)? == found(1, 92, Some((8, 10)), 10, 96));
-    assert!(rt; opened(alloc, &SECOND, log, index)? == found(2, 40, Some((8, 10)), 10, 44));
-    let index = Some(seen.as_slice());
-    assert!(rt; opened(alloc, &LOG, None, index)? == found(1, 92, Some((8, 7)), 9, 96));
-    assert!(rt; opened(alloc, &SECOND, None, index)? == found(2, 40, Some((8, 7)), 9, 44));
-    let named = opened(alloc, later.as_slice(), None, index)?;
-    assert!(rt; named == found(2, 40, Some((8, 7)), 12, 44));
-    Ok(())
-}
-
-// A file's number 0 counts as 1, and one above the largest as that.
-#[test]
-fn file_numbers_are_bounded(rt: HostRuntime) -> Result<(), Fail> {
-    let alloc = rt.alloc();
-    let last = 9_223_372_036_854_775_807;
-    let none = changed(alloc, &LOG, &[(24, 0)])?;
-    let answer = opened(alloc, none.as_slice(), None, None)?;
-    assert!(rt; answer == found(1, 92, Some((8, 4)), 4, 96));
-    let large = changed(alloc, &LOG, &[(31, 0x80)])?;
-    let answer = opened(alloc, large.as_slice(), None, None)?;
-    assert!(rt; answer == found(1, 92, Some((8, last)), last, 96));
-    Ok(())
-}
-
-// The headers of a log without messages, and its records, that are refused.
-#[test]
-fn hostile_logs_are_refused(rt: HostRuntime) -> Result<(), Fail> {
-    let alloc = rt.alloc();
-    let made = log_with(alloc, 56, &[0; 4])?;
-    let cases: [(&[(usize, u8)], OpenFault); 4] = [
-        (&[(2, 23)], OpenFault::BadLogHeader),
-        (&[(4, 0), (5, 0)], OpenFault::BadLogHeader),
-        (&[(43, 0x81)], OpenFault::BadRecord { offset: 40 }),
-        (&[(8, 2)], OpenFault::BadIndex),
-    ];
-    for (changes, fault) in cases {
-        let log = changed(alloc, made.as_slice(), changes)?;
-        assert!(rt; opened(alloc, log.as_slice(), None, None)? == Err(fault));
-    }
-    for record in [UNGUARDED, ZERO] {
-        let log = log_with(alloc, 56, &record)?;
-        let fault = OpenFault::BadRecord { offset: 56 };
-        assert!(rt; opened(alloc, log.as_slice(), None, None)? == Err(fault));
-    }
-    Ok(())
-}
-
-#[test]
-fn hostile_snapshots_do_not_count(rt: HostRuntime) -> Result<(), Fail> {
-    let alloc = rt.alloc();
-    let made = log_with(alloc, 56, &[0; 4])?;
-    let other = changed(alloc, &OLD_INDEX, &[(16, 7)])?;
-    for index in [[0; 200].as_slice(), other.as_slice(), &[]] {
-        let answer = opened(alloc, made.as_slice(), None, Some(index))?;
-        assert!(rt; answer == found(1, 56, None, 2, 60));
-    }
-    Ok(())
-}
-
-#[test]
-fn an_append_may_not_come_twice(rt: HostRuntime) -> Result<(), Fail> {
-    let alloc = rt.alloc();
-    let (_, behind) = LOG.split_at(56);
-    let (append, _) = behind.split_at(16);
-    let log = log_with(alloc, 72, append)?;
-    let fault = OpenFault::BadRecord { offset: 72 };
-    assert!(rt; opened(alloc, log.as_slice(), None, None)? == Err(fault));
+    assert!(rt; opened(alloc, &SECOND, None, None)? == Err(OpenFault::BadIndex));
     Ok(())
 }
 
@@ -371,20 +226,16 @@ fn a_folder_is_made_by_one_replace(rt: HostRuntime) -> Result<(), Fail> {
     let made = log_with(alloc, 56, &[0; 4])?;
     assert_eq!(rt; log.as_slice(), made.as_slice());
     assert!(rt; Ok(new) == found(1, 56, None, 2, 60));
-    let ones = [(4, 1), (5, 0), (20, 1), (21, 0), (52, 1), (53, 0)];
-    let made = changed(alloc, made.as_slice(), &ones)?;
-    let (new, log) = created(alloc, 0)?;
-    assert_eq!(rt; log.as_slice(), made.as_slice());
-    assert!(rt; Ok(new) == found(1, 56, None, 2, 60));
     Ok(())
 }
 
 #[test]
 fn a_failed_replace_makes_no_folder(rt: HostRuntime) -> Result<(), Fail> {
     let alloc = rt.alloc();
-    let fails = List::from_slice(alloc, &[1])?;
+    let fails = List::from_slice(alloc, &[1, 3])?;
     let mut shelf = MemShelf::of(alloc, &List::new(alloc), 2000, fails, None)?;
     assert!(rt; create(alloc, &mut shelf, 1000).err() == Some(OpenFault::Disk(1)));
     assert!(rt; open(alloc, &mut shelf).err() == Some(OpenFault::NoLog));
+    assert!(rt; open(alloc, &mut shelf).err() == Some(OpenFault::Disk(2)));
     Ok(())
 }

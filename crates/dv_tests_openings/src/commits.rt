@@ -3,7 +3,7 @@ ghost use Rattle.dv_model.specs.Spelling.{IsRecord};
 ghost use Rattle.dv_chain.specs.Openings.{HasBounds};
 ghost use Rattle.dv_commits.specs.Commits.{IsReady};
 
-use dv_apply::{ApplyFault, Prepared};
+use dv_apply::Prepared;
 use dv_chain::{Chain, create, open};
 use dv_commits::{commit, heal};
 use dv_logfile::{CommitFault, Debt, group_text};
@@ -145,46 +145,5 @@ fn a_failed_gate_is_owed_and_healed(rt: HostRuntime) -> Result<(), Fail> {
     assert!(rt; heal(&mut chain, &mut shelf).is_ok());
     assert!(rt; chain.log.debt == Debt::None && chain.log.end == 56);
     assert!(rt; opened_images(alloc, &shelf)?.1 == 0);
-    Ok(())
-}
-
-#[test]
-fn a_failed_first_write_owes_nothing(rt: HostRuntime) -> Result<(), Fail> {
-    let alloc = rt.alloc();
-    let (mut shelf, mut chain) = new_folder(alloc, &[2])?;
-    let (text, prepared) = ready(alloc, &mut chain, &FIRST)?;
-    if chain.log.debt != Debt::None {
-        return Err(Fail::from("a debt"));
-    }
-    let done = commit(&mut chain, &mut shelf, &text, prepared);
-    assert!(rt; done.err() == Some(CommitFault::Disk(1)) && chain.log.debt == Debt::None);
-    assert!(rt; opened_images(alloc, &shelf)?.1 == 0);
-    let calls = shelf.call_count();
-    assert!(rt; heal(&mut chain, &mut shelf).is_ok() && shelf.call_count() == calls);
-    Ok(())
-}
-
-// UID 1 is appended once more.
-#[test]
-fn a_refused_append_is_never_committed(rt: HostRuntime) -> Result<(), Fail> {
-    let alloc = rt.alloc();
-    let (mut shelf, mut chain) = new_folder(alloc, &[])?;
-    let (text, prepared) = ready(alloc, &mut chain, &FIRST)?;
-    if chain.log.debt != Debt::None {
-        return Err(Fail::from("a debt"));
-    }
-    if commit(&mut chain, &mut shelf, &text, prepared).is_err() {
-        return Err(Fail::from("a fault"));
-    }
-    let calls = shelf.call_count();
-    let records = records_of(alloc, &FIRST, 2)?;
-    let refused = ApplyFault::BadAppend {
-        uid: 1,
-        next_uid: 2,
-    };
-    assert!(rt; chain.live.prepare(records.as_slice()).err() == Some(refused));
-    assert!(rt; has_first(&chain) && shelf.call_count() == calls);
-    let again = open(alloc, &mut shelf).ok().ok_or("a fault")?;
-    assert!(rt; has_first(&again) && again.log.end == 92);
     Ok(())
 }

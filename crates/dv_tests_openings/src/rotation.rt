@@ -2,25 +2,16 @@ ghost use Rattle.std.specs.Prelude.{◌<◌, IfOk};
 ghost use Rattle.dv_chain.specs.Openings.{HasBounds};
 ghost use Rattle.dv_rotation.specs.Texts.{IsTurnOf};
 
+use crate::chain::LOG;
 use dv_chain::{Chain, open};
-use dv_model::{Bytes, List};
+use dv_model::List;
 use dv_rotation::{ChainFault, Turn, TurnEnd, checkpoint, finish, rotate, snapshot, turn};
 use dv_shelf::{Folder, MemShelf, Name, Shelf};
 use std::alloc::Global;
 use std::test::Fail;
 
-// The first file of index 1000, with initial_modseq 1: a UIDVALIDITY of 1000, an append of UID 1,
-// and its flag Seen. It ends at 92.
-const LOG: [u8; 96] = [
-    1, 3, 40, 0, 0xe8, 3, 0, 0, 1, 0, 0, 0, 0, 0, 0, 0, 0, 0, 0, 0, //
-    0xe8, 3, 0, 0, 1, 0, 0, 0, 0, 0, 0, 0, 1, 0, 0, 0, 0, 0, 0, 0, //
-    0x80, 0x80, 0x80, 0x84, 0x20, 0, 0, 0, 24, 0, 4, 0, 0xe8, 3, 0, 0, //
-    0x80, 0x80, 0x80, 0x84, 2, 0, 0, 0x10, 1, 0, 0, 0, 0, 0, 0, 0, //
-    0x80, 0x80, 0x80, 0x85, 4, 0, 0, 0x10, 1, 0, 0, 0, 1, 0, 0, 0, 8, 0, 0, 0, //
-    0, 0, 0, 0,
-];
-
-// The file behind it, made at 2000: it names the first one and its end, with initial_modseq 4.
+// The file behind the first one, made at 2000: it names that one and its end, with
+// initial_modseq 4.
 const NEXT: [u8; 44] = [
     1, 3, 40, 0, 0xe8, 3, 0, 0, 2, 0, 0, 0, 1, 0, 0, 0, 92, 0, 0, 0, //
     0xd0, 7, 0, 0, 4, 0, 0, 0, 0, 0, 0, 0, 1, 0, 0, 0, 0, 0, 0, 0, //
@@ -149,14 +140,6 @@ fn a_rotation_writes_three_files(rt: HostRuntime) -> Result<(), Fail> {
     assert!(rt; has(alloc, &mut shelf, Name::Index, &INDEX)?);
     assert!(rt; has(alloc, &mut shelf, Name::Log2, &LOG)?);
     assert!(rt; has(alloc, &mut shelf, Name::Log, &NEXT)?);
-    Ok(())
-}
-
-#[test]
-fn a_rotated_folder_opens_to_the_same_mailbox(rt: HostRuntime) -> Result<(), Fail> {
-    let alloc = rt.alloc();
-    let mut shelf = folder(alloc, &LOG, &[], None)?;
-    assert!(rt; rotated(alloc, &mut shelf)? == None);
     assert!(rt; is_next(&chain_of(alloc, &mut shelf)?));
     Ok(())
 }
@@ -174,17 +157,11 @@ fn stopped(alloc: Global, call: u32) -> Result<Option<TurnEnd>, Fail> {
 }
 
 #[test]
-fn a_rotation_tells_which_replace_failed(rt: HostRuntime) -> Result<(), Fail> {
+fn a_rotation_may_fail_or_be_cut_short_behind_each_call(rt: HostRuntime) -> Result<(), Fail> {
     let alloc = rt.alloc();
     assert!(rt; failing(alloc, 5)? == Some(TurnEnd::Before));
     assert!(rt; failing(alloc, 6)? == Some(TurnEnd::Before));
     assert!(rt; failing(alloc, 7)? == Some(TurnEnd::Last));
-    Ok(())
-}
-
-#[test]
-fn a_rotation_may_be_cut_short_behind_each_call(rt: HostRuntime) -> Result<(), Fail> {
-    let alloc = rt.alloc();
     assert!(rt; stopped(alloc, 4)? == Some(TurnEnd::Before));
     assert!(rt; stopped(alloc, 5)? == Some(TurnEnd::Before));
     assert!(rt; stopped(alloc, 6)? == Some(TurnEnd::Last));
@@ -211,35 +188,6 @@ fn a_last_replace_is_made_again(rt: HostRuntime) -> Result<(), Fail> {
     let texts = texts_of(alloc, &chain, &mut shelf)?;
     assert!(rt; rotate(&mut chain, &mut shelf, &texts) == Err(TurnEnd::Last));
     assert!(rt; again(alloc, &mut chain, &mut shelf, &texts)?);
-    Ok(())
-}
-
-// The old log in the texts of a rotation, whose folder has this log now.
-fn old_log(alloc: Global, log: &[u8]) -> Result<Bytes, Fail> {
-    let mut shelf = folder(alloc, &LOG, &[], None)?;
-    let chain = chain_of(alloc, &mut shelf)?;
-    let mut short = folder(alloc, log, &[], None)?;
-    Ok(texts_of(alloc, &chain, &mut short)?.old)
-}
-
-#[test]
-fn a_short_log_is_filled_up(rt: HostRuntime) -> Result<(), Fail> {
-    let alloc = rt.alloc();
-    let mut wanted = [0; 96];
-    assert!(rt; old_log(alloc, &[])?.as_slice() == wanted.as_slice());
-    wanted[0] = 7;
-    assert!(rt; old_log(alloc, &[7])?.as_slice() == wanted.as_slice());
-    Ok(())
-}
-
-#[test]
-fn a_missing_log_is_filled_up(rt: HostRuntime) -> Result<(), Fail> {
-    let alloc = rt.alloc();
-    let mut shelf = folder(alloc, &LOG, &[], None)?;
-    let chain = chain_of(alloc, &mut shelf)?;
-    assert!(rt; shelf.remove(Name::Log).is_ok());
-    let texts = texts_of(alloc, &chain, &mut shelf)?;
-    assert!(rt; texts.old.as_slice() == [0; 96].as_slice());
     Ok(())
 }
 

@@ -116,16 +116,6 @@ fn are_right(alloc: Global, turns: &[Turn]) -> Result<bool, NoMemory> {
     Ok(true)
 }
 
-const DELAYED: [Turn; 3] = [
-    (
-        APPEND_1_DELETED,
-        Some(Step::Full),
-        &[('E', 1, 0, 0), ('F', 1, 1, 4)],
-    ),
-    (EXPUNGE_1, Some(Step::Held), &[]),
-    (FLAG_2, Some(Step::Full), &[('X', 1, 0, 0)]),
-];
-
 const UNTOLD: [Turn; 4] = [
     (APPEND_1_DELETED, None, &[]),
     (
@@ -137,26 +127,9 @@ const UNTOLD: [Turn; 4] = [
     (FLAG_2, Some(Step::Held), &[('F', 2, 2, 2)]),
 ];
 
-const NEVER_HEARD_OF: [Turn; 2] = [
-    (APPEND_1_DELETED, None, &[]),
-    (EXPUNGE_1, Some(Step::Full), &[]),
-];
-
-#[test]
-fn expunge_is_delayed(rt: HostRuntime) -> Result<(), Fail> {
-    assert!(rt; are_right(rt.alloc(), &DELAYED)?);
-    Ok(())
-}
-
 #[test]
 fn untold_row_keeps_its_number(rt: HostRuntime) -> Result<(), Fail> {
     assert!(rt; are_right(rt.alloc(), &UNTOLD)?);
-    Ok(())
-}
-
-#[test]
-fn row_never_heard_of_is_not_told(rt: HostRuntime) -> Result<(), Fail> {
-    assert!(rt; are_right(rt.alloc(), &NEVER_HEARD_OF)?);
     Ok(())
 }
 
@@ -226,20 +199,15 @@ fn is_right(
 }
 
 #[test]
-fn full_step_follows_changes(rt: HostRuntime) -> Result<(), Fail> {
-    let expected = [
+fn both_steps_follow_changes(rt: HostRuntime) -> Result<(), Fail> {
+    let full = [
         ('X', 1, 0, 0),
         ('E', 2, 0, 0),
         ('F', 1, 2, 8),
         ('F', 2, 3, 0),
     ];
-    assert!(rt; is_right(rt.alloc(), Step::Full, &expected)?);
-    Ok(())
-}
-
-#[test]
-fn held_step_follows_changes(rt: HostRuntime) -> Result<(), Fail> {
-    let expected = [('E', 3, 0, 0), ('F', 2, 2, 8), ('F', 3, 3, 0)];
-    assert!(rt; is_right(rt.alloc(), Step::Held, &expected)?);
+    assert!(rt; is_right(rt.alloc(), Step::Full, &full)?);
+    let held = [('E', 3, 0, 0), ('F', 2, 2, 8), ('F', 3, 3, 0)];
+    assert!(rt; is_right(rt.alloc(), Step::Held, &held)?);
     Ok(())
 }

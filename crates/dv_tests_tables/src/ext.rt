@@ -189,13 +189,7 @@ const CACHE: [Done; 6] = [
     ),
 ];
 
-#[test]
-fn cache_is_introduced_reset_and_grown(rt: HostRuntime) {
-    assert_eq!(rt; first_fault(rt.alloc(), &CACHE), Ok(None));
-}
-
-const HEADERS: [Done; 8] = [
-    (Action::Header(0, &[1]), PartsChange::Same, &[], None),
+const HEADERS: [Done; 5] = [
     (
         Action::Intro(NAMED, b"x", 3, 4, 0),
         PartsChange::Added { size: 0 },
@@ -208,24 +202,11 @@ const HEADERS: [Done; 8] = [
         &[(b"x", 3, &[0, 7, 9, 0], 0, 4, 1)],
         Some((0, 0)),
     ),
-    // one byte beyond the end
-    (
-        Action::Header(3, &[1, 1]),
-        PartsChange::Same,
-        &[(b"x", 3, &[0, 7, 9, 0], 0, 4, 1)],
-        Some((0, 0)),
-    ),
-    (
-        Action::Header(2, &[8, 6]),
-        PartsChange::Same,
-        &[(b"x", 3, &[0, 7, 8, 6], 0, 4, 1)],
-        Some((0, 0)),
-    ),
     // preserved
     (
         Action::Reset(4, 1),
         PartsChange::Same,
-        &[(b"x", 4, &[0, 7, 8, 6], 0, 4, 1)],
+        &[(b"x", 4, &[0, 7, 9, 0], 0, 4, 1)],
         Some((0, 0)),
     ),
     (
@@ -244,67 +225,9 @@ const HEADERS: [Done; 8] = [
 ];
 
 #[test]
-fn parts_that_fit_are_written_into_the_header(rt: HostRuntime) {
+fn extensions_are_introduced_reset_and_written(rt: HostRuntime) {
+    assert_eq!(rt; first_fault(rt.alloc(), &CACHE), Ok(None));
     assert_eq!(rt; first_fault(rt.alloc(), &HEADERS), Ok(None));
-}
-
-const TABLE: &[Expected] = &[(b"a", 1, &[], 1, 4, 1), (b"b", 2, &[0, 0], 3, 4, 1)];
-
-const PLACES: [Done; 9] = [
-    (
-        Action::Intro(NAMED, b"a", 1, 0, 1),
-        PartsChange::Added { size: 1 },
-        &[(b"a", 1, &[], 1, 4, 1)],
-        Some((0, 1)),
-    ),
-    (
-        Action::Intro(NAMED, b"b", 2, 2, 3),
-        PartsChange::Added { size: 3 },
-        TABLE,
-        Some((1, 3)),
-    ),
-    (
-        Action::Intro(NAMED, b"a", 1, 0, 1),
-        PartsChange::Same,
-        TABLE,
-        Some((0, 1)),
-    ),
-    (
-        Action::Intro(1, b"a", 2, 0, 1),
-        PartsChange::Same,
-        TABLE,
-        Some((1, 1)),
-    ),
-    (
-        Action::Intro(1, b"b", 1, 0, 1),
-        PartsChange::Same,
-        TABLE,
-        None,
-    ),
-    (
-        Action::Intro(0, b"", 1, 0, 0),
-        PartsChange::Same,
-        TABLE,
-        Some((0, 0)),
-    ),
-    (
-        Action::Intro(2, b"c", 0, 0, 1),
-        PartsChange::Same,
-        TABLE,
-        None,
-    ),
-    (
-        Action::Intro(NAMED, b"keywords", 0, 0, 1),
-        PartsChange::Same,
-        TABLE,
-        None,
-    ),
-    (Action::Reset(9, 0), PartsChange::Same, TABLE, None),
-];
-
-#[test]
-fn extensions_are_named_or_placed(rt: HostRuntime) {
-    assert_eq!(rt; first_fault(rt.alloc(), &PLACES), Ok(None));
 }
 
 const ONE: [Expected; 1] = [(b"cache", 0, &[], 4, 4, 1)];
@@ -323,116 +246,6 @@ fn copies_hold(alloc: Global) -> Result<(bool, bool), NoMemory> {
 #[test]
 fn copy_is_equal(rt: HostRuntime) {
     assert_eq!(rt; copies_hold(rt.alloc()), Ok((true, true)));
-}
-
-// How many extensions an introduction by a name of so many bytes makes.
-fn count_with(alloc: Global, length: usize) -> Result<usize, NoMemory> {
-    let name = vec![in alloc; b'n'; length]?;
-    let mut extensions = Extensions::empty(alloc);
-    introduce(alloc, &mut extensions, NAMED, &name, (0, 0, 4))?;
-    Ok(extensions.list().len())
-}
-
-#[test]
-fn names_have_1_to_255_bytes(rt: HostRuntime) {
-    for (length, count) in [(0, 0), (1, 1), (255, 1), (256, 0)] {
-        assert_eq!(rt; count_with(rt.alloc(), length), Ok(count), "{length}");
-    }
-}
-
-// The first of the letters `a` to `p` whose introduction doesn't add an extension.
-fn first_not_added(alloc: Global, extensions: &mut Extensions) -> Result<Option<u8>, NoMemory> {
-    for letter in b'a'..=b'p' {
-        let change = introduce(alloc, extensions, NAMED, &[letter], (0, 0, 1))?;
-        if change != (PartsChange::Added { size: 1 }) {
-            return Ok(Some(letter));
-        }
-    }
-    Ok(None)
-}
-
-// The same, and the current extension then.
-fn sixteen(alloc: Global) -> Result<(Option<u8>, Option<(u32, u16)>), NoMemory> {
-    let mut extensions = Extensions::empty(alloc);
-    let first = first_not_added(alloc, &mut extensions)?;
-    Ok((first, current_of(&extensions)))
-}
-
-// What one more introduction changes, and how many extensions there are then.
-fn seventeenth(alloc: Global) -> Result<(PartsChange, usize), NoMemory> {
-    let mut extensions = Extensions::empty(alloc);
-    first_not_added(alloc, &mut extensions)?;
-    let change = introduce(alloc, &mut extensions, NAMED, b"q", (0, 0, 1))?;
-    Ok((change, extensions.list().len()))
-}
-
-#[test]
-fn seventeenth_extension_is_not_added(rt: HostRuntime) {
-    assert_eq!(rt; sixteen(rt.alloc()), Ok((None, Some((15, 1)))));
-    assert_eq!(rt; seventeenth(rt.alloc()), Ok((PartsChange::Same, 16)));
-}
-
-// The sizes of an introduction of `a` or `b`, and the answer.
-type Answered = (&'static [u8], u32, u16, PartsChange, Option<(u32, u16)>);
-
-const SIZES: [Answered; 7] = [
-    (
-        b"a",
-        0,
-        1_000,
-        PartsChange::Added { size: 1_000 },
-        Some((0, 1_000)),
-    ),
-    (b"b", 65_537, 24, PartsChange::Same, None),
-    (b"b", 0, 25, PartsChange::Same, None),
-    (
-        b"b",
-        65_536,
-        24,
-        PartsChange::Added { size: 24 },
-        Some((1, 24)),
-    ),
-    (b"a", 0, 1_001, PartsChange::Same, None),
-    (b"a", 65_537, 1_000, PartsChange::Same, None),
-    (b"a", 65_536, 1_000, PartsChange::Same, Some((0, 1_000))),
-];
-
-fn first_other_answer(
-    alloc: Global,
-    extensions: &mut Extensions,
-) -> Result<Option<usize>, NoMemory> {
-    for (at, (name, hdr_size, record_size, expected, current)) in SIZES.iter().enumerate() {
-        let change = introduce(alloc, extensions, NAMED, name, (0, *hdr_size, *record_size))?;
-        if change != *expected || current_of(extensions) != *current {
-            return Ok(Some(at));
-        }
-    }
-    Ok(None)
-}
-
-// How many extensions there are, where all have so many bytes of header.
-fn count_of(extensions: &Extensions, length: usize) -> Option<usize> {
-    let list = extensions.list().as_slice();
-    if list
-        .iter()
-        .all(|extension| extension.header.len() == length)
-    {
-        Some(list.len())
-    } else {
-        None
-    }
-}
-
-// The place of the first other answer, and how many extensions have the longest header.
-fn sized(alloc: Global) -> Result<(Option<usize>, Option<usize>), NoMemory> {
-    let mut extensions = Extensions::empty(alloc);
-    let first = first_other_answer(alloc, &mut extensions)?;
-    Ok((first, count_of(&extensions, 65_536)))
-}
-
-#[test]
-fn sizes_stay_within_the_limits(rt: HostRuntime) {
-    assert_eq!(rt; sized(rt.alloc()), Ok((None, Some(2))));
 }
 
 const UPDATE: &[u8] = &[
@@ -457,26 +270,4 @@ fn rows_of_an_update_are_padded(rt: HostRuntime) {
         Some((4294967295, [1, 2, 3, 4, 5].as_slice()))
     );
     assert_eq!(rt; row_of_update(2), None);
-}
-
-// The number of rows of the first bytes, at a size.
-const COUNTS: [(u16, usize, Option<usize>); 5] = [
-    (0, 24, Some(6)),
-    (9, 24, None),
-    (9, 0, Some(0)),
-    (8, 23, None),
-    (65_535, 24, None),
-];
-
-fn count_of_rows(size: u16, length: usize) -> Option<usize> {
-    let (bytes, _) = UPDATE.split_at(length.min(UPDATE.len()));
-    let updates = RowUpdates::new(size, bytes)?;
-    Some(updates.len())
-}
-
-#[test]
-fn rows_of_an_update_are_whole(rt: HostRuntime) {
-    for (size, length, count) in COUNTS {
-        assert_eq!(rt; count_of_rows(size, length), count, "{size}");
-    }
 }
