@@ -13,7 +13,8 @@ module _ (shelf mid shelf_now out out_now : ℕ) (later : shelf ≤ mid) where
 
   -- the lines ended it
   pub end_later : (e : End) → EndsServing e → EndCause mid shelf_now out out_now e → EndCause shelf shelf_now out out_now e
-  end_later (end.Answered mark groups) serving is = record { later = both_later is.later; cause = tt }
+  end_later (end.Answered mark groups loaded) serving is = record { later = both_later is.later; cause = tt }
+  end_later (end.Rebuilt kept skipped) serving is = absurd serving
   end_later end.Usage serving is = absurd serving
   end_later (end.Unopened f) serving is = absurd serving
   end_later end.NoMemory serving is = record { later = both_later is.later; cause = tt }

@@ -15,7 +15,8 @@ use Rattle.dv_openings.proofs.FoundOnce.{found_one}
 use Rattle.dv_chain.specs.Openings.{FaultFound}
 use Rattle.dv_cli.specs.Endings.{IsFault, fault_status}
 use Rattle.dv_cli.specs.Causes.{HasFault}
-use Rattle.dv_cli.specs.Starts.{IsNamed, IsNew, IsOpened, Starts, log_from}
+use Rattle.dv_serial.specs.NextRuns.{IsNamed}
+use Rattle.dv_cli.specs.Starts.{IsNew, IsOpened, Starts, log_from}
 
 -- ---- faults
 

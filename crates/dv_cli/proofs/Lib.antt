@@ -17,3 +17,5 @@ mod WholeRuns
 mod WrongWords
 mod Reached
 mod FoundTold
+mod Untold
+mod Tasked

@@ -12,7 +12,8 @@ use Rattle.dv_chain.proofs.Shelves.{looked_only, looked_then}
 use Rattle.dv_store.specs.States.{State}
 use Rattle.dv_cli.specs.Begins.{Begins, IsBegun}
 use Rattle.dv_cli.specs.Runs.{IsUnopened, LeavesUnopened, MayLeave}
-use Rattle.dv_cli.specs.Starts.{IsNew, IsTrueFolder, Starts}
+use Rattle.dv_serial.specs.NextRuns.{IsTrueFolder}
+use Rattle.dv_cli.specs.Starts.{IsNew, Starts}
 use Rattle.dv_cli.proofs.Created.{outside_found, outside_none}
 use Rattle.dv_cli.proofs.Opened.{start_may}
 use Rattle.dv_cli.proofs.Starting.{opened_gives, quiet_same}

@@ -19,10 +19,11 @@ use Rattle.dv_lookups.specs.Kept.{IsFileOf}
 use Rattle.dv_store.specs.Opening.{IsFresh, Opens, OpensQuietly}
 use Rattle.dv_store.specs.Rest.{IsAtRest}
 use Rattle.dv_store.specs.States.{State}
+use Rattle.dv_serial.specs.NextRuns.{IsNamed, IsTrueFolder}
 use Rattle.dv_serial.specs.Places.{MayGive}
 use Rattle.dv_cli.specs.Begins.{IsBegun}
 use Rattle.dv_cli.specs.Runs.{IsUnopened, LeavesUnopened, MayLeave}
-use Rattle.dv_cli.specs.Starts.{IsNamed, IsNew, IsTrueFolder, log_from}
+use Rattle.dv_cli.specs.Starts.{IsNew, log_from}
 use Rattle.dv_cli.proofs.Starting.{IsTyped, behind_none, gives_quiet, keeps_itself, quiet_same, sound_from}
 
 -- ---- any start

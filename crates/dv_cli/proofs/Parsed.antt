@@ -1,6 +1,6 @@
 -- The first bytes of a script say what it says.
 use Rattle.std.proofs.Common.{◌≡◌, ◌<◌, ◌≤◌, ⊎_elim, ℕ, List, length, take, Err, Ok, refl, sym, ◌∙◌, ap, arith}
-use Rattle.std.specs.Prelude.{Result, ◌⊎◌}
+use Rattle.std.specs.Prelude.{Result}
 use Rattle.std.proofs.lemmas.Bool.{cases_lt, lt-ltb}
 use Rattle.std.proofs.lemmas.List.{length-take, take_all}
 use Rattle.dv_formats.specs.Parsing.{ScriptFault, parsed}

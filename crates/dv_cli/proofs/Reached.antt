@@ -1,5 +1,7 @@
 -- How a run ends before its last line.
-use Rattle.std.proofs.Common.{◌≡◌, ℕ, List, Result, Ok, Err, sym, ◌∙◌, subst}
+use Rattle.std.proofs.Common.{◌≡◌, ℕ, List, Result, Ok, Err, refl, sym, ◌∙◌, subst}
+use Rattle.std.specs.Prelude.{IsSome, Option, Some}
+use Rattle.dv_model.specs.Counts.{Rose}
 use Rattle.dv_model.specs.declared.types.OpenFault.{OpenFault}
 use Rattle.dv_model.specs.declared.types.OpenFault.TheVariants as fault
 use Rattle.dv_shelf.specs.Folders.{Folder}
@@ -8,6 +10,9 @@ use Rattle.dv_formats.specs.Scripts.{NamedLine}
 use Rattle.dv_script.specs.Sources.{ScriptFails}
 use Rattle.dv_script.specs.declared.types.ScriptEnd.{ScriptEnd}
 use Rattle.dv_script.specs.declared.types.ScriptEnd.TheVariants as script
+use Rattle.dv_cli.specs.Tasks.{EndsBy, Opens}
+use Rattle.dv_cli.specs.declared.words.Task.{Task}
+use Rattle.dv_cli.specs.declared.words.Task.TheVariants as task
 use Rattle.dv_cli.specs.declared.ending.End.{End}
 use Rattle.dv_cli.specs.declared.ending.End.TheVariants as end
 use Rattle.dv_cli.specs.Causes.{ComesFrom, EndsRefused, FolderCause, IsReadEnd, ScriptEnds, TakesByEnd, TakesForRun, TellsFaults, TellsScript, counts_of}
@@ -29,8 +34,9 @@ unopened_comes shelf shelf_now source source_now out out_now (fault.Gap index lo
 pub folder_comes : (shelf shelf_now source source_now out out_now : ℕ) (e : End)
     → FolderCause shelf shelf_now out out_now e
     → ComesFrom (counts_of shelf source out) (counts_of shelf_now source_now out_now) e
-folder_comes shelf shelf_now source source_now out out_now (end.Answered mark groups) cause = tt
-folder_comes shelf shelf_now source source_now out out_now end.Usage cause = cause
+folder_comes shelf shelf_now source source_now out out_now (end.Answered mark groups loaded) cause = tt
+folder_comes shelf shelf_now source source_now out out_now (end.Rebuilt kept skipped) cause = tt
+folder_comes shelf shelf_now source source_now out out_now end.Usage cause = tt
 folder_comes shelf shelf_now source source_now out out_now (end.Unopened f) cause =
     unopened_comes shelf shelf_now source source_now out out_now f cause
 folder_comes shelf shelf_now source source_now out out_now end.NoMemory cause = tt
@@ -41,7 +47,8 @@ folder_comes shelf shelf_now source source_now out out_now end.Sink cause = caus
 pub folder_script : (shelf shelf_now out out_now : ℕ) (read : Result (List NamedLine) ScriptFault)
     (lines : List NamedLine) (e : End) → FolderCause shelf shelf_now out out_now e
     → read ≡ Ok lines → TellsScript read e
-folder_script shelf shelf_now out out_now read lines (end.Answered mark groups) cause is = (lines, is)
+folder_script shelf shelf_now out out_now read lines (end.Answered mark groups loaded) cause is = (lines, is)
+folder_script shelf shelf_now out out_now read lines (end.Rebuilt kept skipped) cause is = absurd cause
 folder_script shelf shelf_now out out_now read lines end.Usage cause is = cause
 folder_script shelf shelf_now out out_now read lines (end.Unopened f) cause is = (lines, is)
 folder_script shelf shelf_now out out_now read lines end.NoMemory cause is = tt
@@ -52,7 +59,8 @@ folder_script shelf shelf_now out out_now read lines end.Sink cause is = (lines,
 pub folder_takes : (shelf shelf_now out out_now lines : ℕ) (old new : ℕ → ℕ) (e : End)
     → FolderCause shelf shelf_now out out_now e → TakesForRun lines old new e
     → TakesByEnd old new e
-folder_takes shelf shelf_now out out_now lines old new (end.Answered mark groups) cause takes = tt
+folder_takes shelf shelf_now out out_now lines old new (end.Answered mark groups loaded) cause takes = tt
+folder_takes shelf shelf_now out out_now lines old new (end.Rebuilt kept skipped) cause takes = tt
 folder_takes shelf shelf_now out out_now lines old new end.Usage cause takes = absurd cause
 folder_takes shelf shelf_now out out_now lines old new (end.Unopened f) cause takes = takes
 folder_takes shelf shelf_now out out_now lines old new end.NoMemory cause takes = tt
@@ -64,8 +72,9 @@ folder_takes shelf shelf_now out out_now lines old new end.Sink cause takes = tt
 
 pub read_comes : (shelf source source_now out : ℕ) (e : End) → IsReadEnd e source source_now
     → ComesFrom (counts_of shelf source out) (counts_of shelf source_now out) e
-read_comes shelf source source_now out (end.Answered mark groups) is = tt
-read_comes shelf source source_now out end.Usage is = is
+read_comes shelf source source_now out (end.Answered mark groups loaded) is = tt
+read_comes shelf source source_now out (end.Rebuilt kept skipped) is = tt
+read_comes shelf source source_now out end.Usage is = tt
 read_comes shelf source source_now out (end.Unopened f) is = absurd is
 read_comes shelf source source_now out end.NoMemory is = tt
 read_comes shelf source source_now out (end.Script s) is = tt
@@ -74,7 +83,8 @@ read_comes shelf source source_now out end.Sink is = absurd is
 
 pub read_script : (read : Result (List NamedLine) ScriptFault) (e : End)
     → ScriptEnds (Err e) read → TellsScript read e
-read_script read (end.Answered mark groups) is = absurd is
+read_script read (end.Answered mark groups loaded) is = absurd is
+read_script read (end.Rebuilt kept skipped) is = absurd is
 read_script read end.Usage is = is
 read_script read (end.Unopened f) is = absurd is
 read_script read end.NoMemory is = tt
@@ -84,7 +94,8 @@ read_script read end.Sink is = absurd is
 
 pub read_faults : (folder : Folder) (before now : ℕ) (e : End) → IsReadEnd e before now
     → TellsFaults folder e
-read_faults folder before now (end.Answered mark groups) is = absurd is
+read_faults folder before now (end.Answered mark groups loaded) is = absurd is
+read_faults folder before now (end.Rebuilt kept skipped) is = absurd is
 read_faults folder before now end.Usage is = tt
 read_faults folder before now (end.Unopened f) is = absurd is
 read_faults folder before now end.NoMemory is = tt
@@ -94,7 +105,8 @@ read_faults folder before now end.Sink is = tt
 
 pub read_takes_none : (before now : ℕ) (old new : ℕ → ℕ) (e : End) → IsReadEnd e before now
     → new ≡ old → TakesByEnd old new e
-read_takes_none before now old new (end.Answered mark groups) is same = tt
+read_takes_none before now old new (end.Answered mark groups loaded) is same = tt
+read_takes_none before now old new (end.Rebuilt kept skipped) is same = tt
 read_takes_none before now old new end.Usage is same = same
 read_takes_none before now old new (end.Unopened f) is same = absurd is
 read_takes_none before now old new end.NoMemory is same = tt
@@ -102,11 +114,11 @@ read_takes_none before now old new (end.Script s) is same = same
 read_takes_none before now old new (end.Source faults) is same = same
 read_takes_none before now old new end.Sink is same = tt
 
-abbrev IsGood : Result (List NamedLine) ScriptFault → Type 0
+abbrev pub IsGood : Result (List NamedLine) ScriptFault → Type 0
 IsGood (Ok lines) = Unit {0}
 IsGood (Err f) = ⊥
 
-good_script : (read : Result (List NamedLine) ScriptFault) (lines : List NamedLine)
+pub good_script : (read : Result (List NamedLine) ScriptFault) (lines : List NamedLine)
     (f : ScriptFault) → read ≡ Ok lines → read ≡ Err f → ⊥
 good_script read lines f good bad =
     subst IsGood (sym good ∙ bad) tt
@@ -122,7 +134,8 @@ script_reading read lines script.NoMemory is good = tt
 -- a good script is refused by none
 pub reads_well : (read : Result (List NamedLine) ScriptFault) (lines : List NamedLine) (e : End)
     → ScriptEnds (Err e) read → read ≡ Ok lines → EndsReading e
-reads_well read lines (end.Answered mark groups) is good = is
+reads_well read lines (end.Answered mark groups loaded) is good = is
+reads_well read lines (end.Rebuilt kept skipped) is good = is
 reads_well read lines end.Usage is good = is
 reads_well read lines (end.Unopened f) is good = is
 reads_well read lines end.NoMemory is good = tt
@@ -138,7 +151,8 @@ script_refused read f s is bad =
 -- a bad one is
 pub reads_refused : (read : Result (List NamedLine) ScriptFault) (f : ScriptFault) (e : End)
     → ScriptEnds (Err e) read → read ≡ Err f → EndsRefused f e
-reads_refused read f (end.Answered mark groups) is bad = is
+reads_refused read f (end.Answered mark groups loaded) is bad = is
+reads_refused read f (end.Rebuilt kept skipped) is bad = is
 reads_refused read f end.Usage is bad = is
 reads_refused read f (end.Unopened g) is bad = is
 reads_refused read f end.NoMemory is bad = tt
@@ -150,3 +164,29 @@ reads_refused read f end.Sink is bad = is
 pub not_refused : (read : Result (List NamedLine) ScriptFault) (lines : List NamedLine)
     (f : ScriptFault) → read ≡ Ok lines → read ≡ Err f → ⊥
 not_refused read lines f good bad = good_script read lines f good bad
+
+-- ---- which task they are of
+
+-- a run over a folder ends so, with replies to a script or with none
+pub folder_ends : (t : Option Task) (shelf shelf_now out out_now : ℕ) (e : End) → Opens t
+    → IsSome t → (Rose out out_now → t ≡ Some task.Run)
+    → FolderCause shelf shelf_now out out_now e → EndsBy t e
+folder_ends t shelf shelf_now out out_now (end.Answered mark groups loaded) opens some sink cause = opens
+folder_ends t shelf shelf_now out out_now (end.Rebuilt kept skipped) opens some sink cause = absurd cause
+folder_ends t shelf shelf_now out out_now end.Usage opens some sink cause = absurd cause
+folder_ends t shelf shelf_now out out_now (end.Unopened f) opens some sink cause = (some, λ is. opens)
+folder_ends t shelf shelf_now out out_now end.NoMemory opens some sink cause = some
+folder_ends t shelf shelf_now out out_now (end.Script s) opens some sink cause = absurd cause
+folder_ends t shelf shelf_now out out_now (end.Source faults) opens some sink cause = absurd cause
+folder_ends t shelf shelf_now out out_now end.Sink opens some sink cause = sink cause
+
+-- a script that isn't served is read to be run
+pub read_ends : (before now : ℕ) (e : End) → IsReadEnd e before now → EndsBy (Some task.Run) e
+read_ends before now (end.Answered mark groups loaded) is = absurd is
+read_ends before now (end.Rebuilt kept skipped) is = absurd is
+read_ends before now end.Usage is = absurd is
+read_ends before now (end.Unopened f) is = absurd is
+read_ends before now end.NoMemory is = refl
+read_ends before now (end.Script s) is = refl
+read_ends before now (end.Source faults) is = refl
+read_ends before now end.Sink is = absurd is

@@ -1,9 +1,10 @@
 -- Lines are served from where a run begins.
 use Rattle.std.proofs.Common.{◌≡◌, ◌⊎◌, ⊎_elim, inl, inr, ℕ, ◌+◌, ◌≤◌, ◌<◌, Bool, true, false, List, [], ◌∷◌, ◌++◌, append-nil, length, Option, Result, Ok, Err, refl, sym, ◌∙◌, ap, subst, arith}
-use Rattle.std.specs.Prelude.{replicate, if◌then◌else◌}
+use Rattle.std.specs.Prelude.{IfSome, replicate, if◌then◌else◌}
 use Rattle.std.proofs.lemmas.List.{get_or-replicate, length-replicate}
 use Rattle.std.proofs.lemmas.List.Elements.{All-nil, All-replicate}
 use Rattle.dv_model.specs.declared.types.Entry.{Entry}
+use Rattle.dv_model.specs.declared.types.Mailbox.{Mailbox}
 use Rattle.dv_model.specs.declared.types.Mark.{Mark}
 use Rattle.dv_model.specs.declared.types.Reply.{Reply}
 use Rattle.dv_model.specs.Journals.{Log}
@@ -21,7 +22,11 @@ use Rattle.dv_playing.proofs.Plays.{goes_on, leaves, serial}
 use Rattle.dv_store.specs.States.{State}
 use Rattle.dv_serial.specs.declared.lines.LineEnd.{LineEnd}
 use Rattle.dv_serial.specs.declared.lines.LineEnd.TheVariants as line_end
+use Rattle.dv_rotation.specs.declared.texts.Turn.{Turn}
+use Rattle.dv_keeping.specs.Repairing.{IsOwedTurn}
 use Rattle.dv_serial.specs.Following.{AreSeated, Follows, IsLeft, Keeps, MayBeLeft}
+use Rattle.dv_serial.specs.NextRuns.{LeavesTrue}
+use Rattle.dv_serial.proofs.NextRuns.{leaves_true}
 use Rattle.dv_serial.specs.Places.{GivesBehind, MayGive, play_of}
 use Rattle.dv_serial.specs.Runs.{EndsWith, HasRead, IsCaused, Runs, Writes}
 use Rattle.dv_serial.specs.Scripts.{numbered}
@@ -30,7 +35,9 @@ use Rattle.dv_serial.proofs.Crashing.{keeps_behind, longer_may}
 use Rattle.dv_cli.specs.declared.ending.End.{End}
 use Rattle.dv_cli.specs.declared.ending.End.TheVariants as end
 use Rattle.dv_cli.specs.Begins.{IsBegun}
-use Rattle.dv_cli.specs.Behind.{end_behind}
+use Rattle.dv_cli.specs.declared.words.Load.{Load}
+use Rattle.dv_cli.specs.declared.ending.Loaded.{Loaded}
+use Rattle.dv_cli.specs.Behind.{end_behind, loaded_by}
 use Rattle.dv_cli.specs.Causes.{EndCause, EndsServing}
 use Rattle.dv_cli.specs.Runs.{EndsAt, IsAnswered, MayLeave, RunsOver, ServesLines, WritesLines}
 use Rattle.dv_cli.proofs.Starting.{IsBare, behind_both, behind_none, start_bare}
@@ -93,44 +100,45 @@ first_of clock base start answered left rest (Ok done) ends = inl ends.1
 first_of clock base start answered left [] (Err e) ends = absurd ends
 first_of clock base start answered left (line ∷ behind) (Err e) ends = inr (line, behind, refl, ends)
 
-ends_at : (clock : ℕ → ℕ) (base : ℕ) (start : Log) (answered left : List Attempt) (rest : List Line) (result : Result (Unit {0}) LineEnd) (mark : Mark) (groups : ℕ) → (play_of clock start (answered ++ left)).mark ≡ mark → length (play_of clock start (answered ++ left)).log.entries ≡ groups
-    → EndsWith clock base start answered left rest result → EndsAt (end_behind result mark groups) clock base start answered left rest
-ends_at clock base start answered left rest (Ok done) mark groups at count ends =
+ends_at : (clock : ℕ → ℕ) (base : ℕ) (start : Log) (load : Option Load) (answered left : List Attempt) (rest : List Line) (result : Result (Unit {0}) LineEnd) (mark : Mark) (groups : ℕ) (m : Mailbox) → (play_of clock start (answered ++ left)).mark ≡ mark → length (play_of clock start (answered ++ left)).log.entries ≡ groups
+    → (play_of clock start (answered ++ left)).mailbox ≡ m → EndsWith clock base start answered left rest result → EndsAt load (end_behind result mark groups (loaded_by load m)) clock base start answered left rest
+ends_at clock base start load answered left rest (Ok done) mark groups m at count same ends =
     let all : answered ++ left ≡ answered = ap (λ (these : List Attempt). answered ++ these) ends.1 ∙ append-nil answered in (
       ends.0,
       ends.1,
       sym at ∙ ap (λ (these : List Attempt). (play_of clock start these).mark) all,
       sym count ∙ ap (λ (these : List Attempt). length (play_of clock start these).log.entries) all,
+      ap (loaded_by load) (sym same ∙ ap (λ (these : List Attempt). (play_of clock start these).mailbox) all),
     )
-ends_at clock base start answered left [] (Err e) mark groups at count ends = absurd ends
-ends_at clock base start answered left (line ∷ behind) (Err line_end.NoMemory) mark groups at count ends = ends
-ends_at clock base start answered left (line ∷ behind) (Err (line_end.Sink faults)) mark groups at count ends = ends
+ends_at clock base start load answered left [] (Err e) mark groups m at count same ends = absurd ends
+ends_at clock base start load answered left (line ∷ behind) (Err line_end.NoMemory) mark groups m at count same ends = ends
+ends_at clock base start load answered left (line ∷ behind) (Err (line_end.Sink faults)) mark groups m at count same ends = ends
 
-writes_lines : (clock : ℕ → ℕ) (start : Log) (answered left : List Attempt) (lines : List NamedLine) (result : Result (Unit {0}) LineEnd) (mark : Mark) (groups : ℕ) (old new : List ℕ) → Writes clock start answered left lines result old new
-    → WritesLines (end_behind result mark groups) clock start answered left lines old new
-writes_lines clock start answered left lines (Ok done) mark groups old new writes = writes
-writes_lines clock start answered left lines (Err line_end.NoMemory) mark groups old new writes = writes
-writes_lines clock start answered left lines (Err (line_end.Sink faults)) mark groups old new writes = writes
+writes_lines : (clock : ℕ → ℕ) (start : Log) (answered left : List Attempt) (lines : List NamedLine) (result : Result (Unit {0}) LineEnd) (mark : Mark) (groups : ℕ) (loaded : Option Loaded) (old new : List ℕ) → Writes clock start answered left lines result old new
+    → WritesLines (end_behind result mark groups loaded) clock start answered left lines old new
+writes_lines clock start answered left lines (Ok done) mark groups loaded old new writes = writes
+writes_lines clock start answered left lines (Err line_end.NoMemory) mark groups loaded old new writes = writes
+writes_lines clock start answered left lines (Err (line_end.Sink faults)) mark groups loaded old new writes = writes
 
-has_read : (clock : ℕ → ℕ) (used more : ℕ) (upcoming : ℕ → ℕ) (result : Result (Unit {0}) LineEnd) (mark : Mark) (groups : ℕ) → HasRead (behind clock used) more upcoming result → IsAnswered (end_behind result mark groups) → upcoming ≡ behind clock (used + more)
-has_read clock used more upcoming (Ok done) mark groups read answered = read ∙ behind_both clock used more
-has_read clock used more upcoming (Err line_end.NoMemory) mark groups read answered = absurd answered
-has_read clock used more upcoming (Err (line_end.Sink faults)) mark groups read answered = absurd answered
+has_read : (clock : ℕ → ℕ) (used more : ℕ) (upcoming : ℕ → ℕ) (result : Result (Unit {0}) LineEnd) (mark : Mark) (groups : ℕ) (loaded : Option Loaded) → HasRead (behind clock used) more upcoming result → IsAnswered (end_behind result mark groups loaded) → upcoming ≡ behind clock (used + more)
+has_read clock used more upcoming (Ok done) mark groups loaded read answered = read ∙ behind_both clock used more
+has_read clock used more upcoming (Err line_end.NoMemory) mark groups loaded read answered = absurd answered
+has_read clock used more upcoming (Err (line_end.Sink faults)) mark groups loaded read answered = absurd answered
 
-pub ends_serving : (result : Result (Unit {0}) LineEnd) (mark : Mark) (groups : ℕ) → EndsServing (end_behind result mark groups)
-ends_serving (Ok done) mark groups = tt
-ends_serving (Err line_end.NoMemory) mark groups = tt
-ends_serving (Err (line_end.Sink faults)) mark groups = tt
+pub ends_serving : (result : Result (Unit {0}) LineEnd) (mark : Mark) (groups : ℕ) (loaded : Option Loaded) → EndsServing (end_behind result mark groups loaded)
+ends_serving (Ok done) mark groups loaded = tt
+ends_serving (Err line_end.NoMemory) mark groups loaded = tt
+ends_serving (Err (line_end.Sink faults)) mark groups loaded = tt
 
-pub end_cause : (result : Result (Unit {0}) LineEnd) (mark : Mark) (groups shelf shelf_now out out_now : ℕ) → (shelf ≤ shelf_now) × (out ≤ out_now) → IsCaused out out_now result → EndCause shelf shelf_now out out_now (end_behind result mark groups)
-end_cause (Ok done) mark groups shelf shelf_now out out_now later cause = record { later = later; cause = tt }
-end_cause (Err line_end.NoMemory) mark groups shelf shelf_now out out_now later cause = record { later = later; cause = tt }
-end_cause (Err (line_end.Sink faults)) mark groups shelf shelf_now out out_now later cause = record { later = later; cause = cause.0 }
+pub end_cause : (result : Result (Unit {0}) LineEnd) (mark : Mark) (groups : ℕ) (loaded : Option Loaded) (shelf shelf_now out out_now : ℕ) → (shelf ≤ shelf_now) × (out ≤ out_now) → IsCaused out out_now result → EndCause shelf shelf_now out out_now (end_behind result mark groups loaded)
+end_cause (Ok done) mark groups loaded shelf shelf_now out out_now later cause = record { later = later; cause = tt }
+end_cause (Err line_end.NoMemory) mark groups loaded shelf shelf_now out out_now later cause = record { later = later; cause = tt }
+end_cause (Err (line_end.Sink faults)) mark groups loaded shelf shelf_now out out_now later cause = record { later = later; cause = cause.0 }
 
 -- ---- from a store from which a run begins
 
 module _ {S C : Type 0} (files : S → Folder) (may_leave : S → Folder → Type 0) (moment : S → ℕ) (left_since : S → ℕ → Folder → Type 0) (upcoming : C → ℕ → ℕ) (clock : ℕ → ℕ) (old : S) (store : State S C)
-    (begun : IsBegun files may_leave moment left_since upcoming clock old store) (base : ℕ) where
+    (begun : IsBegun files may_leave moment left_since upcoming clock old store) (base : ℕ) (load : Option Load) where
   abbrev start : Log
   start = begun.start
 
@@ -173,17 +181,17 @@ module _ {S C : Type 0} (files : S → Folder) (may_leave : S → Folder → Typ
 
   module _ (faults : ℕ) (lines : List NamedLine) (told : Type 0) (taken taken_now : List ℕ) (seats : List Follower) (result : Result (Unit {0}) LineEnd) (new : Serving S C)
       (runs : Runs files may_leave moment left_since upcoming time start base faults lines result told taken taken_now (serving_over store seats) new)
-      (there : may_leave new.store.shelf (files new.store.shelf)) where
+      (there : may_leave new.store.shelf (files new.store.shelf)) (next : LeavesTrue files may_leave new.store.shelf) where
     abbrev all : List Attempt
     all = runs.answered ++ runs.left
 
     abbrev how : End
-    how = end_behind result new.mark (length new.journal)
+    how = end_behind result new.mark (length new.journal) (loaded_by load new.store.chain.live.mailbox)
 
     kept : (c : Folder) → may_leave new.store.shelf c → GivesBehind time start all c
     kept c left = keeps_behind files may_leave time start all new runs.leaves.keeps c left
 
-    pub serves_lines : ServesLines files may_leave moment left_since clock (upcoming new.store.clock) base faults lines how new.journal told taken taken_now old new.store.shelf
+    pub serves_lines : ServesLines files may_leave moment left_since clock (upcoming new.store.clock) base faults load lines how new.journal told taken taken_now old new.store.shelf
     serves_lines = record {
       start = start;
       used = begun.used;
@@ -192,31 +200,32 @@ module _ {S C : Type 0} (files : S → Folder) (may_leave : S → Folder → Typ
       left = runs.left;
       rest = runs.rest;
       parts = runs.parts;
-      ends = ends_at time base start runs.answered runs.left runs.rest result new.mark (length new.journal) runs.leaves.keeps.at.mark (ap length runs.leaves.keeps.at.journal) runs.ends;
+      ends = ends_at time base start load runs.answered runs.left runs.rest result new.mark (length new.journal) new.store.chain.live.mailbox runs.leaves.keeps.at.mark (ap length runs.leaves.keeps.at.journal) runs.leaves.keeps.at.mailbox runs.ends;
       serial = subst (λ (ls : List Line). Serial (play_of time start all).log base faults ls (replies_to time (begin start) runs.answered)) (sym runs.parts)
           (serial_left time start base faults runs.answered runs.may runs.left runs.rest (first_of time base start runs.answered runs.left runs.rest result runs.ends));
       entries = sym runs.leaves.keeps.at.journal;
-      output = λ tells. writes_lines time start runs.answered runs.left lines result new.mark (length new.journal) taken taken_now (runs.output tells);
-      readings = has_read clock begun.used (play_of time start runs.answered).used (upcoming new.store.clock) result new.mark (length new.journal) runs.readings;
+      output = λ tells. writes_lines time start runs.answered runs.left lines result new.mark (length new.journal) (loaded_by load new.store.chain.live.mailbox) taken taken_now (runs.output tells);
+      readings = has_read clock begun.used (play_of time start runs.answered).used (upcoming new.store.clock) result new.mark (length new.journal) (loaded_by load new.store.chain.live.mailbox) runs.readings;
       others = λ n other none. runs.others n none ∙ begun.others n other;
       folder = kept (files new.store.shelf) there;
       after = kept;
       crash = joined moment left_since old store.shelf new.store.shelf (MayLeave time start all (files old))
           (weaker moment left_since old store.shelf (MayLeave time start [] (files old)) (MayLeave time start all (files old)) begun.since (longer_leave all))
           (weaker moment left_since store.shelf new.store.shelf (MayGive time start all) (MayLeave time start all (files old)) runs.leaves.since (λ c may. inr may));
+      next = next;
     }
 
   -- the play begins with new sessions
   module _ (counts : S → ℕ) (later : base ≤ counts store.shelf) (faults : ℕ) (lines : List NamedLine) (told : Type 0) (taken taken_now : List ℕ) (n : ℕ) (seats : List Follower) (result : Result (Unit {0}) LineEnd) (serial new : Serving S C) where
     pub serves_all : seats ≡ replicate n new_follower → serial ≡ serving_over store seats
         → (Follows files may_leave upcoming time start base (counts serial.store.shelf) [] serial → Runs files may_leave moment left_since upcoming time start base faults lines result told taken taken_now serial new)
-        → may_leave new.store.shelf (files new.store.shelf)
-        → ServesLines files may_leave moment left_since clock (upcoming new.store.clock) base faults lines (end_behind result new.mark (length new.journal)) new.journal told taken taken_now old new.store.shelf
-    serves_all is over run there =
+        → may_leave new.store.shelf (files new.store.shelf) → ((attempts : List Attempt) → Keeps files may_leave time start attempts new → LeavesTrue files may_leave new.store.shelf)
+        → ServesLines files may_leave moment left_since clock (upcoming new.store.clock) base faults load lines (end_behind result new.mark (length new.journal) (loaded_by load new.store.chain.live.mailbox)) new.journal told taken taken_now old new.store.shelf
+    serves_all is over run there next =
         let follows : Follows files may_leave upcoming time start base (counts serial.store.shelf) [] serial =
         subst (λ (s : Serving S C). Follows files may_leave upcoming time start base (counts s.store.shelf) [] s) (sym over) (follows_start n seats (counts store.shelf) later is) in
-        serves_lines faults lines told taken taken_now seats result new
-        (subst (λ (s : Serving S C). Runs files may_leave moment left_since upcoming time start base faults lines result told taken taken_now s new) over (run follows)) there
+        let runs = subst (λ (s : Serving S C). Runs files may_leave moment left_since upcoming time start base faults lines result told taken taken_now s new) over (run follows) in
+        serves_lines faults lines told taken taken_now seats result new runs there (next (runs.answered ++ runs.left) runs.leaves.keeps)
 
   -- ---- no line was
 
@@ -224,11 +233,11 @@ module _ {S C : Type 0} (files : S → Folder) (may_leave : S → Folder → Typ
     none_kept : (c : Folder) → may_leave store.shelf c → GivesBehind time start [] c
     none_kept c left = keeps_behind files may_leave time start [] (serving_over store []) (keeps_start []) c left
 
-    none_ends : (rest : List Line) → EndsAt end.NoMemory time base start [] [] rest
+    none_ends : (rest : List Line) → EndsAt load end.NoMemory time base start [] [] rest
     none_ends [] = refl
     none_ends (line ∷ rest) = tt
 
-    pub serves_none : ServesLines files may_leave moment left_since clock (upcoming store.clock) base faults lines end.NoMemory [] told taken taken old store.shelf
+    pub serves_none : ServesLines files may_leave moment left_since clock (upcoming store.clock) base faults load lines end.NoMemory [] told taken taken old store.shelf
     serves_none = record {
       start = start;
       used = begun.used;
@@ -246,14 +255,16 @@ module _ {S C : Type 0} (files : S → Folder) (may_leave : S → Folder → Typ
       folder = none_kept (files store.shelf) there;
       after = none_kept;
       crash = begun.since;
+      next = leaves_true files may_leave time start [] (serving_over store []) (keeps_start []) (subst (λ (o : Option Turn). IfSome o (IsOwedTurn store.chain)) (sym begun.owed) tt) there;
     }
 
 -- ---- a run over a folder
 
-module _ {S : Type 0} (files : S → Folder) (may_leave : S → Folder → Type 0) (moment : S → ℕ) (left_since : S → ℕ → Folder → Type 0) (clock clock_now : ℕ → ℕ) (base faults : ℕ) (lines : List NamedLine) (journal : List Entry) (told : Type 0) (taken taken_now : List ℕ) (old new : S) where
-  pub runs_serving : (e : End) → EndsServing e → ServesLines files may_leave moment left_since clock clock_now base faults lines e journal told taken taken_now old new
-      → RunsOver files may_leave moment left_since clock clock_now base faults lines e journal told taken taken_now old new
-  runs_serving (end.Answered mark groups) serving serves = serves
+module _ {S : Type 0} (files : S → Folder) (may_leave : S → Folder → Type 0) (moment : S → ℕ) (left_since : S → ℕ → Folder → Type 0) (clock clock_now : ℕ → ℕ) (base faults : ℕ) (load : Option Load) (lines : List NamedLine) (journal : List Entry) (told : Type 0) (taken taken_now : List ℕ) (old new : S) where
+  pub runs_serving : (e : End) → EndsServing e → ServesLines files may_leave moment left_since clock clock_now base faults load lines e journal told taken taken_now old new
+      → RunsOver files may_leave moment left_since clock clock_now base faults load lines e journal told taken taken_now old new
+  runs_serving (end.Answered mark groups loaded) serving serves = serves
+  runs_serving (end.Rebuilt kept skipped) serving serves = absurd serving
   runs_serving end.Usage serving serves = absurd serving
   runs_serving (end.Unopened f) serving serves = absurd serving
   runs_serving end.NoMemory serving serves = serves

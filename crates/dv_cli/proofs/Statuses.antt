@@ -1,6 +1,6 @@
 -- Which end a status comes from.
 use Rattle.std.proofs.Common.{◌≡◌, ◌⊎◌, inl, inr, ℕ, zero, suc, ◌≤◌, List, Result, Err, refl, sym, ◌∙◌, subst, arith}
-use Rattle.std.specs.Prelude.{Bool}
+use Rattle.std.specs.Prelude.{Option, Some, None}
 use Rattle.dv_model.specs.declared.types.OpenFault.{OpenFault}
 use Rattle.dv_model.specs.declared.types.OpenFault.TheVariants as fault
 use Rattle.dv_model.specs.Counts.{Rose, RoseBy}
@@ -12,7 +12,10 @@ use Rattle.dv_script.specs.declared.types.ScriptEnd.TheVariants as script
 use Rattle.dv_cli.specs.declared.ending.End.{End}
 use Rattle.dv_cli.specs.declared.ending.End.TheVariants as end
 use Rattle.dv_cli.specs.Causes.{ComesFrom, Counts, HasCauses, HasFault, TellsFaults, TellsScript, counts_of}
+use Rattle.dv_cli.specs.declared.words.Task.{Task}
+use Rattle.dv_cli.specs.declared.words.Task.TheVariants as task
 use Rattle.dv_cli.specs.Endings.{IsFault, IsStatus, fault_status, status_of}
+use Rattle.dv_cli.specs.Tasks.{EndsBy, Opens}
 
 -- ---- counts
 
@@ -45,7 +48,8 @@ script_range (script.ShortLiteral line) = (omega arith, omega arith)
 script_range script.NoMemory = (omega arith, omega arith)
 
 small : (e : End) → status_of e ≤ 7
-small (end.Answered mark groups) = omega arith
+small (end.Answered mark groups loaded) = omega arith
+small (end.Rebuilt kept skipped) = omega arith
 small end.Usage = omega arith
 small (end.Unopened f) = omega (arith, fault_range f)
 small end.NoMemory = omega arith
@@ -67,14 +71,36 @@ status_is e status k (inr (inr seven)) at not-four not-seven = absurd (not-seven
 
 -- ---- ends by their numbers
 
-pub not_usage : (before now : Counts) (e : End) → ComesFrom before now e → status_of e ≡ 1 → ⊥
-not_usage before now (end.Answered mark groups) cause is = omega (arith, is)
-not_usage before now end.Usage cause is = cause
-not_usage before now (end.Unopened f) cause is = let r = fault_range f in omega (arith, is, r)
-not_usage before now end.NoMemory cause is = omega (arith, is)
-not_usage before now (end.Script s) cause is = let r = script_range s in omega (arith, is, r)
-not_usage before now (end.Source faults) cause is = omega (arith, is)
-not_usage before now end.Sink cause is = omega (arith, is)
+usage_end : (t : Option Task) (e : End) → EndsBy t e → status_of e ≡ 1 → t ≡ None
+usage_end t (end.Answered mark groups loaded) by is = absurd (omega (arith, is))
+usage_end t (end.Rebuilt kept skipped) by is = absurd (omega (arith, is))
+usage_end t end.Usage by is = by
+usage_end t (end.Unopened f) by is = let r = fault_range f in absurd (omega (arith, is, r))
+usage_end t end.NoMemory by is = absurd (omega (arith, is))
+usage_end t (end.Script s) by is = let r = script_range s in absurd (omega (arith, is, r))
+usage_end t (end.Source faults) by is = absurd (omega (arith, is))
+usage_end t end.Sink by is = absurd (omega (arith, is))
+
+opened_end : (t : Option Task) (e : End) → EndsBy t e → status_of e ≡ 3 → Opens t
+opened_end t (end.Answered mark groups loaded) by is = by
+opened_end t (end.Rebuilt kept skipped) by is = absurd (omega (arith, is))
+opened_end t end.Usage by is = absurd (omega (arith, is))
+opened_end t (end.Unopened f) by is = by.1 is
+opened_end t end.NoMemory by is = absurd (omega (arith, is))
+opened_end t (end.Script s) by is = let r = script_range s in absurd (omega (arith, is, r))
+opened_end t (end.Source faults) by is = absurd (omega (arith, is))
+opened_end t end.Sink by is = absurd (omega (arith, is))
+
+-- a script that is refused or couldn't be read is that of a run
+read_end : (t : Option Task) (e : End) → EndsBy t e → 5 ≤ status_of e → t ≡ Some task.Run
+read_end t (end.Answered mark groups loaded) by ge = absurd (omega (arith, ge))
+read_end t (end.Rebuilt kept skipped) by ge = absurd (omega (arith, ge))
+read_end t end.Usage by ge = absurd (omega (arith, ge))
+read_end t (end.Unopened f) by ge = let r = fault_range f in absurd (omega (arith, ge, r))
+read_end t end.NoMemory by ge = absurd (omega (arith, ge))
+read_end t (end.Script s) by ge = by
+read_end t (end.Source faults) by ge = by
+read_end t end.Sink by ge = by
 
 disk_fault : (before now : Counts) (f : OpenFault) → ComesFrom before now (end.Unopened f)
     → fault_status f ≡ 2 → Rose before.shelf now.shelf
@@ -88,8 +114,9 @@ disk_fault before now (fault.Gap index log) cause is = absurd (omega (arith, is)
 
 disk_end : (before now : Counts) (e : End) → ComesFrom before now e → status_of e ≡ 2
     → Rose before.shelf now.shelf
-disk_end before now (end.Answered mark groups) cause is = absurd (omega (arith, is))
-disk_end before now end.Usage cause is = absurd cause
+disk_end before now (end.Answered mark groups loaded) cause is = absurd (omega (arith, is))
+disk_end before now (end.Rebuilt kept skipped) cause is = absurd (omega (arith, is))
+disk_end before now end.Usage cause is = absurd (omega (arith, is))
 disk_end before now (end.Unopened f) cause is = disk_fault before now f cause is
 disk_end before now end.NoMemory cause is = absurd (omega (arith, is))
 disk_end before now (end.Script s) cause is = let r = script_range s in absurd (omega (arith, is, r))
@@ -103,7 +130,8 @@ fault_told folder f tells is =
     record { fault = f; is = is; found = (tells is).0; some = (tells is).1 }
 
 found_end : (folder : Folder) (e : End) → TellsFaults folder e → status_of e ≡ 3 → HasFault folder
-found_end folder (end.Answered mark groups) tells is = absurd (omega (arith, is))
+found_end folder (end.Answered mark groups loaded) tells is = absurd (omega (arith, is))
+found_end folder (end.Rebuilt kept skipped) tells is = absurd (omega (arith, is))
 found_end folder end.Usage tells is = absurd (omega (arith, is))
 found_end folder (end.Unopened f) tells is = fault_told folder f tells is
 found_end folder end.NoMemory tells is = absurd (omega (arith, is))
@@ -121,7 +149,8 @@ script_fault read script.NoMemory tells is = absurd (omega (arith, is))
 
 script_end : (read : Result (List NamedLine) ScriptFault) (e : End) → TellsScript read e
     → status_of e ≡ 5 → (fault : ScriptFault) × (read ≡ Err fault)
-script_end read (end.Answered mark groups) tells is = absurd (omega (arith, is))
+script_end read (end.Answered mark groups loaded) tells is = absurd (omega (arith, is))
+script_end read (end.Rebuilt kept skipped) tells is = absurd (omega (arith, is))
 script_end read end.Usage tells is = absurd tells
 script_end read (end.Unopened f) tells is = let r = fault_range f in absurd (omega (arith, is, r))
 script_end read end.NoMemory tells is = absurd (omega (arith, is))
@@ -131,8 +160,9 @@ script_end read end.Sink tells is = absurd (omega (arith, is))
 
 source_end : (before now : Counts) (e : End) → ComesFrom before now e → status_of e ≡ 6
     → Rose before.source now.source
-source_end before now (end.Answered mark groups) cause is = absurd (omega (arith, is))
-source_end before now end.Usage cause is = absurd cause
+source_end before now (end.Answered mark groups loaded) cause is = absurd (omega (arith, is))
+source_end before now (end.Rebuilt kept skipped) cause is = absurd (omega (arith, is))
+source_end before now end.Usage cause is = absurd (omega (arith, is))
 source_end before now (end.Unopened f) cause is =
     let r = fault_range f in absurd (omega (arith, is, r))
 source_end before now end.NoMemory cause is = absurd (omega (arith, is))
@@ -167,8 +197,9 @@ unopened_later before shelf source mid now (fault.Gap index log) cause = tt
 pub comes_later : (before : Counts) (shelf source mid now : ℕ) (e : End) → mid ≤ now
     → ComesFrom before (counts_of shelf source mid) e
     → ComesFrom before (counts_of shelf source now) e
-comes_later before shelf source mid now (end.Answered mark groups) since cause = tt
-comes_later before shelf source mid now end.Usage since cause = cause
+comes_later before shelf source mid now (end.Answered mark groups loaded) since cause = tt
+comes_later before shelf source mid now (end.Rebuilt kept skipped) since cause = tt
+comes_later before shelf source mid now end.Usage since cause = tt
 comes_later before shelf source mid now (end.Unopened f) since cause =
     unopened_later before shelf source mid now f cause
 comes_later before shelf source mid now end.NoMemory since cause = tt
@@ -179,19 +210,27 @@ comes_later before shelf source mid now end.Sink since cause =
 
 -- ---- all causes of a status
 
-pub causes_of : (status : ℕ) (good : Bool) (before now : Counts)
+pub causes_of : (status : ℕ) (t : Option Task) (before now : Counts)
     (folder : Folder) (read : Result (List NamedLine) ScriptFault) (holds told : Type 0) (e : End)
-    → IsStatus e status → ComesFrom before now e → (status ≡ 7 → Rose before.output now.output)
-    → (holds → TellsFaults folder e) → (told → TellsScript read e)
-    → HasCauses status good before now (holds → HasFault folder)
+    → IsStatus e status → EndsBy t e → ComesFrom before now e
+    → (status ≡ 7 → Rose before.output now.output) → (holds → TellsFaults folder e)
+    → (t ≡ Some task.Run → told → TellsScript read e)
+    → HasCauses status t before now (holds → HasFault folder)
     (told → (fault : ScriptFault) × (read ≡ Err fault))
-causes_of status good before now folder read holds told e is cause sink faults lines =
+causes_of status t before now folder read holds told e is by cause sink faults lines =
     record {
       small = status_small e status is;
-      usage = λ at. absurd (not_usage before now e cause (status_is e status 1 is at (λ x. omega (arith, x)) (λ x. omega (arith, x))));
+      usage = λ at. usage_end t e by (status_is e status 1 is at (λ x. omega (arith, x)) (λ x. omega (arith, x)));
       disk = λ at. disk_end before now e cause (status_is e status 2 is at (λ x. omega (arith, x)) (λ x. omega (arith, x)));
-      found = λ at. λ h. found_end folder e (faults h) (status_is e status 3 is at (λ x. omega (arith, x)) (λ x. omega (arith, x)));
-      script = λ at. λ t. script_end read e (lines t) (status_is e status 5 is at (λ x. omega (arith, x)) (λ x. omega (arith, x)));
-      source = λ at. source_end before now e cause (status_is e status 6 is at (λ x. omega (arith, x)) (λ x. omega (arith, x)));
+      found = λ at.
+          let k = status_is e status 3 is at (λ x. omega (arith, x)) (λ x. omega (arith, x)) in
+          (opened_end t e by k, λ h. found_end folder e (faults h) k);
+      script = λ at.
+          let k = status_is e status 5 is at (λ x. omega (arith, x)) (λ x. omega (arith, x)) in
+          let run = read_end t e by (omega (arith, k)) in
+          (run, λ tells. script_end read e (lines run tells) k);
+      source = λ at.
+          let k = status_is e status 6 is at (λ x. omega (arith, x)) (λ x. omega (arith, x)) in
+          (read_end t e by (omega (arith, k)), source_end before now e cause k);
       output = sink;
     }

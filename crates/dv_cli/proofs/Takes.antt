@@ -41,7 +41,8 @@ pub run_takes : (lines : ℕ) (old new : ℕ → ℕ) (e : End) → TakesForRun 
     → TakesUpTo (most_readings lines) old new
 run_takes lines old new (end.Unopened f) takes =
     opening_takes (most_readings lines) old new f (omega arith) takes
-run_takes lines old new (end.Answered mark groups) takes = takes
+run_takes lines old new (end.Answered mark groups loaded) takes = takes
+run_takes lines old new (end.Rebuilt kept skipped) takes = takes
 run_takes lines old new end.Usage takes = takes
 run_takes lines old new end.NoMemory takes = takes
 run_takes lines old new (end.Script s) takes = takes
@@ -54,7 +55,8 @@ run_takes lines old new end.Sink takes = takes
 pub run_by_end : (lines : ℕ) (old new : ℕ → ℕ) (e : End) → TakesForRun lines old new e
     → (e ≡ end.Usage → ⊥) → ((s : ScriptEnd) → e ≡ end.Script s → ⊥)
     → ((n : ℕ) → e ≡ end.Source n → ⊥) → TakesByEnd old new e
-run_by_end lines old new (end.Answered mark groups) takes usage script source = tt
+run_by_end lines old new (end.Answered mark groups loaded) takes usage script source = tt
+run_by_end lines old new (end.Rebuilt kept skipped) takes usage script source = tt
 run_by_end lines old new end.Usage takes usage script source = absurd (usage refl)
 run_by_end lines old new (end.Unopened f) takes usage script source = takes
 run_by_end lines old new end.NoMemory takes usage script source = tt
@@ -65,7 +67,8 @@ run_by_end lines old new end.Sink takes usage script source = tt
 -- ---- by the status
 
 usage_takes : (old new : ℕ → ℕ) (e : End) → TakesByEnd old new e → status_of e ≡ 1 → new ≡ old
-usage_takes old new (end.Answered mark groups) takes is = absurd (omega (arith, is))
+usage_takes old new (end.Answered mark groups loaded) takes is = absurd (omega (arith, is))
+usage_takes old new (end.Rebuilt kept skipped) takes is = absurd (omega (arith, is))
 usage_takes old new end.Usage takes is = takes
 usage_takes old new (end.Unopened f) takes is =
     let r = fault_range f in absurd (omega (arith, is, r))
@@ -80,7 +83,8 @@ disk_opening old new f takes is = opening_takes 1 old new f (omega arith) takes
 
 disk_takes : (old new : ℕ → ℕ) (e : End) → TakesByEnd old new e → status_of e ≡ 2
     → TakesUpTo 1 old new
-disk_takes old new (end.Answered mark groups) takes is = absurd (omega (arith, is))
+disk_takes old new (end.Answered mark groups loaded) takes is = absurd (omega (arith, is))
+disk_takes old new (end.Rebuilt kept skipped) takes is = absurd (omega (arith, is))
 disk_takes old new end.Usage takes is = takes_none 1 old new takes
 disk_takes old new (end.Unopened f) takes is = disk_opening old new f takes is
 disk_takes old new end.NoMemory takes is = absurd (omega (arith, is))
@@ -99,7 +103,8 @@ found_opening old new fault.BadIndex takes is = takes
 found_opening old new (fault.Gap index log) takes is = takes
 
 found_takes : (old new : ℕ → ℕ) (e : End) → TakesByEnd old new e → status_of e ≡ 3 → new ≡ old
-found_takes old new (end.Answered mark groups) takes is = absurd (omega (arith, is))
+found_takes old new (end.Answered mark groups loaded) takes is = absurd (omega (arith, is))
+found_takes old new (end.Rebuilt kept skipped) takes is = absurd (omega (arith, is))
 found_takes old new end.Usage takes is = takes
 found_takes old new (end.Unopened f) takes is = found_opening old new f takes is
 found_takes old new end.NoMemory takes is = absurd (omega (arith, is))
@@ -109,7 +114,8 @@ found_takes old new end.Sink takes is = absurd (omega (arith, is))
 
 read_takes : (old new : ℕ → ℕ) (e : End) → TakesByEnd old new e → 5 ≤ status_of e
     → status_of e ≤ 6 → new ≡ old
-read_takes old new (end.Answered mark groups) takes ge le = absurd (omega (arith, ge))
+read_takes old new (end.Answered mark groups loaded) takes ge le = absurd (omega (arith, ge))
+read_takes old new (end.Rebuilt kept skipped) takes ge le = absurd (omega (arith, ge))
 read_takes old new end.Usage takes ge le = takes
 read_takes old new (end.Unopened f) takes ge le =
     let r = fault_range f in absurd (omega (arith, ge, r))

@@ -9,10 +9,8 @@ use Rattle.dv_serial.specs.Serves.{TakesUpTo}
 use Rattle.dv_cli.specs.Causes.{EndsServing, TakesForOpening, TakesForRun, most_readings}
 use Rattle.dv_cli.specs.declared.ending.End.{End}
 use Rattle.dv_cli.specs.declared.ending.End.TheVariants as end
-use Rattle.dv_cli.proofs.Starting.{behind_both, behind_none}
-
-pub takes_none : (most : ℕ) (old new : ℕ → ℕ) → new ≡ old → TakesUpTo most old new
-takes_none most old new same = (0, omega arith, same ∙ behind_none old)
+use Rattle.dv_cli.proofs.Starting.{behind_both}
+use Rattle.dv_cli.proofs.Takes.{takes_none}
 
 -- ---- an opening
 
@@ -48,7 +46,8 @@ takes_both a b old mid new first second = (
 )
 
 pub run_takes : (lines : ℕ) (old new : ℕ → ℕ) (e : End) → EndsServing e → TakesUpTo (most_readings lines) old new → TakesForRun lines old new e
-run_takes lines old new (end.Answered mark groups) serving takes = takes
+run_takes lines old new (end.Answered mark groups loaded) serving takes = takes
+run_takes lines old new (end.Rebuilt kept skipped) serving takes = absurd serving
 run_takes lines old new end.Usage serving takes = absurd serving
 run_takes lines old new (end.Unopened f) serving takes = absurd serving
 run_takes lines old new end.NoMemory serving takes = takes

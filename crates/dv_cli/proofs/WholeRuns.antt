@@ -1,5 +1,6 @@
 -- A whole run: how it ends over the lines of a script, and what it writes.
-use Rattle.std.proofs.Common.{◌≡◌, ◌⊎◌, inl, inr, ℕ, ◌+◌, true, false, List, [], ◌++◌, length, map, Result, Ok, Err, refl, sym, ◌∙◌, ap, subst, append_assoc}
+use Rattle.std.proofs.Common.{◌≡◌, ◌⊎◌, inl, inr, ℕ, List, [], ◌++◌, length, map, Result, Ok, Err, refl, sym, ◌∙◌, ap, subst, append_assoc}
+use Rattle.std.specs.Prelude.{Option, Some, None}
 use Rattle.std.proofs.lemmas.List.{append-nil}
 use Rattle.dv_model.specs.declared.types.Entry.{Entry}
 use Rattle.dv_model.specs.declared.types.Mark.{Mark}
@@ -12,7 +13,7 @@ use Rattle.dv_model.specs.Transcripts.{unavailable_count}
 use Rattle.dv_shelf.specs.Clocks.{behind}
 use Rattle.dv_shelf.specs.Folders.{Folder}
 use Rattle.dv_shelf.specs.Streams.{Appends}
-use Rattle.dv_formats.specs.Parsing.{ScriptFault}
+use Rattle.dv_formats.specs.Parsing.{ScriptFault, parsed}
 use Rattle.dv_formats.specs.Scripts.{NamedLine}
 use Rattle.dv_script.specs.Sources.{ScriptFails}
 use Rattle.dv_script.specs.declared.types.ScriptEnd.{ScriptEnd}
@@ -25,20 +26,32 @@ use Rattle.dv_cli.specs.declared.ending.End.{End}
 use Rattle.dv_cli.specs.declared.ending.End.TheVariants as end
 use Rattle.dv_cli.specs.Causes.{AnyRose, ComesFrom, Counts, EndsRefused, HasFault, IsOr, TellsFaults, TellsScript}
 use Rattle.dv_cli.specs.Endings.{Concludes, IsFault, IsStatus, fault_status, status_of, text_of}
-use Rattle.dv_cli.specs.Outputs.{IsOutputBy, all_served, output_over, script_fault_text, served}
-use Rattle.dv_cli.specs.Running.{end_text, fault_text, is_run, usage_text}
-use Rattle.dv_cli.specs.Runs.{LeavesUnopened, RunsOver, ServesLines}
+use Rattle.dv_cli.specs.declared.words.Load.{Load}
+use Rattle.dv_cli.specs.declared.words.Task.{Task}
+use Rattle.dv_cli.specs.declared.words.Task.TheVariants as task
+use Rattle.dv_cli.specs.declared.ending.Loaded.{Loaded}
+use Rattle.dv_cli.specs.Behind.{loaded_by}
+use Rattle.dv_rebuild.specs.declared.fault.RebuildFault.{RebuildFault}
+use Rattle.dv_rebuild.specs.declared.fault.RebuildFault.TheVariants as rebuild_fault
+use Rattle.dv_rebuild.specs.declared.rebuilding.Rebuilt.{Rebuilt}
+use Rattle.dv_rebuild.specs.Rebuilding.{LeavesRebuilt}
+use Rattle.dv_cli.specs.Rebuilding.{RebuildsFolder, rebuilt_end}
+use Rattle.dv_cli.specs.Outputs.{IsOutputBy, IsOutputOf, IsOutputOver, IsRebuiltOutput, all_served, last_over, output_over, replies_over, script_fault_text, served}
+use Rattle.dv_cli.specs.Running.{answered_text, fault_text, rebuilt_text, usage_text}
+use Rattle.dv_cli.specs.Runs.{LeavesUnopened, RunsOver, ServesLines, WritesLines}
 use Rattle.dv_cli.specs.Starts.{Starts}
+use Rattle.dv_cli.specs.Tasks.{Answers, EndsBy, HasScript, Opens, RepliesTold, generated_by, load_in}
 use Rattle.dv_cli.specs.Wholes.{EndsReading, IsUnread}
 use Rattle.dv_cli.proofs.AllServed.{all_served_so}
 use Rattle.dv_cli.proofs.FoundStarts.{faults_one, starts_faultless, starts_one}
+use Rattle.dv_cli.proofs.Reached.{good_script}
 use Rattle.dv_cli.proofs.Statuses.{fault_told, none_failed}
 
 -- ---- how a run over good lines ends
 
 -- all lines were answered, or a fault was found in the folder
 abbrev pub EndsWell : End → Type 0
-EndsWell (end.Answered mark groups) = Unit {0}
+EndsWell (end.Answered mark groups loaded) = Unit {0}
 EndsWell (end.Unopened f) = IsFault f
 EndsWell e = ⊥
 
@@ -58,16 +71,6 @@ unopened_well status before now (fault.BadRecord offset) cause is = inl (is, ref
 unopened_well status before now fault.BadIndex cause is = inl (is, refl)
 unopened_well status before now (fault.Gap index log) cause is = inl (is, refl)
 
-abbrev IsGood : Result (List NamedLine) ScriptFault → Type 0
-IsGood (Ok lines) = Unit {0}
-IsGood (Err f) = ⊥
-
--- the lines of a script have no fault
-good_script : (read : Result (List NamedLine) ScriptFault) (lines : List NamedLine)
-    (f : ScriptFault) → read ≡ Ok lines → read ≡ Err f → ⊥
-good_script read lines f good bad =
-    subst IsGood (sym good ∙ bad) tt
-
 script_well : (status : ℕ) (before now : Counts) (read : Result (List NamedLine) ScriptFault)
     (lines : List NamedLine) (s : ScriptEnd) → read ≡ Ok lines → TellsScript read (end.Script s)
     → status ≡ status_of (end.Script s) → WellOr status (end.Script s) before now
@@ -79,36 +82,51 @@ script_well status before now read lines (script.ShortLiteral line) good tells i
     absurd (good_script read lines _ good tells)
 script_well status before now read lines script.NoMemory good tells is = inr (inl is)
 
-own_status : (status : ℕ) (before now : Counts) (read : Result (List NamedLine) ScriptFault)
-    (lines : List NamedLine) (e : End) → read ≡ Ok lines → TellsScript read e
+-- the task's lines are those of a script, unless they were generated
+refused_well : (status : ℕ) (before now : Counts) (t : Option Task) (told : Type 0)
+    (read : Result (List NamedLine) ScriptFault) (lines : List NamedLine) (s : ScriptEnd)
+    → Answers t told read lines → t ≡ Some task.Run → (t ≡ Some task.Run → told → TellsScript read (end.Script s))
+    → status ≡ status_of (end.Script s) → WellOr status (end.Script s) before now
+refused_well status before now t told read lines s answers run tells is =
+    let has = subst (λ (x : Option Task). Answers x told read lines) run answers in
+    script_well status before now read lines s has.1 (tells run has.0) is
+
+own_status : (status : ℕ) (before now : Counts) (t : Option Task) (told : Type 0)
+    (read : Result (List NamedLine) ScriptFault) (lines : List NamedLine) (e : End)
+    → Answers t told read lines → EndsBy t e → (t ≡ Some task.Run → told → TellsScript read e)
     → ComesFrom before now e → status ≡ status_of e → WellOr status e before now
-own_status status before now read lines (end.Answered mark groups) good tells cause is = inl (is, tt)
-own_status status before now read lines end.Usage good tells cause is = absurd cause
-own_status status before now read lines (end.Unopened f) good tells cause is =
+own_status status before now t told read lines (end.Answered mark groups loaded) answers by tells cause is = inl (is, tt)
+own_status status before now t told read lines (end.Rebuilt kept skipped) answers by tells cause is =
+    absurd (subst (λ (x : Option Task). Answers x told read lines) by answers)
+own_status status before now t told read lines end.Usage answers by tells cause is =
+    absurd (subst (λ (x : Option Task). Answers x told read lines) by answers)
+own_status status before now t told read lines (end.Unopened f) answers by tells cause is =
     unopened_well status before now f cause is
-own_status status before now read lines end.NoMemory good tells cause is = inr (inl is)
-own_status status before now read lines (end.Script s) good tells cause is =
-    script_well status before now read lines s good tells is
-own_status status before now read lines (end.Source faults) good tells cause is =
+own_status status before now t told read lines end.NoMemory answers by tells cause is = inr (inl is)
+own_status status before now t told read lines (end.Script s) answers by tells cause is =
+    refused_well status before now t told read lines s answers by tells is
+own_status status before now t told read lines (end.Source faults) answers by tells cause is =
     inr (inr (inr (inl cause.0)))
-own_status status before now read lines end.Sink good tells cause is =
+own_status status before now t told read lines end.Sink answers by tells cause is =
     inr (inr (inr (inr cause)))
 
-pub ends_well : (status : ℕ) (before now : Counts) (read : Result (List NamedLine) ScriptFault)
-    (lines : List NamedLine) (e : End) → read ≡ Ok lines → TellsScript read e
+pub ends_well : (status : ℕ) (before now : Counts) (t : Option Task) (told : Type 0)
+    (read : Result (List NamedLine) ScriptFault) (lines : List NamedLine) (e : End)
+    → Answers t told read lines → EndsBy t e → (t ≡ Some task.Run → told → TellsScript read e)
     → ComesFrom before now e → IsStatus e status → (status ≡ 7 → Rose before.output now.output)
     → WellOr status e before now
-ends_well status before now read lines e good tells cause (inl is) sink =
-    own_status status before now read lines e good tells cause is
-ends_well status before now read lines e good tells cause (inr (inl four)) sink = inr (inl four.1)
-ends_well status before now read lines e good tells cause (inr (inr seven)) sink =
+ends_well status before now t told read lines e answers by tells cause (inl is) sink =
+    own_status status before now t told read lines e answers by tells cause is
+ends_well status before now t told read lines e answers by tells cause (inr (inl four)) sink = inr (inl four.1)
+ends_well status before now t told read lines e answers by tells cause (inr (inr seven)) sink =
     inr (inr (inr (inr (sink seven))))
 
 -- where a fault is found it is told
 well_fault : (status : ℕ) (before now : Counts) (folder : Folder) (e : End)
     → TellsFaults folder e → HasFault folder → status ≡ status_of e → EndsWell e
     → IsOr 3 status before now
-well_fault status before now folder (end.Answered mark groups) tells has is well = absurd (tells has)
+well_fault status before now folder (end.Answered mark groups loaded) tells has is well = absurd (tells has)
+well_fault status before now folder (end.Rebuilt kept skipped) tells has is well = absurd well
 well_fault status before now folder end.Usage tells has is well = absurd well
 well_fault status before now folder (end.Unopened f) tells has is well = inl (is ∙ well)
 well_fault status before now folder end.NoMemory tells has is well = absurd well
@@ -127,8 +145,9 @@ fault_is_told status before now folder e tells has (inr other) = inr other
 well_starts : (status : ℕ) (before now : Counts) (clock : ℕ → ℕ) (folder : Folder) (start : Log)
     (used : ℕ) (e : End) → TellsFaults folder e → Starts clock folder start used
     → status ≡ status_of e → EndsWell e → IsOr 0 status before now
-well_starts status before now clock folder start used (end.Answered mark groups) tells starts is well =
+well_starts status before now clock folder start used (end.Answered mark groups loaded) tells starts is well =
     inl is
+well_starts status before now clock folder start used (end.Rebuilt kept skipped) tells starts is well = absurd well
 well_starts status before now clock folder start used end.Usage tells starts is well = absurd well
 well_starts status before now clock folder start used (end.Unopened f) tells starts is well =
     absurd (starts_faultless clock folder start used starts (fault_told folder f tells well))
@@ -182,7 +201,8 @@ refused_text f before now status (end.Script s) ends cause is not-four still =
 refused_text f before now status (end.Source faults) ends cause is not-four still =
     absurd (still (inr (inl cause.0)))
 refused_text f before now status end.NoMemory ends cause is not-four still = absurd (not-four is)
-refused_text f before now status (end.Answered mark groups) ends cause is not-four still = absurd ends
+refused_text f before now status (end.Answered mark groups loaded) ends cause is not-four still = absurd ends
+refused_text f before now status (end.Rebuilt kept skipped) ends cause is not-four still = absurd ends
 refused_text f before now status end.Usage ends cause is not-four still = absurd ends
 refused_text f before now status (end.Unopened g) ends cause is not-four still = absurd ends
 refused_text f before now status end.Sink ends cause is not-four still = absurd ends
@@ -195,60 +215,99 @@ refused_output f before now status e clock folder old new ends cause not-four no
     let plain = told_plainly e status old new told not-four not-seven in
     (text_of e, plain.1, refused_text f before now status e ends cause plain.0 not-four still)
 
--- ---- of the lines of a script
+-- ---- of the lines of a task
 
--- the replies of all lines, none of which the disk failed, and the last line
-served_text : (clock : ℕ → ℕ) (start : Log) (lines : List NamedLine) (answered : List Attempt)
+some_none : (load : Load) → Some load ≡ None → ⊥
+some_none load is = subst IsThere is tt
+  where
+    IsThere : Option Load → Type 0
+    IsThere (Some l) = Unit {0}
+    IsThere None = ⊥
+
+-- all lines were served, none of which the disk failed
+served_play : (clock : ℕ → ℕ) (start : Log) (lines : List NamedLine) (answered : List Attempt)
     (base faults : ℕ) → numbered lines ≡ lines_of answered
     → RoseBy (unavailable_count (replies_to clock (begin start) answered)) base faults
     → (Rose base faults → ⊥)
-    → replies_text lines (replies_to clock (begin start) answered)
-    ++ end_text (play_of clock start answered).mark (length (play_of clock start answered).log.entries)
-    ≡ output_over clock start lines
-served_text clock start lines answered base faults are few still =
+    → (play_of clock start answered ≡ play_of clock start (all_served lines))
+    × (replies_text lines (replies_to clock (begin start) answered) ≡ replies_over clock start lines)
+served_play clock start lines answered base faults are few still =
     let none = none_failed _ base faults few still in
     let so = all_served_so clock (begin start) answered none in
     let as_lines : map served (lines_of answered) ≡ all_served lines =
     ap (λ (ls : List transcripts.Line). map served ls) (sym are) in
     let replies : replies_to clock (begin start) answered ≡ replies_to clock (begin start) (all_served lines) =
-    so.replies ∙ ap (replies_to clock (begin start)) as_lines in
-    let play : play_of clock start answered ≡ play_of clock start (all_served lines) =
-    so.behind ∙ ap (played clock (begin start)) as_lines in
-    λ i. replies_text lines (replies i) ++ end_text (play i).mark (length (play i).log.entries)
+    so.replies ∙ ap (replies_to clock (begin start)) as_lines in (
+      so.behind ∙ ap (played clock (begin start)) as_lines,
+      ap (replies_text lines) replies,
+    )
 
 module _ {S : Type 0} (files : S → Folder) (may_leave : S → Folder → Type 0) (moment : S → ℕ)
     (left_since : S → ℕ → Folder → Type 0) (clock clock_now : ℕ → ℕ) (base faults : ℕ)
-    (lines : List NamedLine) (journal : List Entry) (told : Type 0) (taken between taken_now : List ℕ)
-    (old new : S) (still : Rose base faults → ⊥) (tells : told) where
-  answered_output : (mark : Mark) (groups : ℕ)
-      → ServesLines files may_leave moment left_since clock clock_now base faults lines
-      (end.Answered mark groups) journal told taken between old new
-      → Appends between taken_now (end_text mark groups)
-      → Writes taken taken_now (IsOutputBy (Ok lines) clock (files old))
-  answered_output mark groups serves last =
-      let clock_then = behind clock serves.used in
-      let replies = replies_text lines (replies_to clock_then (begin serves.start) serves.answered) in
-      let are : numbered lines ≡ lines_of serves.answered =
-      serves.parts ∙ ap (λ (ls : List transcripts.Line). lines_of serves.answered ++ ls) serves.ends.0
-      ∙ append-nil (lines_of serves.answered) in
-      let same : replies ++ end_text mark groups ≡ output_over clock_then serves.start lines =
-      (λ i. replies ++ end_text (serves.ends.2 i) (serves.ends.3 i))
-      ∙ served_text clock_then serves.start lines serves.answered base faults are serves.serial.few still in (
-        replies ++ end_text mark groups,
-        last ∙ ap (λ (bs : List ℕ). bs ++ end_text mark groups) (serves.output tells) ∙ append_assoc taken replies (end_text mark groups),
-        (
-          λ start used starts.
-              let one = starts_one clock (files old) serves.start start serves.used used serves.starts starts in
-              same ∙ (λ i. output_over (behind clock (one.1 i)) (one.0 i) lines),
-          λ f is some found.
-              absurd (starts_faultless clock (files old) serves.start serves.used serves.starts (record { fault = f; is = is; found = found; some = some })),
-        ),
-      )
+    (t : Option Task) (lines : List NamedLine) (journal : List Entry) (told : Type 0)
+    (taken between taken_now : List ℕ) (old new : S) (still : Rose base faults → ⊥) where
+  abbrev Serving : End → Type 0
+  Serving e = ServesLines files may_leave moment left_since clock clock_now base faults (load_in t) lines e journal (RepliesTold t told) taken between old new
+
+  module _ (mark : Mark) (groups : ℕ) (loaded : Option Loaded) (serves : Serving (end.Answered mark groups loaded)) where
+    abbrev clock_then : ℕ → ℕ
+    clock_then = behind clock serves.used
+
+    same_play : (play_of clock_then serves.start serves.answered ≡ play_of clock_then serves.start (all_served lines))
+        × (replies_text lines (replies_to clock_then (begin serves.start) serves.answered) ≡ replies_over clock_then serves.start lines)
+    same_play =
+        served_play clock_then serves.start lines serves.answered base faults
+        (serves.parts ∙ ap (λ (ls : List transcripts.Line). lines_of serves.answered ++ ls) serves.ends.0 ∙ append-nil (lines_of serves.answered))
+        serves.serial.few still
+
+    -- the last lines are those of the play
+    same_last : answered_text mark groups loaded ≡ last_over clock_then (load_in t) serves.start lines
+    same_last =
+        (λ i. answered_text (serves.ends.2 i) (serves.ends.3 i) (serves.ends.4 i))
+        ∙ (λ i. answered_text (same_play.0 i).mark (length (same_play.0 i).log.entries) (loaded_by (load_in t) (same_play.0 i).mailbox))
+
+    -- of a script the replies stand before them
+    written : (x : Option Task) (load : Option Load) → Opens x → load ≡ load_in x
+        → (RepliesTold x told → Appends taken between (replies_over clock_then serves.start lines))
+        → ((HasScript x → ⊥) → between ≡ taken) → told
+        → Appends between taken_now (last_over clock_then load serves.start lines)
+        → Appends taken taken_now (output_over clock_then load serves.start lines)
+    written (Some task.Run) None opens is replies silent tells last =
+        last ∙ ap (λ (bs : List ℕ). bs ++ last_over clock_then None serves.start lines) (replies tells)
+        ∙ append_assoc taken (replies_over clock_then serves.start lines) (last_over clock_then None serves.start lines)
+    written (Some task.Run) (Some load) opens is replies silent tells last = absurd (some_none load is)
+    written (Some (task.Generate load)) (Some other) opens is replies silent tells last =
+        last ∙ ap (λ (bs : List ℕ). bs ++ last_over clock_then (Some other) serves.start lines) (silent (λ none. none))
+    written (Some (task.Generate load)) None opens is replies silent tells last = absurd (some_none load (sym is))
+    written (Some task.Rebuild) load opens is replies silent tells last = absurd opens
+    written None load opens is replies silent tells last = absurd opens
+
+    -- of lines that were all answered the output has all replies
+    plain : (l : Option Loaded) → WritesLines (end.Answered mark groups l) clock_then serves.start serves.answered serves.left lines taken between
+        → Appends taken between (replies_text lines (replies_to clock_then (begin serves.start) serves.answered))
+    plain l writes = writes
+
+    answered_output : told → Opens t → ((HasScript t → ⊥) → between ≡ taken)
+        → Appends between taken_now (answered_text mark groups loaded)
+        → Writes taken taken_now (IsOutputOver (load_in t) lines clock (files old))
+    answered_output tells opens silent last = (
+      output_over clock_then (load_in t) serves.start lines,
+      written t (load_in t) opens refl
+          (λ has. subst (λ (text : List ℕ). Appends taken between text) same_play.1 (plain loaded (serves.output has)))
+          silent tells (subst (λ (text : List ℕ). Appends between taken_now text) same_last last),
+      (
+        λ start used starts.
+            let one = starts_one clock (files old) serves.start start serves.used used serves.starts starts in
+            (λ i. output_over (behind clock (one.1 i)) (load_in t) (one.0 i) lines),
+        λ f is some found.
+            absurd (starts_faultless clock (files old) serves.start serves.used serves.starts (record { fault = f; is = is; found = found; some = some })),
+      ),
+    )
 
   unopened_output : (f : OpenFault) → IsFault f → between ≡ taken
       → LeavesUnopened files may_leave moment left_since clock f old new
       → Appends between taken_now (fault_text f)
-      → Writes taken taken_now (IsOutputBy (Ok lines) clock (files old))
+      → Writes taken taken_now (IsOutputOver (load_in t) lines clock (files old))
   unopened_output f is none leaves last = (
     fault_text f,
     last ∙ ap (λ (bs : List ℕ). bs ++ fault_text f) none,
@@ -259,71 +318,90 @@ module _ {S : Type 0} (files : S → Folder) (may_leave : S → Folder → Type 
     ),
   )
 
-  run_output : (e : End) → EndsWell e
-      → RunsOver files may_leave moment left_since clock clock_now base faults lines e journal told
-      taken between old new
-      → Appends between taken_now (text_of e)
-      → Writes taken taken_now (IsOutputBy (Ok lines) clock (files old))
-  run_output (end.Answered mark groups) well runs last = answered_output mark groups runs last
-  run_output (end.Unopened f) well runs last = unopened_output f well (runs.1 tells) runs.2 last
-  run_output end.Usage well runs last = absurd well
-  run_output end.NoMemory well runs last = absurd well
-  run_output (end.Script s) well runs last = absurd well
-  run_output (end.Source n) well runs last = absurd well
-  run_output end.Sink well runs last = absurd well
+  -- a folder that isn't opened has nothing written before its last line
+  nothing_before : (x : Option Task) → Opens x → (RepliesTold x told → between ≡ taken)
+      → ((HasScript x → ⊥) → between ≡ taken) → told → between ≡ taken
+  nothing_before (Some task.Run) opens replies silent tells = replies tells
+  nothing_before (Some (task.Generate load)) opens replies silent tells = silent (λ none. none)
+  nothing_before (Some task.Rebuild) opens replies silent tells = absurd opens
+  nothing_before None opens replies silent tells = absurd opens
 
-  unread_not_well : (e : End) → EndsWell e → EndsReading e → ⊥
-  unread_not_well (end.Answered mark groups) well ends = ends
-  unread_not_well (end.Unopened f) well ends = ends
-  unread_not_well end.Usage well ends = well
-  unread_not_well end.NoMemory well ends = well
-  unread_not_well (end.Script s) well ends = well
-  unread_not_well (end.Source n) well ends = well
-  unread_not_well end.Sink well ends = well
+  module _ (tells : told) (opens : Opens t) (silent : (HasScript t → ⊥) → between ≡ taken) where
+    abbrev Running : End → Type 0
+    Running e = RunsOver files may_leave moment left_since clock clock_now base faults (load_in t) lines e journal (RepliesTold t told) taken between old new
 
-  well_output : (e : End) → EndsWell e → Appends between taken_now (text_of e)
-      → IsUnread e journal taken between old new
-      ⊎ RunsOver files may_leave moment left_since clock clock_now base faults lines e journal told
-      taken between old new
-      → Writes taken taken_now (IsOutputBy (Ok lines) clock (files old))
-  well_output e well last (inl unread) = absurd (unread_not_well e well unread.0)
-  well_output e well last (inr runs) = run_output e well runs last
+    run_output : (e : End) → EndsWell e → Running e → Appends between taken_now (text_of e)
+        → Writes taken taken_now (IsOutputOver (load_in t) lines clock (files old))
+    run_output (end.Answered mark groups loaded) well runs last = answered_output mark groups loaded runs tells opens silent last
+    run_output (end.Unopened f) well runs last = unopened_output f well (nothing_before t opens runs.1 silent tells) runs.2 last
+    run_output (end.Rebuilt kept skipped) well runs last = absurd well
+    run_output end.Usage well runs last = absurd well
+    run_output end.NoMemory well runs last = absurd well
+    run_output (end.Script s) well runs last = absurd well
+    run_output (end.Source n) well runs last = absurd well
+    run_output end.Sink well runs last = absurd well
 
-  pub lines_output : (e : End) (status : ℕ) (before now : Counts) → WellOr status e before now
-      → (AnyRose before now → ⊥) → (status ≡ 4 → ⊥) → (status ≡ 7 → ⊥)
-      → Concludes e status between taken_now
-      → IsUnread e journal taken between old new
-      ⊎ RunsOver files may_leave moment left_since clock clock_now base faults lines e journal told
-      taken between old new
-      → Writes taken taken_now (IsOutputBy (Ok lines) clock (files old))
-  lines_output e status before now (inl well) none not-four not-seven last runs =
-      well_output e well.1 (told_plainly e status between taken_now last not-four not-seven).1 runs
-  lines_output e status before now (inr (inl four)) none not-four not-seven last runs =
-      absurd (not-four four)
-  lines_output e status before now (inr (inr rose)) none not-four not-seven last runs =
-      absurd (none rose)
+    unread_not_well : (e : End) → EndsWell e → EndsReading e → ⊥
+    unread_not_well (end.Answered mark groups loaded) well ends = ends
+    unread_not_well (end.Rebuilt kept skipped) well ends = well
+    unread_not_well (end.Unopened f) well ends = ends
+    unread_not_well end.Usage well ends = well
+    unread_not_well end.NoMemory well ends = well
+    unread_not_well (end.Script s) well ends = well
+    unread_not_well (end.Source n) well ends = well
+    unread_not_well end.Sink well ends = well
 
--- ---- by the words
+    well_output : (e : End) → EndsWell e → Appends between taken_now (text_of e)
+        → IsUnread e journal taken between old new ⊎ Running e
+        → Writes taken taken_now (IsOutputOver (load_in t) lines clock (files old))
+    well_output e well last (inl unread) = absurd (unread_not_well e well unread.0)
+    well_output e well last (inr runs) = run_output e well runs last
 
--- a run's output is by its words
-pub words_output : (words : List (List ℕ)) (read : Result (List NamedLine) ScriptFault)
-    (clock : ℕ → ℕ) (folder : Folder) (old new : List ℕ) → is_run words ≡ true
-    → Writes old new (IsOutputBy read clock folder)
-    → Writes old new (λ text. elim (is_run words) [ true ↦ IsOutputBy read clock folder text | false ↦ text ≡ usage_text ])
-words_output words read clock folder old new is out =
-    (out.0, out.1, rw is out.2)
+    pub lines_output : (e : End) (status : ℕ) (before now : Counts) → WellOr status e before now
+        → (AnyRose before now → ⊥) → (status ≡ 4 → ⊥) → (status ≡ 7 → ⊥)
+        → Concludes e status between taken_now
+        → IsUnread e journal taken between old new ⊎ Running e
+        → Writes taken taken_now (IsOutputOver (load_in t) lines clock (files old))
+    lines_output e status before now (inl well) none not-four not-seven last runs =
+        well_output e well.1 (told_plainly e status between taken_now last not-four not-seven).1 runs
+    lines_output e status before now (inr (inl four)) none not-four not-seven last runs =
+        absurd (not-four four)
+    lines_output e status before now (inr (inr rose)) none not-four not-seven last runs =
+        absurd (none rose)
 
-pub usage_output : (words : List (List ℕ)) (read : Result (List NamedLine) ScriptFault)
-    (clock : ℕ → ℕ) (folder : Folder) (status : ℕ) (old new : List ℕ) → is_run words ≡ false
-    → Concludes end.Usage status old new → (status ≡ 4 → ⊥) → (status ≡ 7 → ⊥)
-    → Writes old new (λ text. elim (is_run words) [ true ↦ IsOutputBy read clock folder text | false ↦ text ≡ usage_text ])
-usage_output words read clock folder status old new is told not-four not-seven = (
-  usage_text,
-  (told_plainly end.Usage status old new told not-four not-seven).1,
-  rw is refl,
-)
+-- ---- of a rebuild
 
--- by what the script says
+-- it kept and skipped what it says, unless memory ran out or the disk failed
+pub rebuilt_output : {S : Type 0} (files : S → Folder) (may_leave : S → Folder → Type 0)
+    (moment : S → ℕ) (left_since : S → ℕ → Folder → Type 0) (clock clock_now : ℕ → ℕ) (e : End)
+    (journal : List Entry) (old_shelf new_shelf : S) (status : ℕ) (before now : Counts)
+    (old new : List ℕ)
+    → RebuildsFolder files may_leave moment left_since clock clock_now e journal old_shelf new_shelf
+    → ComesFrom before now e → (AnyRose before now → ⊥) → (status ≡ 4 → ⊥) → (status ≡ 7 → ⊥)
+    → Concludes e status old new → Writes old new (IsRebuiltOutput clock (files old_shelf))
+rebuilt_output files may_leave moment left_since clock clock_now e journal old_shelf new_shelf status before now old new rebuilds cause still not-four not-seven last =
+    by_result rebuilds.result rebuilds.told rebuilds.leaves
+  where
+    plain : (status ≡ status_of e) × Appends old new (text_of e)
+    plain = told_plainly e status old new last not-four not-seven
+
+    by_result : (r : Result Rebuilt RebuildFault) → e ≡ rebuilt_end r → LeavesRebuilt (files old_shelf) (clock 0) (files new_shelf) r
+        → Writes old new (IsRebuiltOutput clock (files old_shelf))
+    by_result (Ok rebuilt) told leaves = (
+      text_of e,
+      plain.1,
+      record {
+        does = leaves.made.does;
+        is = leaves.made.is;
+        text_is = ap text_of told ∙ (λ i. rebuilt_text (leaves.tells.kept i) (leaves.tells.skipped i));
+      },
+    )
+    by_result (Err rebuild_fault.NoMemory) told leaves = absurd (not-four (plain.0 ∙ ap status_of told))
+    by_result (Err (rebuild_fault.Disk faults)) told leaves =
+        absurd (still (inl (subst (λ (x : End). ComesFrom before now x) told cause).0))
+
+-- ---- by what the script says, and by the task
+
 pub script_output : (read : Result (List NamedLine) ScriptFault) (clock : ℕ → ℕ) (folder : Folder)
     (old new : List ℕ)
     → ((lines : List NamedLine) → read ≡ Ok lines
@@ -332,3 +410,16 @@ pub script_output : (read : Result (List NamedLine) ScriptFault) (clock : ℕ �
     → Writes old new (IsOutputBy read clock folder)
 script_output (Ok lines) clock folder old new good bad = good lines refl
 script_output (Err f) clock folder old new good bad = bad f refl
+
+pub task_output : (t : Option Task) (b : List ℕ) (clock : ℕ → ℕ) (folder : Folder)
+    (old new : List ℕ)
+    → (t ≡ None → Writes old new (λ text. text ≡ usage_text))
+    → (t ≡ Some task.Run → Writes old new (IsOutputBy (parsed b) clock folder))
+    → (t ≡ Some task.Rebuild → Writes old new (IsRebuiltOutput clock folder))
+    → ((load : Load) → t ≡ Some (task.Generate load)
+    → Writes old new (IsOutputOver (Some load) (generated_by load) clock folder))
+    → Writes old new (IsOutputOf t b clock folder)
+task_output None b clock folder old new nothing script rebuild load = nothing refl
+task_output (Some task.Run) b clock folder old new nothing script rebuild load = script refl
+task_output (Some task.Rebuild) b clock folder old new nothing script rebuild load = rebuild refl
+task_output (Some (task.Generate l)) b clock folder old new nothing script rebuild load = load l refl

@@ -1,5 +1,5 @@
 -- What each end and each status of a run comes from, and how often the clock is read.
-use Rattle.std.specs.Prelude.{◌≡◌, ◌⊎◌, ◌≤◌, ◌+◌, ◌*◌, ℕ, Bool, false, List, [], Result, Ok, Err, ⊤}
+use Rattle.std.specs.Prelude.{◌≡◌, ◌⊎◌, ◌≤◌, ◌+◌, ◌*◌, ℕ, List, [], length, Option, Some, None, Result, Ok, Err, ⊤}
 use Rattle.dv_model.specs.declared.types.OpenFault.{OpenFault}
 use Rattle.dv_model.specs.declared.types.OpenFault.TheVariants as fault
 use Rattle.dv_model.specs.Counts.{Rose}
@@ -14,6 +14,9 @@ use Rattle.dv_chain.specs.Openings.{FaultFound}
 use Rattle.dv_serial.specs.Serves.{TakesUpTo}
 use Rattle.dv_cli.specs.Endings.{IsFault}
 use Rattle.dv_cli.specs.Starts.{IsNew}
+use Rattle.dv_cli.specs.Tasks.{Answers, Opens}
+use Rattle.dv_cli.specs.declared.words.Task.{Task}
+use Rattle.dv_cli.specs.declared.words.Task.TheVariants as task
 use Rattle.dv_cli.specs.declared.ending.End.{End}
 use Rattle.dv_cli.specs.declared.ending.End.TheVariants as end
 
@@ -39,7 +42,7 @@ TakesForRun lines old new e = TakesUpTo (most_readings lines) old new
 
 -- lines that are served end so
 abbrev pub EndsServing : End → Type 0
-EndsServing (end.Answered mark groups) = ⊤
+EndsServing (end.Answered mark groups loaded) = ⊤
 EndsServing end.NoMemory = ⊤
 EndsServing end.Sink = ⊤
 EndsServing e = ⊥
@@ -47,7 +50,7 @@ EndsServing e = ⊥
 -- the count of the folder's faults never falls, nor that of the output's; a disk's fault and a
 -- failed output come only where theirs rose
 abbrev pub FolderCause : ℕ → ℕ → ℕ → ℕ → End → Type 0
-FolderCause shelf shelf_now out out_now (end.Answered mark groups) = ⊤
+FolderCause shelf shelf_now out out_now (end.Answered mark groups loaded) = ⊤
 FolderCause shelf shelf_now out out_now (end.Unopened (fault.Disk faults)) =
     Rose shelf shelf_now × (faults ≡ shelf_now)
 FolderCause shelf shelf_now out out_now (end.Unopened f) = ⊤
@@ -78,7 +81,7 @@ TellsOpening folder (Err f) =
 abbrev pub TellsFaults : Folder → End → Type 0
 TellsFaults folder (end.Unopened f) =
     IsFault f → FaultFound f (IsFound folder) × (IsNew folder → ⊥)
-TellsFaults folder (end.Answered mark groups) = HasFault folder → ⊥
+TellsFaults folder (end.Answered mark groups loaded) = HasFault folder → ⊥
 TellsFaults folder e = ⊤
 
 -- ---- before the folder is touched
@@ -125,7 +128,6 @@ ComesFrom before now (end.Unopened (fault.Disk faults)) =
 ComesFrom before now (end.Source faults) =
     Rose before.source now.source × (faults ≡ now.source)
 ComesFrom before now end.Sink = Rose before.output now.output
-ComesFrom before now end.Usage = ⊥
 ComesFrom before now e = ⊤
 
 -- no count falls, and the end has its cause
@@ -169,21 +171,29 @@ pub record TakesByStatus (status : ℕ) (old new : ℕ → ℕ) : Type 0 where
   pub script : status ≡ 5 → new ≡ old
   pub source : status ≡ 6 → new ≡ old
 
+-- So it is of a run of a task, which reads it at most so often as its lines need.
+pub record IsTimed (t : Option Task) (told : Type 0) (read : Result (List NamedLine) ScriptFault)
+    (status : ℕ) (old new : ℕ → ℕ) : Type 0 where
+  pub lines : (ls : List NamedLine) → Answers t told read ls
+      → TakesUpTo (most_readings (length ls)) old new
+  pub statuses : TakesByStatus status old new
+
 -- one of them rose
 abbrev pub AnyRose : Counts → Counts → Type 0
 AnyRose before now = Rose before.shelf now.shelf ⊎ Rose before.source now.source
     ⊎ Rose before.output now.output
 
--- Each status comes only from its cause: wrong words, a failure of the disk, a fault that is found
--- in the folder, a script that is refused, and failures of the source and of the output.
-pub record HasCauses (status : ℕ) (good : Bool) (before now : Counts) (finds : Type 0)
+-- Each status comes only from its cause: words that ask for nothing, a failure of the disk, a fault
+-- that is found in a folder that is to be opened, a script that is refused where one is read, and
+-- failures of the source and of the output.
+pub record HasCauses (status : ℕ) (t : Option Task) (before now : Counts) (finds : Type 0)
     (refuses : Type 0) : Type 0 where
   pub small : status ≤ 7
-  pub usage : status ≡ 1 → good ≡ false
+  pub usage : status ≡ 1 → t ≡ None
   pub disk : status ≡ 2 → Rose before.shelf now.shelf
-  pub found : status ≡ 3 → finds
-  pub script : status ≡ 5 → refuses
-  pub source : status ≡ 6 → Rose before.source now.source
+  pub found : status ≡ 3 → Opens t × finds
+  pub script : status ≡ 5 → (t ≡ Some task.Run) × refuses
+  pub source : status ≡ 6 → (t ≡ Some task.Run) × Rose before.source now.source
   pub output : status ≡ 7 → Rose before.output now.output
 
 -- the status is this one, unless memory ran out or something outside failed

@@ -6,7 +6,7 @@ use Rattle.dv_script.specs.declared.types.ScriptEnd.TheVariants as script
 use Rattle.dv_cli.specs.declared.ending.End.{End}
 use Rattle.dv_cli.specs.declared.ending.End.TheVariants as end
 use Rattle.dv_shelf.specs.Streams.{Appends, AppendsFront}
-use Rattle.dv_cli.specs.Running.{end_text, usage_text, fault_text, memory_text, script_text, source_text}
+use Rattle.dv_cli.specs.Running.{answered_text, rebuilt_text, usage_text, fault_text, memory_text, script_text, source_text}
 
 -- the status by why the folder's mailbox isn't opened
 abbrev pub fault_status : OpenFault → ℕ
@@ -20,7 +20,8 @@ IsFault f = fault_status f ≡ 3
 
 -- the exit status of a run that ends so
 abbrev pub status_of : End → ℕ
-status_of (end.Answered mark groups) = 0
+status_of (end.Answered mark groups loaded) = 0
+status_of (end.Rebuilt kept skipped) = 0
 status_of end.Usage = 1
 status_of (end.Unopened f) = fault_status f
 status_of end.NoMemory = 4
@@ -31,7 +32,8 @@ status_of end.Sink = 7
 
 -- where the output failed there is no last line
 abbrev pub text_of : End → List ℕ
-text_of (end.Answered mark groups) = end_text mark groups
+text_of (end.Answered mark groups loaded) = answered_text mark groups loaded
+text_of (end.Rebuilt kept skipped) = rebuilt_text kept skipped
 text_of end.Usage = usage_text
 text_of (end.Unopened f) = fault_text f
 text_of end.NoMemory = memory_text

@@ -3,10 +3,12 @@ pub mod Readings
 pub mod Running
 pub mod Endings
 pub mod Starts
+pub mod Tasks
 pub mod Behind
 pub mod Begins
 pub mod Runs
 pub mod Causes
 pub mod Outputs
+pub mod Rebuilding
 pub mod Wholes
 pub mod Obeying

@@ -1,10 +1,10 @@
 -- What the program does by its words.
-use Rattle.std.specs.Prelude.{◌≡◌, ◌⊎◌, ◌≤◌, ℕ, true, false, List, Result, Ok, Err, ⊤}
+use Rattle.std.specs.Prelude.{◌≡◌, ◌⊎◌, ◌≤◌, ℕ, true, false, List, None, Result, Ok, Err, ⊤}
 use Rattle.dv_model.specs.Counts.{Rose}
 use Rattle.dv_shelf.specs.Streams.{Appends, AppendsFront}
 use Rattle.dv_cli.specs.declared.program.TheConstants.{HELP, HELP_WORD, VERSION, VERSION_WORD}
-use Rattle.dv_cli.specs.Running.{is_run, memory_text, usage_text}
-use Rattle.dv_cli.specs.Words.{Prints, asks_for, run_words}
+use Rattle.dv_cli.specs.Running.{memory_text, usage_text}
+use Rattle.dv_cli.specs.Words.{Prints, asks_for, run_words, task_of}
 
 -- want of memory
 abbrev pub IsMemory : {A E : Type 0} → Result A E → Type 0
@@ -16,11 +16,11 @@ abbrev pub Tells : List ℕ → List ℕ → List ℕ → ℕ → ℕ → Type 0
 Tells text old new before now =
     Appends old new text ⊎ (AppendsFront old new text × Rose before now)
 
--- the words ask neither for help nor for the version, nor for a run
+-- the words ask neither for help nor for the version, nor for a task
 pub record AskForNothing (words : List (List ℕ)) : Type 0 where
   pub help : asks_for HELP_WORD.now words ≡ false
   pub version : asks_for VERSION_WORD.now words ≡ false
-  pub run : is_run (run_words words) ≡ false
+  pub task : task_of (run_words words) ≡ None
 
 -- What is printed and answered by the words: the help text, the version, or a run's last line where
 -- they ask for nothing; status 1 is for such words alone, and 7 for a failed output.

@@ -1,6 +1,6 @@
 -- What a run writes, where nothing fails and memory suffices: it depends on the words, the folder,
 -- the script and the clock alone.
-use Rattle.std.specs.Prelude.{◌≡◌, ◌++◌, ℕ, List, length, map, true, false, Result, Ok, Err}
+use Rattle.std.specs.Prelude.{◌≡◌, ◌++◌, ℕ, List, length, map, Option, Some, None, Result, Ok, Err}
 use Rattle.dv_model.specs.declared.types.OpenFault.{OpenFault}
 use Rattle.dv_model.specs.Journals.{Log}
 use Rattle.dv_model.specs.Transcripts as transcripts
@@ -14,9 +14,15 @@ use Rattle.dv_playing.specs.Playing.{Attempt, Play, Served, begin, replies_to}
 use Rattle.dv_script.specs.declared.types.ScriptEnd.TheVariants as script
 use Rattle.dv_serial.specs.Places.{play_of}
 use Rattle.dv_serial.specs.Scripts.{numbered, replies_text}
+use Rattle.dv_openings.specs.Rebuilds.{IsRebuild, Rebuild}
+use Rattle.dv_cli.specs.declared.words.Load.{Load}
+use Rattle.dv_cli.specs.declared.words.Task.{Task}
+use Rattle.dv_cli.specs.declared.words.Task.TheVariants as task
+use Rattle.dv_cli.specs.Behind.{loaded_by}
 use Rattle.dv_cli.specs.Endings.{IsFault}
-use Rattle.dv_cli.specs.Running.{end_text, fault_text, is_run, script_text, usage_text}
+use Rattle.dv_cli.specs.Running.{answered_text, fault_text, rebuilt_text, script_text, usage_text}
 use Rattle.dv_cli.specs.Starts.{IsNew, Starts}
+use Rattle.dv_cli.specs.Tasks.{generated_by}
 
 -- a line that is served
 abbrev pub served : transcripts.Line → Attempt
@@ -26,12 +32,23 @@ served line = record { line = line; outcome = Served }
 abbrev pub all_served : List NamedLine → List Attempt
 all_served lines = map served (numbered lines)
 
--- the replies to all lines over a log, and the last line
-abbrev pub output_over : (ℕ → ℕ) → Log → List NamedLine → List ℕ
-output_over clock start lines =
-    let behind_all : Play = play_of clock start (all_served lines) in
+-- the replies to all lines over a log
+abbrev pub replies_over : (ℕ → ℕ) → Log → List NamedLine → List ℕ
+replies_over clock start lines =
     replies_text lines (replies_to clock (begin start) (all_served lines))
-    ++ end_text behind_all.mark (length behind_all.log.entries)
+
+-- the last lines behind them
+abbrev pub last_over : (ℕ → ℕ) → Option Load → Log → List NamedLine → List ℕ
+last_over clock load start lines =
+    let behind_all : Play = play_of clock start (all_served lines) in
+    answered_text behind_all.mark (length behind_all.log.entries)
+    (loaded_by load behind_all.mailbox)
+
+-- both; where the lines were generated no replies
+abbrev pub output_over : (ℕ → ℕ) → Option Load → Log → List NamedLine → List ℕ
+output_over clock None start lines =
+    replies_over clock start lines ++ last_over clock None start lines
+output_over clock (Some load) start lines = last_over clock (Some load) start lines
 
 -- the text of a script's fault
 abbrev pub script_fault_text : ScriptFault → List ℕ
@@ -39,20 +56,29 @@ script_fault_text (ScriptFault.BadLine line) = script_text (script.BadLine line)
 script_fault_text (ScriptFault.ShortLiteral line) = script_text (script.ShortLiteral line)
 script_fault_text ScriptFault.TooLong = script_text script.TooLong
 
--- So it is of a good script over a mailbox that is found or made; else it is the fault of the
--- folder or of the script, or that the words aren't those of a run.
-abbrev pub IsOutputBy : Result (List NamedLine) ScriptFault → (ℕ → ℕ) → Folder → List ℕ → Type 0
-IsOutputBy (Ok lines) clock folder text =
+-- So it is of lines over a mailbox that is found or made; else it is the fault of the folder.
+abbrev pub IsOutputOver : Option Load → List NamedLine → (ℕ → ℕ) → Folder → List ℕ → Type 0
+IsOutputOver load lines clock folder text =
     ((start : Log) (used : ℕ) → Starts clock folder start used
-    → text ≡ output_over (behind clock used) start lines)
+    → text ≡ output_over (behind clock used) load start lines)
     × ((f : OpenFault) → IsFault f → (IsNew folder → ⊥) → FaultFound f (IsFound folder)
     → text ≡ fault_text f)
+
+-- of a script it may be that script's fault
+abbrev pub IsOutputBy : Result (List NamedLine) ScriptFault → (ℕ → ℕ) → Folder → List ℕ → Type 0
+IsOutputBy (Ok lines) clock folder text = IsOutputOver None lines clock folder text
 IsOutputBy (Err fault) clock folder text = text ≡ script_fault_text fault
 
--- by the words too
-abbrev pub IsOutput : List (List ℕ) → List ℕ → (ℕ → ℕ) → Folder → List ℕ → Type 0
-IsOutput words b clock folder text =
-    elim (is_run words) [
-      | true ↦ IsOutputBy (parsed b) clock folder text
-      | false ↦ text ≡ usage_text
-    ]
+-- of a rebuild it says what that keeps
+pub record IsRebuiltOutput (clock : ℕ → ℕ) (folder : Folder) (text : List ℕ) : Type 0 where
+  pub does : Rebuild
+  pub is : IsRebuild folder (clock 0) does
+  pub text_is : text ≡ rebuilt_text (length does.kept) does.skipped
+
+-- by the task, or that there is none
+abbrev pub IsOutputOf : Option Task → List ℕ → (ℕ → ℕ) → Folder → List ℕ → Type 0
+IsOutputOf None b clock folder text = text ≡ usage_text
+IsOutputOf (Some task.Run) b clock folder text = IsOutputBy (parsed b) clock folder text
+IsOutputOf (Some task.Rebuild) b clock folder text = IsRebuiltOutput clock folder text
+IsOutputOf (Some (task.Generate load)) b clock folder text =
+    IsOutputOver (Some load) (generated_by load) clock folder text

@@ -1,5 +1,5 @@
 -- What is read of a script.
-use Rattle.std.specs.Prelude.{◌≡◌, ℕ}
+use Rattle.std.specs.Prelude.{◌≡◌, ◌≤◌, ◌++◌, ℕ, List, length}
 use Rattle.dv_model.specs.Counts.{Rose}
 use Rattle.dv_cli.specs.declared.reading.ReadEnd.{ReadEnd}
 use Rattle.dv_cli.specs.declared.reading.ReadEnd.TheVariants.{Source, NoMemory}
@@ -12,3 +12,7 @@ read_limit = 67108865
 abbrev pub IsSourceFault : ReadEnd → ℕ → ℕ → Type 0
 IsSourceFault (Source n) before now = Rose before now × (n ≡ now)
 IsSourceFault NoMemory before now = Unit {0}
+
+-- a front of the source was taken, so long at most
+abbrev pub TakesFront : List ℕ → List ℕ → Type 0
+TakesFront old new = (taken : List ℕ) × (old ≡ taken ++ new) × (length taken ≤ read_limit)

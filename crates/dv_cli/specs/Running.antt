@@ -1,23 +1,41 @@
--- The words and the last lines of a run.
-use Rattle.std.specs.Prelude.{ℕ, Bool, false, List, [], ◌∷◌, ◌++◌, codes, decimal, bytes_eq}
+-- The last lines of a run.
+use Rattle.std.specs.Prelude.{ℕ, List, [], ◌∷◌, ◌++◌, Option, Some, None, codes, decimal}
 use Rattle.dv_model.specs.declared.types.Mark.{Mark}
 use Rattle.dv_model.specs.declared.types.OpenFault.{OpenFault}
 use Rattle.dv_model.specs.declared.types.OpenFault.TheVariants as fault
 use Rattle.dv_model.specs.Texts.{mark_text}
+use Rattle.dv_cli.specs.declared.ending.Loaded.{Loaded}
 use Rattle.dv_script.specs.declared.types.ScriptEnd.{ScriptEnd}
 use Rattle.dv_script.specs.declared.types.ScriptEnd.TheVariants.{BadLine, TooLong, ShortLiteral, NoMemory}
-
--- the one word `run`
-abbrev pub is_run : List (List ℕ) → Bool
-is_run (word ∷ []) = bytes_eq word (codes "run")
-is_run words = false
 
 -- the last line where every command was answered
 abbrev pub end_text : Mark → ℕ → List ℕ
 end_text mark groups =
     codes "END 0 " ++ mark_text mark ++ codes " GROUPS " ++ decimal groups ++ 10 ∷ []
 
--- the words aren't those of a run
+-- a word and a number
+abbrev pub counted_text : List ℕ → ℕ → List ℕ
+counted_text word n = 32 ∷ word ++ 32 ∷ decimal n
+
+-- the load that was generated, and what the mailbox has behind it
+abbrev pub load_text : Loaded → List ℕ
+load_text l =
+    codes "GEN " ++ decimal l.load.seed ++ codes " " ++ decimal l.load.count ++ codes " "
+    ++ decimal l.load.sessions ++ counted_text (codes "EXISTS") l.exists
+    ++ counted_text (codes "UIDNEXT") l.next_uid ++ 10 ∷ []
+
+-- the last lines: behind a generated load its own comes first
+abbrev pub answered_text : Mark → ℕ → Option Loaded → List ℕ
+answered_text mark groups None = end_text mark groups
+answered_text mark groups (Some l) = load_text l ++ end_text mark groups
+
+-- the last line of a rebuild
+abbrev pub rebuilt_text : ℕ → ℕ → List ℕ
+rebuilt_text kept skipped =
+    codes "END 0 REBUILT" ++ counted_text (codes "kept") kept
+    ++ counted_text (codes "skipped") skipped ++ 10 ∷ []
+
+-- the words ask for nothing
 abbrev pub usage_text : List ℕ
 usage_text = codes "FAULT 1 USAGE" ++ 10 ∷ []
 

@@ -1,5 +1,5 @@
 -- What a whole run answers, writes and leaves. The records take the members of a shelf's type.
-use Rattle.std.specs.Prelude.{◌≡◌, ◌≢◌, ◌⊎◌, ◌+◌, ◌++◌, ℕ, List, [], ◌∷◌, drop, length, ⊤}
+use Rattle.std.specs.Prelude.{◌≡◌, ◌≢◌, ◌⊎◌, ◌+◌, ◌++◌, ℕ, List, [], ◌∷◌, drop, length, Option, ⊤}
 use Rattle.dv_model.specs.declared.types.Entry.{Entry}
 use Rattle.dv_model.specs.declared.types.OpenFault.{OpenFault}
 use Rattle.dv_model.specs.Journals.{Log}
@@ -18,34 +18,39 @@ use Rattle.dv_openings.specs.Openings.{IsFound}
 use Rattle.dv_playing.specs.Laws.{lines_of}
 use Rattle.dv_playing.specs.Playing.{Attempt, begin, replies_to}
 use Rattle.dv_serial.specs.Following.{IsLeft}
+use Rattle.dv_serial.specs.NextRuns.{LeavesTrue}
 use Rattle.dv_serial.specs.Others.{MayTouch}
 use Rattle.dv_serial.specs.Places.{GivesBehind, MayGive, play_of}
 use Rattle.dv_serial.specs.Runs.{IsTried}
 use Rattle.dv_serial.specs.Scripts.{numbered, replies_text}
+use Rattle.dv_cli.specs.declared.words.Load.{Load}
 use Rattle.dv_cli.specs.declared.ending.End.{End}
 use Rattle.dv_cli.specs.declared.ending.End.TheVariants as end
+use Rattle.dv_cli.specs.Behind.{loaded_by}
 use Rattle.dv_cli.specs.Endings.{IsFault}
 use Rattle.dv_cli.specs.Starts.{IsNew, Starts}
 
 -- ---- lines that were answered
 
--- How a run over lines ends: behind all of them, with the place behind the journal and its number
--- of groups; or where memory or the output ended it, at the first of the rest.
-abbrev pub EndsAt : End → (ℕ → ℕ) → ℕ → Log → List Attempt → List Attempt
+-- How a run over lines ends: behind all of them, with the place behind the journal, its number of
+-- groups, and, where a load was generated, what the mailbox has then; or where memory or the output
+-- ended it, at the first of the rest.
+abbrev pub EndsAt : Option Load → End → (ℕ → ℕ) → ℕ → Log → List Attempt → List Attempt
     → List transcripts.Line → Type 0
-EndsAt (end.Answered mark groups) clock base start answered left rest =
+EndsAt load (end.Answered mark groups loaded) clock base start answered left rest =
     (rest ≡ []) × (left ≡ []) × (mark ≡ (play_of clock start answered).mark)
     × (groups ≡ length (play_of clock start answered).log.entries)
-EndsAt end.NoMemory clock base start answered left [] = left ≡ []
-EndsAt end.NoMemory clock base start answered left (line ∷ rest) =
+    × (loaded ≡ loaded_by load (play_of clock start answered).mailbox)
+EndsAt load end.NoMemory clock base start answered left [] = left ≡ []
+EndsAt load end.NoMemory clock base start answered left (line ∷ rest) =
     IsLeft clock base (play_of clock start answered) line left
-EndsAt end.Sink clock base start answered left (line ∷ rest) =
+EndsAt load end.Sink clock base start answered left (line ∷ rest) =
     IsLeft clock base (play_of clock start answered) line left
-EndsAt e clock base start answered left rest = ⊥
+EndsAt load e clock base start answered left rest = ⊥
 
 -- all lines were answered
 abbrev pub IsAnswered : End → Type 0
-IsAnswered (end.Answered mark groups) = ⊤
+IsAnswered (end.Answered mark groups loaded) = ⊤
 IsAnswered e = ⊥
 
 -- the text of the answered lines was written; where the output failed then, a front of the next
@@ -71,11 +76,13 @@ MayLeave clock start attempts old c =
 -- be one that the disk failed. The folder gives that log, with its messages and a true cache, or
 -- that with the group of the last write that the disk failed, behind which none was written; so
 -- does what a crash behind the run leaves, and a crash during it leaves a front of it. A file that
--- none of these lines may change is as it was, but for the log, whose end the opening may close.
+-- none of these lines may change is as it was, but for the log, whose end the opening may close. A
+-- next run may begin from what is left, and from what a crash behind the run leaves.
 pub record ServesLines {S : Type 0} (files : S → Folder) (may_leave : S → Folder → Type 0)
     (moment : S → ℕ) (left_since : S → ℕ → Folder → Type 0) (clock clock_now : ℕ → ℕ)
-    (base faults : ℕ) (lines : List NamedLine) (e : End) (journal : List Entry) (told : Type 0)
-    (taken taken_now : List ℕ) (old new : S) : Type 0 where
+    (base faults : ℕ) (load : Option Load) (lines : List NamedLine) (e : End)
+    (journal : List Entry) (told : Type 0) (taken taken_now : List ℕ) (old new : S)
+    : Type 0 where
   pub start : Log
   pub used : ℕ
   pub starts : Starts clock (files old) start used
@@ -83,7 +90,7 @@ pub record ServesLines {S : Type 0} (files : S → Folder) (may_leave : S → Fo
   pub left : List Attempt
   pub rest : List transcripts.Line
   pub parts : numbered lines ≡ lines_of answered ++ rest
-  pub ends : EndsAt e (behind clock used) base start answered left rest
+  pub ends : EndsAt load e (behind clock used) base start answered left rest
   pub serial : Serial (play_of (behind clock used) start (answered ++ left)).log base faults
       (numbered lines) (replies_to (behind clock used) (begin start) answered)
   pub entries : journal ≡ (play_of (behind clock used) start (answered ++ left)).log.entries
@@ -97,6 +104,7 @@ pub record ServesLines {S : Type 0} (files : S → Folder) (may_leave : S → Fo
       → GivesBehind (behind clock used) start (answered ++ left) c
   pub crash : LeavesOnly moment left_since old new
       (MayLeave (behind clock used) start (answered ++ left) (files old))
+  pub next : LeavesTrue files may_leave new
 
 -- ---- a folder that isn't opened
 
@@ -120,13 +128,13 @@ pub record LeavesUnopened {S : Type 0} (files : S → Folder) (may_leave : S →
 
 -- the lines of a script are answered, or the folder isn't opened
 abbrev pub RunsOver : {S : Type 0} → (S → Folder) → (S → Folder → Type 0) → (S → ℕ)
-    → (S → ℕ → Folder → Type 0) → (ℕ → ℕ) → (ℕ → ℕ) → ℕ → ℕ → List NamedLine → End → List Entry
-    → Type 0 → List ℕ → List ℕ → S → S → Type 0
-RunsOver files may_leave moment left_since clock clock_now base faults lines (end.Unopened f)
+    → (S → ℕ → Folder → Type 0) → (ℕ → ℕ) → (ℕ → ℕ) → ℕ → ℕ → Option Load → List NamedLine → End
+    → List Entry → Type 0 → List ℕ → List ℕ → S → S → Type 0
+RunsOver files may_leave moment left_since clock clock_now base faults load lines (end.Unopened f)
     journal told taken taken_now old new =
     (journal ≡ []) × (told → taken_now ≡ taken)
     × LeavesUnopened files may_leave moment left_since clock f old new
-RunsOver files may_leave moment left_since clock clock_now base faults lines e journal told
+RunsOver files may_leave moment left_since clock clock_now base faults load lines e journal told
     taken taken_now old new =
-    ServesLines files may_leave moment left_since clock clock_now base faults lines e journal told
-    taken taken_now old new
+    ServesLines files may_leave moment left_since clock clock_now base faults load lines e journal
+    told taken taken_now old new

@@ -6,12 +6,11 @@ use Rattle.dv_model.specs.Journals.{Log}
 use Rattle.dv_shelf.specs.declared.shelf.Name.{Name}
 use Rattle.dv_shelf.specs.declared.shelf.Name.TheVariants as name
 use Rattle.dv_shelf.specs.Folders.{Folder}
-use Rattle.dv_logfile.specs.Scans.{Good, GoodLog, IsScanned}
 use Rattle.dv_openings.specs.Openings.{Finds, IsFound}
 use Rattle.dv_openings.specs.Rebuilds.{stamp_of}
-use Rattle.dv_openings.specs.TrueCaches.{HasTrueCache}
 use Rattle.dv_chain.specs.Creations.{first_mailbox}
 use Rattle.dv_mails.specs.Reading.{guid_at, mail_at}
+use Rattle.dv_serial.specs.NextRuns.{IsNamed}
 
 -- a file is one of a mailbox's; a cache file alone makes none
 abbrev pub is_of_mailbox : Name → Bool
@@ -37,12 +36,6 @@ log_from indexid m mark folder = record {
   guid = guid_at folder;
 }
 
--- the folder's log is a good one of this number
-pub record IsNamed (folder : Folder) (indexid : ℕ) : Type 0 where
-  pub log : GoodLog
-  pub scanned : IsScanned (folder name.Log) (Good log)
-  pub is : indexid ≡ log.header.indexid
-
 -- the folder opens to this mailbox, at this place
 pub record IsOpened (folder : Folder) (start : Log) : Type 0 where
   pub indexid : ℕ
@@ -67,8 +60,3 @@ abbrev pub Starts : (ℕ → ℕ) → Folder → Log → ℕ → Type 0
 Starts clock folder start used =
     (IsOpened folder start × (used ≡ 0))
     ⊎ (IsNew folder × (start ≡ new_log (clock 0) folder) × (used ≡ 1))
-
--- where a mailbox is found, the cache file is true of it
-abbrev pub IsTrueFolder : Folder → Type 0
-IsTrueFolder folder = (indexid : ℕ) (m : Mailbox) (mark : Mark) → IsNamed folder indexid
-    → IsFound folder (Finds m mark) → HasTrueCache folder indexid m

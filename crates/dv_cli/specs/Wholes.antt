@@ -1,5 +1,5 @@
 -- A whole run, with its last line. The records take the members of a shelf's type.
-use Rattle.std.specs.Prelude.{◌≡◌, ◌⊎◌, ℕ, List, [], ⊤}
+use Rattle.std.specs.Prelude.{◌≡◌, ◌⊎◌, ℕ, List, [], Option, ⊤}
 use Rattle.dv_model.specs.declared.types.Entry.{Entry}
 use Rattle.dv_script.specs.declared.types.ScriptEnd.TheVariants as script
 use Rattle.dv_shelf.specs.Folders.{Folder}
@@ -9,7 +9,10 @@ use Rattle.dv_cli.specs.declared.ending.End.{End}
 use Rattle.dv_cli.specs.declared.ending.End.TheVariants as end
 use Rattle.dv_cli.specs.Causes.{ComesFrom, Counts, EndsRefused}
 use Rattle.dv_cli.specs.Endings.{Concludes, IsStatus}
+use Rattle.dv_cli.specs.Rebuilding.{RebuildsFolder}
 use Rattle.dv_cli.specs.Runs.{RunsOver}
+use Rattle.dv_cli.specs.Tasks.{HasScript, RepliesTold, load_in}
+use Rattle.dv_cli.specs.declared.words.Task.{Task}
 
 -- reading a good script ends a run so
 abbrev pub EndsReading : End → Type 0
@@ -23,20 +26,43 @@ abbrev pub IsUnread : {S : Type 0} → End → List Entry → List ℕ → List 
 IsUnread e journal taken taken_now old new =
     EndsReading e × (journal ≡ []) × (taken_now ≡ taken) × (new ≡ old)
 
--- A run over the lines of a good script: the script couldn't be read after all, and the folder is
--- untouched; or the lines were answered. Then the last line was written.
+-- The lines of a task: the script couldn't be read after all, or memory for generated ones ran out,
+-- and the folder is untouched; or they were answered. To generated ones no reply is written.
+pub record RunsTask {S : Type 0} (files : S → Folder) (may_leave : S → Folder → Type 0)
+    (moment : S → ℕ) (left_since : S → ℕ → Folder → Type 0) (clock clock_now : ℕ → ℕ)
+    (base faults : ℕ) (t : Option Task) (lines : List NamedLine) (e : End)
+    (journal : List Entry) (told : Type 0) (taken taken_now : List ℕ) (old new : S)
+    : Type 0 where
+  pub runs : IsUnread e journal taken taken_now old new
+      ⊎ RunsOver files may_leave moment left_since clock clock_now base faults (load_in t) lines e
+      journal (RepliesTold t told) taken taken_now old new
+  pub silent : (HasScript t → ⊥) → taken_now ≡ taken
+
+-- A run over the lines of a task, behind which the last line was written.
 pub record IsRun {S : Type 0} (files : S → Folder) (may_leave : S → Folder → Type 0)
     (moment : S → ℕ) (left_since : S → ℕ → Folder → Type 0) (clock clock_now : ℕ → ℕ)
-    (before now : Counts) (lines : List NamedLine) (status : ℕ) (journal : List Entry)
-    (told : Type 0) (taken taken_now : List ℕ) (old new : S) : Type 0 where
+    (before now : Counts) (t : Option Task) (lines : List NamedLine) (status : ℕ)
+    (journal : List Entry) (told : Type 0) (taken taken_now : List ℕ) (old new : S)
+    : Type 0 where
   pub how : End
   pub between : List ℕ
-  pub runs : IsUnread how journal taken between old new
-      ⊎ RunsOver files may_leave moment left_since clock clock_now before.shelf now.shelf lines how
-      journal told taken between old new
+  pub runs : RunsTask files may_leave moment left_since clock clock_now before.shelf now.shelf t
+      lines how journal told taken between old new
   pub cause : ComesFrom before now how
   pub ended : IsStatus how status
   pub concludes : told → Concludes how status between taken_now
+
+-- A run that rebuilds its folder, behind which the last line was written.
+pub record IsRebuildRun {S : Type 0} (files : S → Folder) (may_leave : S → Folder → Type 0)
+    (moment : S → ℕ) (left_since : S → ℕ → Folder → Type 0) (clock clock_now : ℕ → ℕ)
+    (before now : Counts) (status : ℕ) (journal : List Entry) (told : Type 0)
+    (taken taken_now : List ℕ) (old new : S) : Type 0 where
+  pub how : End
+  pub rebuilds : RebuildsFolder files may_leave moment left_since clock clock_now how journal old
+      new
+  pub cause : ComesFrom before now how
+  pub ended : IsStatus how status
+  pub concludes : told → Concludes how status taken taken_now
 
 -- The script is refused, or couldn't be read: the last line tells it.
 pub record IsRefused (fault : ScriptFault) (before now : Counts) (status : ℕ) (told : Type 0)

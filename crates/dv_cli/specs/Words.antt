@@ -1,6 +1,10 @@
 -- What the program's words ask for. The word in the folder's place comes first.
-use Rattle.std.specs.Prelude.{◌≡◌, ◌⊎◌, ℕ, Bool, false, List, [], ◌∷◌, bytes_eq}
+use Rattle.std.specs.Prelude.{◌≡◌, ◌⊎◌, ◌≤◌, ◌^◌, ⊤, ℕ, Bool, false, List, [], ◌∷◌, Option, Some, None, bytes_eq, codes, nat_le, option_map, if◌then◌else◌}
 use Rattle.dv_shelf.specs.Streams.{Appends, AppendsFront}
+use Rattle.dv_formats.specs.Parsing.{◌>>=◌, number_of}
+use Rattle.dv_cli.specs.declared.words.Load.{Load}
+use Rattle.dv_cli.specs.declared.words.Task.{Task}
+use Rattle.dv_cli.specs.declared.words.Task.TheVariants as task
 
 -- the first word is this one
 abbrev pub asks_for : List ℕ → List (List ℕ) → Bool
@@ -16,6 +20,40 @@ folder_word (folder ∷ words) = folder
 abbrev pub run_words : List (List ℕ) → List (List ℕ)
 run_words [] = []
 run_words (folder ∷ words) = words
+
+-- ---- what they ask for
+
+-- a load that is generated: a seed below 2^64, up to 1,000,000 commands, and 1 to 64 sessions, in
+-- digits without leading zeros
+abbrev pub load_of : List ℕ → List ℕ → List ℕ → Option Load
+load_of seed count sessions =
+    number_of (2 ^ 64) seed >>= λ s. number_of 1000001 count >>= λ c.
+    number_of 65 sessions >>= λ n.
+    if nat_le 1 n then Some (record { seed = s; count = c; sessions = n }) else None
+
+-- so many commands and sessions
+pub record IsLoad (load : Load) : Type 0 where
+  pub some : 1 ≤ load.sessions
+  pub few : load.sessions ≤ 64
+  pub short : load.count ≤ 1000000
+
+-- a task's load has so many
+abbrev pub IsTask : Task → Type 0
+IsTask task.Run = ⊤
+IsTask task.Rebuild = ⊤
+IsTask (task.Generate load) = IsLoad load
+
+-- the words behind the folder: `run`, `rebuild`, or `gen` with a load
+abbrev pub task_of : List (List ℕ) → Option Task
+task_of (word ∷ []) =
+    if bytes_eq word (codes "run") then Some task.Run
+    else (if bytes_eq word (codes "rebuild") then Some task.Rebuild else None)
+task_of (word ∷ seed ∷ count ∷ sessions ∷ []) =
+    if bytes_eq word (codes "gen") then option_map task.Generate (load_of seed count sessions)
+    else None
+task_of words = None
+
+-- ---- what is printed
 
 -- the text was printed and the status is this one, or a front of it where the output failed
 abbrev pub Prints : ℕ → List ℕ → ℕ → List ℕ → List ℕ → Type 0

@@ -5,18 +5,37 @@ ghost use Rattle.dv_shelf.specs.Streams.{Appends, AppendsFront};
 ghost use Rattle.dv_cli.specs.declared.ending.End.TheVariants as how;
 ghost use Rattle.dv_cli.specs.Endings.{status_of, text_of, Concludes, IsStatus, is_plain};
 ghost use Rattle.dv_model.specs.declared.types.OpenFault.TheVariants as fault;
-ghost use Rattle.dv_cli.specs.Running.{end_text, fault_text, place_text, script_text};
+ghost use Rattle.dv_cli.specs.Running.{answered_text, counted_text, end_text, fault_text, load_text, place_text, rebuilt_text, script_text};
 
+use crate::words::Load;
 use dv_model::{Bytes, List, Mark, NoMemory, OpenFault};
 use dv_script::{ScriptEnd, decimal_text, mark_text};
 use dv_shelf::Sink;
 use std::alloc::Global;
 
+/// A load that was generated, and how many messages and which UIDNEXT the mailbox has behind it.
+#[derive(Clone, Copy)]
+pub struct Loaded {
+    pub load: Load,
+    pub exists: u32,
+    pub next_uid: u32,
+}
+
 /// How a run ends, before its last line is written.
 #[derive(Clone, Copy)]
 pub enum End {
-    /// Every command was answered: the log's end, and the number of groups written.
-    Answered { mark: Mark, groups: u64 },
+    /// Every command was answered: the log's end, the number of groups written, and the load,
+    /// where one was generated.
+    Answered {
+        mark: Mark,
+        groups: u64,
+        loaded: Option<Loaded>,
+    },
+    /// The folder was rebuilt: how many messages are kept, and how many message files skipped.
+    Rebuilt {
+        kept: u32,
+        skipped: u32,
+    },
     /// The words aren't those of a run.
     Usage,
     /// The folder isn't opened or made.
@@ -35,7 +54,7 @@ fn status(end: &End) -> u8
     ensures { result ≡ status_of end.now }
 {
     match end {
-        End::Answered { .. } => 0,
+        End::Answered { .. } | End::Rebuilt { .. } => 0,
         End::Usage => 1,
         End::Unopened(OpenFault::Disk(_)) => 2,
         End::Unopened(OpenFault::NoMemory) => 4,
@@ -66,6 +85,61 @@ fn end_line(alloc: Global, mark: Mark, groups: u64) -> Result<Bytes, NoMemory>
     line.extend(mark_text(alloc, mark)?.as_slice())?;
     line.extend(b" GROUPS ")?;
     line.extend(decimal_text(alloc, groups)?.as_slice())?;
+    line.push(b'\n')?;
+    Ok(line)
+}
+
+/// Adds a word, a space before and behind it, and a number.
+fn put_counted(line: &mut Bytes, alloc: Global, word: &[u8], number: u32) -> Result<(), NoMemory>
+    ensures { OnOk result (line.new ≡ line.old ++ counted_text word.now number) }
+{
+    line.push(b' ')?;
+    line.extend(word)?;
+    line.push(b' ')?;
+    line.extend(decimal_text(alloc, u64::from(number))?.as_slice())?;
+    Ok(())
+}
+
+/// The line that tells which load was generated, and what the mailbox has behind it.
+fn load_line(alloc: Global, loaded: &Loaded) -> Result<Bytes, NoMemory>
+    ensures { IfOk result (λ line. line ≡ load_text loaded.now) }
+{
+    let mut line = List::from_slice(alloc, b"GEN ")?;
+    line.extend(decimal_text(alloc, loaded.load.seed)?.as_slice())?;
+    line.push(b' ')?;
+    line.extend(decimal_text(alloc, u64::from(loaded.load.count))?.as_slice())?;
+    line.push(b' ')?;
+    line.extend(decimal_text(alloc, u64::from(loaded.load.sessions))?.as_slice())?;
+    put_counted(&mut line, alloc, b"EXISTS", loaded.exists)?;
+    put_counted(&mut line, alloc, b"UIDNEXT", loaded.next_uid)?;
+    line.push(b'\n')?;
+    Ok(line)
+}
+
+/// The last lines of a run whose commands were all answered.
+fn answered_lines(
+    alloc: Global,
+    mark: Mark,
+    groups: u64,
+    loaded: &Option<Loaded>,
+) -> Result<Bytes, NoMemory>
+    ensures { IfOk result (λ line. line ≡ answered_text mark groups loaded.now) }
+{
+    let Some(loaded) = loaded else {
+        return end_line(alloc, mark, groups);
+    };
+    let mut lines = load_line(alloc, loaded)?;
+    lines.extend(end_line(alloc, mark, groups)?.as_slice())?;
+    Ok(lines)
+}
+
+/// The last line of a rebuild.
+fn rebuilt_line(alloc: Global, kept: u32, skipped: u32) -> Result<Bytes, NoMemory>
+    ensures { IfOk result (λ line. line ≡ rebuilt_text kept skipped) }
+{
+    let mut line = List::from_slice(alloc, b"END 0 REBUILT")?;
+    put_counted(&mut line, alloc, b"kept", kept)?;
+    put_counted(&mut line, alloc, b"skipped", skipped)?;
     line.push(b'\n')?;
     Ok(line)
 }
@@ -123,12 +197,17 @@ fn fault_line(alloc: Global, fault: OpenFault) -> Result<Bytes, NoMemory>
     }
 }
 
-/// The last line of a run that ends so.
+/// The last line of a run that ends so; behind a generated load there are two.
 fn last_line(alloc: Global, end: &End) -> Result<Bytes, NoMemory>
     ensures { IfOk result (λ line. line ≡ text_of end.now) }
 {
     match end {
-        End::Answered { mark, groups } => end_line(alloc, *mark, *groups),
+        End::Answered {
+            mark,
+            groups,
+            loaded,
+        } => answered_lines(alloc, *mark, *groups, loaded),
+        End::Rebuilt { kept, skipped } => rebuilt_line(alloc, *kept, *skipped),
         End::Usage => Ok(List::from_slice(alloc, b"FAULT 1 USAGE\n")?),
         End::Unopened(fault) => fault_line(alloc, *fault),
         End::NoMemory => Ok(List::from_slice(alloc, b"FAULT 4 MEMORY\n")?),

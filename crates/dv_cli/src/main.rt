@@ -1,15 +1,18 @@
-//! `sdbox`: a mailbox folder served to sessions by a script.
+//! `sdbox`: a mailbox folder served to sessions by a script, or rebuilt.
 #![tactic(auto)]
 
 mod ending;
 mod errors;
+mod loading;
 mod opening;
 mod program;
 mod reading;
+mod rebuilding;
 mod running;
 #[cfg(test)]
 mod tests;
 mod top_call;
+mod words;
 
 use crate::errors::ErrorOutput;
 use crate::program::obey_read;

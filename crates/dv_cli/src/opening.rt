@@ -9,7 +9,8 @@ ghost use Rattle.dv_chain.specs.Openings.{HasCause, IsOutside, OnlyLooks};
 ghost use Rattle.dv_store.specs.Opening.{answered, clock_behind, shelf_behind};
 ghost use Rattle.dv_cli.specs.Begins.{Begins};
 ghost use Rattle.dv_cli.specs.Causes.{TakesForOpening, TellsOpening};
-ghost use Rattle.dv_cli.specs.Starts.{IsNew, IsTrueFolder, is_of_mailbox};
+ghost use Rattle.dv_serial.specs.NextRuns.{IsTrueFolder};
+ghost use Rattle.dv_cli.specs.Starts.{IsNew, is_of_mailbox};
 
 use dv_model::{Extension, OpenFault};
 use dv_shelf::{Clock, Name, Shelf, ShelfFault};

@@ -3,8 +3,8 @@
 ghost use Rattle.std.specs.Prelude.{◌≡◌, ◌⊎◌, ◌≤◌, [], IfErr, IfOk, Ok, false, map, string_bytes};
 ghost use Rattle.dv_model.specs.Counts.{Rose};
 ghost use Rattle.dv_cli.specs.Obeying.{IsMemory, Obeys, Tells};
-ghost use Rattle.dv_cli.specs.Running.{is_run, usage_text};
-ghost use Rattle.dv_cli.specs.Words.{Prints, asks_for, folder_word, run_words};
+ghost use Rattle.dv_cli.specs.Running.{usage_text};
+ghost use Rattle.dv_cli.specs.Words.{Prints, asks_for, folder_word, run_words, task_of};
 ghost use Rattle.dv_folder.specs.Paths.{folder_path, path_of};
 
 use crate::ending::{End, conclude, write_text};
@@ -23,14 +23,19 @@ const VERSION_WORD: &str = "--version";
 
 const VERSION: &[u8] = b"sdbox 0.1.0\n";
 
-const USAGE: &[u8] = b"usage: sdbox FOLDER run < SCRIPT\n";
+const USAGE: &[u8] = b"usage: sdbox FOLDER run < SCRIPT
+       sdbox FOLDER rebuild
+       sdbox FOLDER gen SEED COUNT SESSIONS
+";
 
 const HELP: &[u8] = b"usage: sdbox FOLDER run < SCRIPT
+       sdbox FOLDER rebuild
+       sdbox FOLDER gen SEED COUNT SESSIONS
 
-Keeps a mailbox in FOLDER and answers the commands of the script. Where FOLDER has no mailbox one is
-made. A line of the script is a session's name, of 1 to 16 small letters and digits, a space and a
-command, in capitals; at most 64 sessions take part. Empty lines and lines that begin with # are
-passed over.
+run keeps a mailbox in FOLDER and answers the commands of the script. Where FOLDER has no mailbox
+one is made. A line of the script is a session's name, of 1 to 16 small letters and digits, a space
+and a command, in capitals; at most 64 sessions take part. Empty lines and lines that begin with #
+are passed over.
 
   SELECT                     shows the mailbox; each session's first command
   NOOP                       tells what has changed
@@ -46,12 +51,20 @@ passed over.
                              go by UIDs
 
 SET is numbers, * and ranges with commas between, as 1,3:5,7:*. FLAGS are \\Answered, \\Flagged,
-\\Deleted, \\Seen, \\Draft and keywords. The last line of the output says how the run ended, and the
-exit status says it too:
+\\Deleted, \\Seen, \\Draft and keywords.
 
-  0  every command was answered
+rebuild gives a damaged FOLDER, or one that a Dovecot server made, a new log: every message whose
+file u.N is whole is kept, with the flags and keywords that are left in log and snapshot. There is
+no way back, so copy the folder first.
+
+gen answers COUNT generated commands, at most 1000000, of up to 64 SESSIONS, the same ones for each
+SEED, and prints no replies. It is for measuring: never use it on a folder with mail.
+
+The last line of the output says how the run ended, and the exit status says it too:
+
+  0  every command was answered, or the folder was rebuilt
   1  the words are none of these
-  2  the folder couldn't be opened, made or locked
+  2  the folder couldn't be opened, made, rebuilt or locked
   3  the folder's mailbox is damaged, or isn't of this program
   4  memory ran out
   5  the script is no script
@@ -131,10 +144,10 @@ fn serve<O: Sink, E: Sink>(
     shelf: Folder,
     words: &[String],
 ) -> u8
-    ensures usage { is_run (map string_bytes words.now) ≡ false → (result ≡ 1) ⊎ (result ≡ 7) }
-    ensures usage_output { is_run (map string_bytes words.now) ≡ false → O.tells →
+    ensures usage { task_of (map string_bytes words.now) ≡ None → (result ≡ 1) ⊎ (result ≡ 7) }
+    ensures usage_output { task_of (map string_bytes words.now) ≡ None → O.tells →
         Prints 1 usage_text result (O.taken out.old) (O.taken out.new) }
-    ensures usage_only { result ≡ 1 → is_run (map string_bytes words.now) ≡ false }
+    ensures usage_only { result ≡ 1 → task_of (map string_bytes words.now) ≡ None }
     ensures sink { result ≡ 7 → Rose (O.fault_count out.old) (O.fault_count out.new) }
     ensures small { result ≤ 7 }
     // Standard error takes the usage text at status 1 alone.

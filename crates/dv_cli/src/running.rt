@@ -4,18 +4,19 @@ ghost use Rattle.std.specs.Prelude.{◌≡◌, ◌≤◌, ◌*◌, ◌^◌, [], 
 ghost use Rattle.dv_cli.specs.declared.ending.End.TheVariants as how;
 ghost use Rattle.dv_shelf.specs.Crashes.{IsSettled};
 ghost use Rattle.dv_script.specs.Sources.{all_named};
+ghost use Rattle.dv_serial.specs.NextRuns.{IsTrueFolder};
 ghost use Rattle.dv_serial.specs.Serves.{IsServable, TakesUpTo};
 ghost use Rattle.dv_cli.specs.Begins.{IsBegun};
-ghost use Rattle.dv_cli.specs.Behind.{end_behind};
+ghost use Rattle.dv_cli.specs.Behind.{end_behind, loaded_by};
 ghost use Rattle.dv_cli.specs.Causes.{EndCause, EndsServing, TakesForRun, TellsFaults};
 ghost use Rattle.dv_cli.specs.Runs.{RunsOver, ServesLines};
-ghost use Rattle.dv_cli.specs.Starts.{IsTrueFolder};
 
-use crate::ending::End;
+use crate::ending::{End, Loaded};
 use crate::opening::open_folder;
+use crate::words::Load;
 use dv_model::{Entry, List, Mark, NoMemory};
 use dv_script::Line;
-use dv_serial::{LineEnd, Numbered, Serial, new_seats, number_lines};
+use dv_serial::{LineEnd, Numbered, Serial, new_seats, next_runs_begin, number_lines};
 use dv_shelf::{Clock, Gate, Shelf, Sink};
 use dv_store::Store;
 use std::alloc::Global;
@@ -29,17 +30,45 @@ pub struct Outcome<S, C> {
     pub journal: List<Entry>,
 }
 
+/// What is told of a generated load, with the mailbox as it is.
+fn loaded_by<S: Shelf, C: Clock>(load: Option<Load>, serial: &Serial<S, C>) -> Option<Loaded>
+    ensures { result ≡ loaded_by load serial.now.store.chain.live.mailbox }
+{
+    let load = load?;
+    Some(Loaded {
+        load,
+        exists: serial.message_count(),
+        next_uid: serial.next_uid(),
+    })
+}
+
 /// How a run ends behind its lines.
-fn end_behind(served: Result<(), LineEnd>, mark: Mark, groups: usize) -> End
-    ensures { result ≡ end_behind served mark groups }
+fn end_behind(served: Result<(), LineEnd>, mark: Mark, groups: usize, loaded: Option<Loaded>) -> End
+    ensures { result ≡ end_behind served mark groups loaded }
 {
     match served {
         Ok(()) => End::Answered {
             mark,
             groups: groups as u64,
+            loaded,
         },
         Err(LineEnd::NoMemory) => End::NoMemory,
         Err(LineEnd::Sink(_)) => End::Sink,
+    }
+}
+
+/// The outcome where the folder isn't touched.
+pub fn untouched<S, C>(alloc: Global, shelf: S, clock: C, end: End) -> Outcome<S, C>
+    ensures end { result.end ≡ end }
+    ensures shelf { result.shelf ≡ shelf }
+    ensures clock { result.clock ≡ clock }
+    ensures journal { result.journal ≡ [] }
+{
+    Outcome {
+        end,
+        shelf,
+        clock,
+        journal: List::new(alloc),
     }
 }
 
@@ -62,9 +91,11 @@ fn unserved<S, C>(alloc: Global, store: Store<S, C>) -> Outcome<S, C>
 }
 
 /// Answers the lines of a script in a mailbox that was opened, to sessions that are made for them.
+/// Where they are of a generated load, it is told at the end.
 fn serve_lines<S: Shelf, C: Clock, O: Sink, G: Gate>(
     alloc: Global,
     store: Store<S, C>,
+    load: Option<Load>,
     lines: &[Line],
     out: &mut O,
     gate: &G,
@@ -76,7 +107,7 @@ fn serve_lines<S: Shelf, C: Clock, O: Sink, G: Gate>(
         IsBegun S.files S.may_leave S.moment S.left_since C.upcoming clock old store →
         (base : ℕ) → base ≤ S.fault_count store.shelf →
         ServesLines S.files S.may_leave S.moment S.left_since clock (C.upcoming result.clock)
-        base (S.fault_count result.shelf) (all_named lines.now) result.end
+        base (S.fault_count result.shelf) load (all_named lines.now) result.end
         result.journal O.tells (O.taken out.old) (O.taken out.new) old result.shelf }
     ensures ends { EndsServing result.end }
     ensures cause { EndCause (S.fault_count store.shelf) (S.fault_count result.shelf)
@@ -92,7 +123,9 @@ fn serve_lines<S: Shelf, C: Clock, O: Sink, G: Gate>(
     };
     let mut serial = Serial::new(alloc, store, seats);
     let served = serial.serve_lines(lines, turns.as_slice(), gate, out);
-    let end = end_behind(served, serial.mark(), serial.count());
+    next_runs_begin(&serial);
+    let loaded = loaded_by(load, &serial);
+    let end = end_behind(served, serial.mark(), serial.count(), loaded);
     let (shelf, clock, journal) = serial.parts();
     Outcome {
         end,
@@ -102,9 +135,10 @@ fn serve_lines<S: Shelf, C: Clock, O: Sink, G: Gate>(
     }
 }
 
-/// Opens or makes the mailbox, and answers the lines in it.
+/// Opens or makes the mailbox, and answers the lines in it, which may be of a generated load.
 pub fn run_folder<S: Shelf, C: Clock, O: Sink, G: Gate>(
     alloc: Global,
+    load: Option<Load>,
     lines: &[Line],
     shelf: S,
     clock: C,
@@ -118,7 +152,7 @@ pub fn run_folder<S: Shelf, C: Clock, O: Sink, G: Gate>(
         IsTrueFolder (S.files shelf) →
         RunsOver S.files S.may_leave S.moment S.left_since (C.upcoming clock)
         (C.upcoming result.clock) (S.fault_count shelf) (S.fault_count result.shelf)
-        (all_named lines.now) result.end result.journal O.tells (O.taken out.old)
+        load (all_named lines.now) result.end result.journal O.tells (O.taken out.old)
         (O.taken out.new) shelf result.shelf }
     // A fault that is found is told, and only where there is none all lines are answered.
     ensures found { S.tells → TellsFaults (S.files shelf) result.end }
@@ -129,7 +163,7 @@ pub fn run_folder<S: Shelf, C: Clock, O: Sink, G: Gate>(
         (C.upcoming result.clock) result.end }
 {
     match open_folder(alloc, shelf, clock) {
-        Ok(store) => serve_lines(alloc, store, lines, out, gate),
+        Ok(store) => serve_lines(alloc, store, load, lines, out, gate),
         Err((shelf, clock, fault)) => Outcome {
             end: End::Unopened(fault),
             shelf,

@@ -1,8 +1,10 @@
 mod faults;
 mod folders;
+mod limits;
 mod real;
 mod rows;
 mod sleeper;
+mod tasks;
 
 use crate::top_call::{Ran, run};
 use dv_model::{Bytes, List};

@@ -1,24 +1,32 @@
 //! The whole run.
 
-ghost use Rattle.std.specs.Prelude.{◌≡◌, ◌≢◌, ◌⊎◌, ◌^◌, ◌≤◌, ◌++◌, [], ℕ, All, Err, IfErr, IfOk, List, Ok, false, length, map, string_bytes, true};
+ghost use Rattle.std.specs.Prelude.{◌≡◌, ◌≢◌, ◌⊎◌, ◌^◌, ◌≤◌, ℕ, All, Err, IfErr, IfOk, List, None, Ok, Some, length, map, string_bytes};
 ghost use Rattle.dv_model.specs.Journals.{Log};
 ghost use Rattle.dv_shelf.specs.Crashes.{IsSettled};
 ghost use Rattle.dv_shelf.specs.Streams.{Appends};
 ghost use Rattle.dv_formats.specs.Parsing.{ScriptFault, parsed};
 ghost use Rattle.dv_formats.specs.Scripts.{NamedLine};
+ghost use Rattle.dv_serial.specs.NextRuns.{IsTrueFolder};
 ghost use Rattle.dv_serial.specs.Serves.{IsServable, TakesUpTo};
-ghost use Rattle.dv_cli.specs.Causes.{AnyRose, EndsRefused, HasCauses, HasFault, HasRunCause, IsOr, IsReadEnd, IsUntouched, ScriptEnds, TakesByEnd, TakesByStatus, TellsFaults, TellsScript, counts_of, most_readings};
-ghost use Rattle.dv_cli.specs.Outputs.{IsOutput};
-ghost use Rattle.dv_cli.specs.Readings.{read_limit};
-ghost use Rattle.dv_cli.specs.Running.{is_run, usage_text};
+ghost use Rattle.dv_cli.specs.Causes.{AnyRose, EndsRefused, HasCauses, HasFault, HasRunCause, IsOr, IsReadEnd, IsTimed, IsUntouched, ScriptEnds, TakesByEnd, TellsFaults, TellsScript, counts_of, most_readings};
+ghost use Rattle.dv_cli.specs.Outputs.{IsOutputOf};
+ghost use Rattle.dv_cli.specs.Readings.{TakesFront};
+ghost use Rattle.dv_cli.specs.Rebuilding.{RebuildsFolder};
+ghost use Rattle.dv_cli.specs.Running.{usage_text};
 ghost use Rattle.dv_cli.specs.Runs.{RunsOver};
-ghost use Rattle.dv_cli.specs.Starts.{IsTrueFolder, Starts};
-ghost use Rattle.dv_cli.specs.Wholes.{IsRefused, IsRun, IsUnread};
-ghost use Rattle.dv_cli.specs.Words.{Prints};
+ghost use Rattle.dv_cli.specs.Starts.{Starts};
+ghost use Rattle.dv_cli.specs.Tasks.{Answers, EndsBy, HasScript};
+ghost use Rattle.dv_cli.specs.Wholes.{IsRebuildRun, IsRefused, IsRun, IsUnread, RunsTask};
+ghost use Rattle.dv_cli.specs.Words.{Prints, task_of};
+ghost use Rattle.dv_cli.specs.declared.ending.End.TheVariants as how;
+ghost use Rattle.dv_cli.specs.declared.words.Task.TheVariants as task;
 
 use crate::ending::{End, conclude};
+use crate::loading::run_load;
 use crate::reading::{ReadEnd, read_script};
-use crate::running::{Outcome, run_folder};
+use crate::rebuilding::run_rebuild;
+use crate::running::{Outcome, run_folder, untouched};
+use crate::words::{Task, task_of};
 use dv_model::{Entry, List};
 use dv_script::{Line, parse};
 use dv_serial::commands_are_servable;
@@ -34,38 +42,12 @@ pub struct Ran<S, C> {
     pub journal: List<Entry>,
 }
 
-/// The words are those of a run: `run` alone.
-fn is_run_word(words: &[String]) -> bool
-    ensures { result ≡ is_run (map string_bytes words.now) }
-{
-    match words {
-        [word] => word.as_str() == "run",
-        _ => false,
-    }
-}
-
-/// The outcome where the folder isn't touched.
-fn untouched<S, C>(alloc: Global, shelf: S, clock: C, end: End) -> Outcome<S, C>
-    ensures end { result.end ≡ end }
-    ensures shelf { result.shelf ≡ shelf }
-    ensures clock { result.clock ≡ clock }
-    ensures journal { result.journal ≡ [] }
-{
-    Outcome {
-        end,
-        shelf,
-        clock,
-        journal: List::new(alloc),
-    }
-}
-
 /// The lines of the script, or how a run without them ends.
 fn script_lines<I: Source>(alloc: Global, script: &mut I) -> Result<List<Line>, End>
     ensures lines { I.tells → ScriptEnds result (parsed (I.left script.old)) }
     ensures servable { IfOk result (λ lines. All (λ line. IsServable line.command) lines) }
     ensures few { IfOk result (λ lines. length lines ≤ 2 ^ 26) }
-    ensures bound { I.tells → (taken : List ℕ)
-        × (I.left script.old ≡ taken ++ I.left script.new) × (length taken ≤ read_limit) }
+    ensures bound { I.tells → TakesFront (I.left script.old) (I.left script.new) }
     ensures later { I.fault_count script.old ≤ I.fault_count script.new }
     ensures cause { IfErr result (λ e.
         IsReadEnd e (I.fault_count script.old) (I.fault_count script.new)) }
@@ -97,7 +79,7 @@ fn run_script<S: Shelf, I: Source, O: Sink, C: Clock, G: Gate>(
         parsed (I.left script.old) ≡ Ok lines →
         IsUnread result.end result.journal (O.taken out.old) (O.taken out.new) shelf result.shelf
         ⊎ RunsOver S.files S.may_leave S.moment S.left_since (C.upcoming clock)
-        (C.upcoming result.clock) (S.fault_count shelf) (S.fault_count result.shelf) lines
+        (C.upcoming result.clock) (S.fault_count shelf) (S.fault_count result.shelf) None lines
         result.end result.journal O.tells (O.taken out.old) (O.taken out.new) shelf result.shelf }
     // One that is refused leaves everything but its source untouched.
     ensures refused { I.tells → (fault : ScriptFault) → parsed (I.left script.old) ≡ Err fault →
@@ -106,12 +88,12 @@ fn run_script<S: Shelf, I: Source, O: Sink, C: Clock, G: Gate>(
     // What the script and the folder hold is told, and each end has its cause.
     ensures script { I.tells → TellsScript (parsed (I.left script.old)) result.end }
     ensures found { S.tells → TellsFaults (S.files shelf) result.end }
+    ensures ends { EndsBy (Some task.Run) result.end }
     ensures cause { HasRunCause
         (counts_of (S.fault_count shelf) (I.fault_count script.old) (O.fault_count out.old))
         (counts_of (S.fault_count result.shelf) (I.fault_count script.new) (O.fault_count out.new))
         result.end }
-    ensures bound { I.tells → (taken : List ℕ)
-        × (I.left script.old ≡ taken ++ I.left script.new) × (length taken ≤ read_limit) }
+    ensures bound { I.tells → TakesFront (I.left script.old) (I.left script.new) }
     // How often the clock is read.
     ensures readings { C.tells → I.tells → (lines : List NamedLine) →
         parsed (I.left script.old) ≡ Ok lines →
@@ -120,14 +102,73 @@ fn run_script<S: Shelf, I: Source, O: Sink, C: Clock, G: Gate>(
         TakesByEnd (C.upcoming clock) (C.upcoming result.clock) result.end }
 {
     match script_lines(alloc, script) {
-        Ok(lines) => run_folder(alloc, lines.as_slice(), shelf, clock, out, gate),
+        Ok(lines) => run_folder(alloc, None, lines.as_slice(), shelf, clock, out, gate),
         Err(end) => untouched(alloc, shelf, clock, end),
     }
 }
 
-/// Serves a mailbox folder to the sessions of a script: opens its mailbox, or makes one, answers
-/// each line, and writes the replies and a last line. `words` are the program's words behind the
-/// folder's name.
+/// Does what the words ask for, but for the last line.
+fn perform<S: Shelf, I: Source, O: Sink, C: Clock, G: Gate>(
+    alloc: Global,
+    words: &[String],
+    shelf: S,
+    script: &mut I,
+    out: &mut O,
+    clock: C,
+    gate: &G,
+) -> Outcome<S, C>
+    // The lines of a script, or generated ones, are answered; a folder is rebuilt.
+    ensures runs { S.tells → C.tells → IsSettled S.files S.may_leave shelf →
+        IsTrueFolder (S.files shelf) → (lines : List NamedLine) →
+        Answers (task_of (map string_bytes words.now)) I.tells (parsed (I.left script.old)) lines →
+        RunsTask S.files S.may_leave S.moment S.left_since (C.upcoming clock)
+        (C.upcoming result.clock) (S.fault_count shelf) (S.fault_count result.shelf)
+        (task_of (map string_bytes words.now)) lines result.end result.journal O.tells
+        (O.taken out.old) (O.taken out.new) shelf result.shelf }
+    ensures rebuilds { task_of (map string_bytes words.now) ≡ Some task.Rebuild → S.tells →
+        C.tells → IsSettled S.files S.may_leave shelf → (out.new ≡ out.old)
+        × RebuildsFolder S.files S.may_leave S.moment S.left_since (C.upcoming clock)
+        (C.upcoming result.clock) result.end result.journal shelf result.shelf }
+    // What is left untouched where they ask for nothing, or the script is refused.
+    ensures usage { task_of (map string_bytes words.now) ≡ None → (out.new ≡ out.old)
+        × (result.end ≡ how.Usage)
+        × IsUntouched shelf result.shelf clock result.clock result.journal }
+    ensures refused { task_of (map string_bytes words.now) ≡ Some task.Run → I.tells →
+        (fault : ScriptFault) → parsed (I.left script.old) ≡ Err fault →
+        EndsRefused fault result.end
+        × IsUntouched shelf result.shelf clock result.clock result.journal
+        × (out.new ≡ out.old) }
+    // What the script and the folder hold is told, and each end has its cause.
+    ensures script { task_of (map string_bytes words.now) ≡ Some task.Run → I.tells →
+        TellsScript (parsed (I.left script.old)) result.end }
+    ensures found { S.tells → TellsFaults (S.files shelf) result.end }
+    ensures cause { EndsBy (task_of (map string_bytes words.now)) result.end × HasRunCause
+        (counts_of (S.fault_count shelf) (I.fault_count script.old) (O.fault_count out.old))
+        (counts_of (S.fault_count result.shelf) (I.fault_count script.new) (O.fault_count out.new))
+        result.end }
+    // What is taken of the script, and how often the clock is read.
+    ensures bound { (I.tells → TakesFront (I.left script.old) (I.left script.new))
+        × ((HasScript (task_of (map string_bytes words.now)) → ⊥) → script.new ≡ script.old) }
+    ensures readings { C.tells → (lines : List NamedLine) →
+        Answers (task_of (map string_bytes words.now)) I.tells (parsed (I.left script.old)) lines →
+        TakesUpTo (most_readings (length lines)) (C.upcoming clock) (C.upcoming result.clock) }
+    ensures unread { C.tells →
+        TakesByEnd (C.upcoming clock) (C.upcoming result.clock) result.end }
+{
+    let Some(task) = task_of(words) else {
+        return untouched(alloc, shelf, clock, End::Usage);
+    };
+    match task {
+        Task::Run => run_script(alloc, shelf, script, out, clock, gate),
+        Task::Rebuild => run_rebuild(alloc, shelf, clock),
+        Task::Generate(load) => run_load(alloc, load, shelf, clock, gate),
+    }
+}
+
+/// Does what the program's words behind the folder's name ask for, and writes a last line. `run`
+/// serves a mailbox folder to the sessions of a script: it opens its mailbox, or makes one, answers
+/// each line, and writes the replies. `gen` does so with a generated script, and writes no reply.
+/// `rebuild` gives a damaged folder a new log.
 pub fn run<S: Shelf + Send, I: Source, O: Sink, C: Clock + Send, G: Gate + Sync>(
     alloc: Global,
     words: &[String],
@@ -137,27 +178,37 @@ pub fn run<S: Shelf + Send, I: Source, O: Sink, C: Clock + Send, G: Gate + Sync>
     clock: C,
     gate: &G,
 ) -> Ran<S, C>
-    // Over a settled folder whose cache file is true. Each reply is the session rules' answer over
-    // a prefix of the one log that was found, or made, and that the journal goes on, line by line.
-    // The bytes written are these replies and a last line. What is left gives that log with its
-    // messages and a true cache, behind the whole journal, or with the group of the last write that
-    // the disk failed; and so does a crash at any moment, behind a front of the journal.
-    ensures runs { is_run (map string_bytes words.now) ≡ true → S.tells → C.tells → I.tells →
-        IsSettled S.files S.may_leave shelf → IsTrueFolder (S.files shelf) →
-        (lines : List NamedLine) → parsed (I.left script.old) ≡ Ok lines →
+    // Over a settled folder whose cache file is true, with the lines of a script or generated ones.
+    // Each reply is the session rules' answer over a prefix of the one log that was found, or made,
+    // and that the journal goes on, line by line. The bytes written are these replies, but to
+    // generated lines, and the last lines. What is left gives that log with its messages and a true
+    // cache, behind the whole journal, or with the group of the last write that the disk failed;
+    // and so does a crash at any moment, behind a front of the journal.
+    ensures runs { S.tells → C.tells → IsSettled S.files S.may_leave shelf →
+        IsTrueFolder (S.files shelf) → (lines : List NamedLine) →
+        Answers (task_of (map string_bytes words.now)) I.tells (parsed (I.left script.old)) lines →
         IsRun S.files S.may_leave S.moment S.left_since (C.upcoming clock) (C.upcoming result.clock)
         (counts_of (S.fault_count shelf) (I.fault_count script.old) (O.fault_count out.old))
         (counts_of (S.fault_count result.shelf) (I.fault_count script.new) (O.fault_count out.new))
-        lines result.status result.journal O.tells (O.taken out.old) (O.taken out.new) shelf
+        (task_of (map string_bytes words.now)) lines result.status result.journal O.tells
+        (O.taken out.old) (O.taken out.new) shelf result.shelf }
+    // A settled folder is rebuilt, or left as it was; so does a crash at any moment.
+    ensures rebuilds { task_of (map string_bytes words.now) ≡ Some task.Rebuild → S.tells →
+        C.tells → IsSettled S.files S.may_leave shelf →
+        IsRebuildRun S.files S.may_leave S.moment S.left_since (C.upcoming clock)
+        (C.upcoming result.clock)
+        (counts_of (S.fault_count shelf) (I.fault_count script.old) (O.fault_count out.old))
+        (counts_of (S.fault_count result.shelf) (I.fault_count script.new) (O.fault_count out.new))
+        result.status result.journal O.tells (O.taken out.old) (O.taken out.new) shelf
         result.shelf }
 
-    // Words that aren't those of a run leave everything untouched, and a script that is refused
-    // leaves folder and clock so; what is written then.
-    ensures usage { is_run (map string_bytes words.now) ≡ false →
+    // Words that ask for nothing leave everything untouched, and a script that is refused leaves
+    // folder and clock so; what is written then.
+    ensures usage { task_of (map string_bytes words.now) ≡ None →
         IsUntouched shelf result.shelf clock result.clock result.journal
-        × (script.new ≡ script.old) × ((result.status ≡ 1) ⊎ (result.status ≡ 7))
+        × ((result.status ≡ 1) ⊎ (result.status ≡ 7))
         × (O.tells → Prints 1 usage_text result.status (O.taken out.old) (O.taken out.new)) }
-    ensures refused { is_run (map string_bytes words.now) ≡ true → I.tells →
+    ensures refused { task_of (map string_bytes words.now) ≡ Some task.Run → I.tells →
         (fault : ScriptFault) → parsed (I.left script.old) ≡ Err fault →
         IsUntouched shelf result.shelf clock result.clock result.journal × IsRefused fault
         (counts_of (S.fault_count shelf) (I.fault_count script.old) (O.fault_count out.old))
@@ -166,19 +217,19 @@ pub fn run<S: Shelf + Send, I: Source, O: Sink, C: Clock + Send, G: Gate + Sync>
 
     // What each status comes from; where a fault is found in the folder it is 3, and else 0, unless
     // memory runs out or something outside fails.
-    ensures causes { HasCauses result.status (is_run (map string_bytes words.now))
+    ensures causes { HasCauses result.status (task_of (map string_bytes words.now))
         (counts_of (S.fault_count shelf) (I.fault_count script.old) (O.fault_count out.old))
         (counts_of (S.fault_count result.shelf) (I.fault_count script.new) (O.fault_count out.new))
         (S.tells → HasFault (S.files shelf))
         (I.tells → (fault : ScriptFault) × (parsed (I.left script.old) ≡ Err fault)) }
-    ensures fault { is_run (map string_bytes words.now) ≡ true → S.tells → I.tells →
-        (lines : List NamedLine) → parsed (I.left script.old) ≡ Ok lines →
+    ensures fault { S.tells → (lines : List NamedLine) →
+        Answers (task_of (map string_bytes words.now)) I.tells (parsed (I.left script.old)) lines →
         HasFault (S.files shelf) → IsOr 3 result.status
         (counts_of (S.fault_count shelf) (I.fault_count script.old) (O.fault_count out.old))
         (counts_of (S.fault_count result.shelf) (I.fault_count script.new)
         (O.fault_count out.new)) }
-    ensures complete { is_run (map string_bytes words.now) ≡ true → S.tells → I.tells →
-        (lines : List NamedLine) → parsed (I.left script.old) ≡ Ok lines →
+    ensures complete { S.tells → (lines : List NamedLine) →
+        Answers (task_of (map string_bytes words.now)) I.tells (parsed (I.left script.old)) lines →
         (start : Log) (used : ℕ) → Starts (C.upcoming clock) (S.files shelf) start used →
         IsOr 0 result.status
         (counts_of (S.fault_count shelf) (I.fault_count script.old) (O.fault_count out.old))
@@ -193,35 +244,24 @@ pub fn run<S: Shelf + Send, I: Source, O: Sink, C: Clock + Send, G: Gate + Sync>
         (counts_of (S.fault_count shelf) (I.fault_count script.old) (O.fault_count out.old))
         (counts_of (S.fault_count result.shelf) (I.fault_count script.new) (O.fault_count out.new))
         → ⊥) → (text : List ℕ) × Appends (O.taken out.old) (O.taken out.new) text
-        × IsOutput (map string_bytes words.now) (I.left script.old) (C.upcoming clock)
-        (S.files shelf) text }
+        × IsOutputOf (task_of (map string_bytes words.now)) (I.left script.old)
+        (C.upcoming clock) (S.files shelf) text }
 
-    // At most one byte more than the longest script is read. The clock is read once at most for a
-    // mailbox that is made, and twice at most for each line; not at all where the words, the script
-    // or the folder are refused, and once at most where the disk fails before the first line.
-    ensures bound { I.tells → (taken : List ℕ)
-        × (I.left script.old ≡ taken ++ I.left script.new) × (length taken ≤ read_limit) }
-    ensures readings { C.tells → I.tells → (lines : List NamedLine) →
-        parsed (I.left script.old) ≡ Ok lines →
-        TakesUpTo (most_readings (length lines)) (C.upcoming clock) (C.upcoming result.clock) }
-    ensures unread { C.tells → TakesByStatus result.status (C.upcoming clock)
-        (C.upcoming result.clock) }
+    // The script is read for `run` alone, and at most one byte more than the longest script is. The
+    // clock is read once at most for a mailbox that is made, and twice at most for each line; not at
+    // all where the words, the script or the folder are refused, and once at most where the disk
+    // fails before the first line.
+    ensures bound { (I.tells → TakesFront (I.left script.old) (I.left script.new))
+        × ((HasScript (task_of (map string_bytes words.now)) → ⊥) → script.new ≡ script.old) }
+    ensures readings { C.tells → IsTimed (task_of (map string_bytes words.now)) I.tells
+        (parsed (I.left script.old)) result.status (C.upcoming clock) (C.upcoming result.clock) }
 {
-    if !is_run_word(words) {
-        let status = conclude(alloc, out, &End::Usage);
-        return Ran {
-            status,
-            shelf,
-            clock,
-            journal: List::new(alloc),
-        };
-    }
     let Outcome {
         end,
         shelf,
         clock,
         journal,
-    } = run_script(alloc, shelf, script, out, clock, gate);
+    } = perform(alloc, words, shelf, script, out, clock, gate);
     let status = conclude(alloc, out, &end);
     Ran {
         status,

@@ -114,6 +114,9 @@ fn the_named_folder_is_made_by_the_real_clock(rt: HostRuntime) -> Result<(), Fai
     Ok(())
 }
 
+const USAGE: &str = "usage: sdbox FOLDER run < SCRIPT\n       sdbox FOLDER rebuild\n       \
+    sdbox FOLDER gen SEED COUNT SESSIONS\n";
+
 #[test]
 fn wrong_words_are_told_on_both_outputs(rt: HostRuntime) -> Result<(), Fail> {
     for words in [
@@ -124,7 +127,7 @@ fn wrong_words_are_told_on_both_outputs(rt: HostRuntime) -> Result<(), Fail> {
         let (status, out, errors) = obeyed(rt, words)?;
         assert_eq!(rt; status, 1);
         assert!(rt; out.taken() == b"FAULT 1 USAGE\n".as_slice());
-        assert!(rt; errors.taken() == b"usage: sdbox FOLDER run < SCRIPT\n".as_slice());
+        assert!(rt; errors.taken() == USAGE.as_bytes());
     }
     Ok(())
 }

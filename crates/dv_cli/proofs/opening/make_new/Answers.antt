@@ -1,6 +1,6 @@
 use Rattle.std.proofs.Common.{Ok, Err}
 use Rattle.dv_chain.specs.declared.chain.Chain.{Chain}
-use Rattle.dv_cli.proofs.FoundTold.{outside_none}
+use Rattle.dv_cli.proofs.Created.{outside_none}
 use Rattle.dv_cli.proofs.Created.{begun_made, has_none, unopened_made}
 use Rattle.dv_cli.proofs.Timed.{read_once}
 use Rattle.dv_cli.proofs.opening.make_new.Goals as goal

@@ -4,10 +4,11 @@ use Rattle.std.specs.Prelude.{Bool}
 use Rattle.dv_chain.specs.declared.chain.Chain.{Chain}
 use Rattle.dv_chain.proofs.Shelves.{cause_then, settled_still}
 use Rattle.dv_store.specs.Opening.{answered, clock_behind, shelf_behind}
-use Rattle.dv_cli.specs.Starts.{IsNew, IsTrueFolder}
+use Rattle.dv_serial.specs.NextRuns.{IsTrueFolder}
+use Rattle.dv_cli.specs.Starts.{IsNew}
 use Rattle.dv_shelf.specs.Folders.{Folder}
 use Rattle.dv_cli.specs.Causes.{TellsOpening}
-use Rattle.dv_cli.proofs.FoundTold.{outside_none}
+use Rattle.dv_cli.proofs.Created.{outside_none}
 use Rattle.dv_cli.proofs.Looked.{begins_behind, cause_told, unlooked}
 use Rattle.dv_cli.proofs.Timed.{unread_opening}
 use Rattle.dv_cli.proofs.opening.open_folder.Goals as goal

@@ -16,7 +16,7 @@ returns-in-Ok-clause-runs g c = λ tells timed settled is_true.
     let O = g.O.Sink in
     let served = c.serve_lines.ensures in
     let behind = c.serve_lines.result in
-    runs_serving S.files S.may_leave S.moment S.left_since (C.upcoming c.args.clock) (C.upcoming behind.clock) (S.fault_count c.args.shelf) (S.fault_count behind.shelf) (all_named c.args.lines.now) behind.journal
+    runs_serving S.files S.may_leave S.moment S.left_since (C.upcoming c.args.clock) (C.upcoming behind.clock) (S.fault_count c.args.shelf) (S.fault_count behind.shelf) c.args.load (all_named c.args.lines.now) behind.journal
     O.tells (O.taken c.args.out.now) (O.taken c.serve_lines.new.out) c.args.shelf behind.shelf behind.end served.ends
     (served.runs tells timed (C.upcoming c.args.clock) c.args.shelf (c.in-Ok.ensures.begins tells timed settled is_true) (S.fault_count c.args.shelf) c.in-Ok.ensures.cause.later)
 

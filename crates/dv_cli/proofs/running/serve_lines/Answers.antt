@@ -8,7 +8,7 @@ returns-in_default-clause-runs g c = λ tells timed clock old begun base later.
     let S = g.S.Shelf in
     let shelf = c.args.store.shelf in
     rw c.unserved.ensures
-    (serves_none S.files S.may_leave S.moment S.left_since g.C.Clock.upcoming clock old c.args.store begun base (S.fault_count shelf) later (all_named c.args.lines.now) g.O.Sink.tells (g.O.Sink.taken c.args.out.now)
+    (serves_none S.files S.may_leave S.moment S.left_since g.C.Clock.upcoming clock old c.args.store begun base c.args.load (S.fault_count shelf) later (all_named c.args.lines.now) g.O.Sink.tells (g.O.Sink.taken c.args.out.now)
     (g.met.S.Shelf.leaves_files shelf tells))
 
 pub returns-in_default-new_seats-clause-runs : goal.returns-in_default-new_seats-clause-runs
@@ -16,7 +16,7 @@ returns-in_default-new_seats-clause-runs g c = λ tells timed clock old begun ba
     let S = g.S.Shelf in
     let shelf = c.args.store.shelf in
     rw c.unserved-in_default-new_seats.ensures
-    (serves_none S.files S.may_leave S.moment S.left_since g.C.Clock.upcoming clock old c.args.store begun base (S.fault_count shelf) later (all_named c.args.lines.now) g.O.Sink.tells (g.O.Sink.taken c.args.out.now)
+    (serves_none S.files S.may_leave S.moment S.left_since g.C.Clock.upcoming clock old c.args.store begun base c.args.load (S.fault_count shelf) later (all_named c.args.lines.now) g.O.Sink.tells (g.O.Sink.taken c.args.out.now)
     (g.met.S.Shelf.leaves_files shelf tells))
 
 pub returns-clause-runs : goal.returns-clause-runs
@@ -25,7 +25,8 @@ returns-clause-runs g c = λ tells timed clock old begun base later.
     let O = g.O.Sink in
     let served = c.serve_lines-served in
     let new = c.serve_lines-served.new.self in
-    rw (c.end_behind-end.ensures, c.mark.ensures, c.count.ensures, c.parts-shelf.ensures)
-    (serves_all S.files S.may_leave S.moment S.left_since g.C.Clock.upcoming clock old c.args.store begun base S.fault_count later (S.fault_count new.store.shelf) (all_named c.args.lines.now) O.tells (O.taken c.args.out.now)
+    rw (c.end_behind-end.ensures, c.loaded_by-loaded.ensures, c.mark.ensures, c.count.ensures, c.parts-shelf.ensures)
+    (serves_all S.files S.may_leave S.moment S.left_since g.C.Clock.upcoming clock old c.args.store begun base c.args.load S.fault_count later (S.fault_count new.store.shelf) (all_named c.args.lines.now) O.tells (O.taken c.args.out.now)
     (O.taken served.new.out) c.in-Ok.field-0.sessions c.in-Ok-new_seats.seats served.result c.new-serial.result new c.in-Ok-new_seats.ensures c.new-serial.ensures
-    (λ follows. served.ensures.runs tells timed (behind clock begun.used) begun.start base follows) (g.met.S.Shelf.leaves_files new.store.shelf tells))
+    (λ follows. served.ensures.runs tells timed (behind clock begun.used) begun.start base follows) (g.met.S.Shelf.leaves_files new.store.shelf tells)
+    (λ attempts keeps. c.next_runs_begin.ensures tells (behind clock begun.used) begun.start attempts keeps))

@@ -1,69 +1,104 @@
-use Rattle.std.proofs.Common.{◌≡◌, ◌∙◌, ap, sym, subst, true, List, ℕ, map}
-use Rattle.std.specs.Prelude.{string_bytes}
+use Rattle.std.proofs.Common.{◌≡◌, inl, inr, ap, sym, subst, refl, List, ℕ, map}
+use Rattle.std.specs.Prelude.{Option, string_bytes}
 use Rattle.dv_model.specs.Counts.{Rose}
 use Rattle.dv_formats.specs.Parsing.{parsed}
 use Rattle.dv_formats.specs.Scripts.{NamedLine}
+use Rattle.dv_cli.specs.declared.ending.End.{End}
+use Rattle.dv_cli.specs.declared.ending.End.TheVariants as end
+use Rattle.dv_cli.specs.declared.words.Task.{Task}
 use Rattle.dv_cli.specs.Causes.{ComesFrom, Counts, counts_of}
-use Rattle.dv_cli.specs.Endings.{Concludes}
-use Rattle.dv_cli.specs.Running.{is_run}
+use Rattle.dv_cli.specs.Endings.{Concludes, IsStatus}
+use Rattle.dv_cli.specs.Outputs.{IsOutputOver}
+use Rattle.dv_cli.specs.Running.{usage_text}
+use Rattle.dv_cli.specs.Tasks.{Answers, Opens, generated_by, load_in}
+use Rattle.dv_cli.specs.Words.{task_of}
 use Rattle.dv_cli.proofs.Statuses.{causes_of, comes_later, sink_cause}
 use Rattle.dv_cli.proofs.Takes.{status_takes}
-use Rattle.dv_cli.proofs.WholeRuns.{WellOr, ends_well, fault_is_told, lines_output, refused_output, script_output, start_is_served, words_output}
+use Rattle.dv_cli.proofs.WholeRuns.{WellOr, Writes, ends_well, fault_is_told, lines_output, rebuilt_output, refused_output, script_output, start_is_served, task_output, told_plainly}
+use Rattle.dv_cli.proofs.WrongWords.{usage_prints, usage_status}
 use Rattle.dv_cli.proofs.top_call.run.Given as given
 use Rattle.dv_cli.proofs.top_call.run.Goals as goal
 
 -- ---- behind the last line
 
-module _ (g : given.Over) (c : goal.After-conclude-status-2 g) where
+module _ (g : given.Over) (c : goal.After-conclude-status g) where
+  abbrev t : Option Task
+  t = task_of (map string_bytes c.args.words.now)
+
   abbrev before : Counts
   before = counts_of (g.S.Shelf.fault_count c.args.shelf) (g.I.Source.fault_count c.args.script.now) (g.O.Sink.fault_count c.args.out.now)
 
   abbrev now : Counts
-  now = counts_of (g.S.Shelf.fault_count c.run_script-end.result.shelf) (g.I.Source.fault_count c.run_script-end.new.script) (g.O.Sink.fault_count c.conclude-status-2.new.out)
+  now = counts_of (g.S.Shelf.fault_count c.perform-end.result.shelf) (g.I.Source.fault_count c.perform-end.new.script) (g.O.Sink.fault_count c.conclude-status.new.out)
 
-  comes : ComesFrom before now c.run_script-end.result.end
+  comes : ComesFrom before now c.perform-end.result.end
   comes =
-      comes_later before _ _ (g.O.Sink.fault_count c.run_script-end.new.out) _ c.run_script-end.result.end
-      c.conclude-status-2.ensures.later c.run_script-end.ensures.cause.cause
+      comes_later before _ _ (g.O.Sink.fault_count c.perform-end.new.out) _ c.perform-end.result.end
+      c.conclude-status.ensures.later c.perform-end.ensures.cause.1.cause
 
-  sinks : c.conclude-status-2.result ≡ 7 → Rose before.output now.output
+  sinks : c.conclude-status.result ≡ 7 → Rose before.output now.output
   sinks seven =
       sink_cause before
-      (counts_of (g.S.Shelf.fault_count c.run_script-end.result.shelf) (g.I.Source.fault_count c.run_script-end.new.script) (g.O.Sink.fault_count c.run_script-end.new.out))
-      now.output c.run_script-end.result.end c.run_script-end.ensures.cause.cause c.run_script-end.ensures.cause.later.2
-      c.conclude-status-2.ensures.later (c.conclude-status-2.ensures.cause seven)
+      (counts_of (g.S.Shelf.fault_count c.perform-end.result.shelf) (g.I.Source.fault_count c.perform-end.new.script) (g.O.Sink.fault_count c.perform-end.new.out))
+      now.output c.perform-end.result.end c.perform-end.ensures.cause.1.cause c.perform-end.ensures.cause.1.later.2
+      c.conclude-status.ensures.later (c.conclude-status.ensures.cause seven)
 
-  well : g.I.Source.tells → (lines : List NamedLine)
-      → parsed (g.I.Source.left c.args.script.now) ≡ Rattle.std.proofs.Common.Ok lines
-      → WellOr c.conclude-status-2.result c.run_script-end.result.end before now
-  well script_tells lines is =
-      ends_well c.conclude-status-2.result before now (parsed (g.I.Source.left c.args.script.now)) lines
-      c.run_script-end.result.end is (c.run_script-end.ensures.script script_tells) comes c.conclude-status-2.ensures.status sinks
+  well : (lines : List NamedLine) → Answers t g.I.Source.tells (parsed (g.I.Source.left c.args.script.now)) lines
+      → WellOr c.conclude-status.result c.perform-end.result.end before now
+  well lines answers =
+      ends_well c.conclude-status.result before now t g.I.Source.tells (parsed (g.I.Source.left c.args.script.now)) lines
+      c.perform-end.result.end answers c.perform-end.ensures.cause.0 c.perform-end.ensures.script comes c.conclude-status.ensures.status sinks
 
 -- ---- what is answered, written and left
 
 pub returns-clause-runs : goal.returns-clause-runs
-returns-clause-runs g c = λ good tells clock_tells script_tells settled true_folder lines is. record {
-  how = c.run_script-end.result.end;
-  between = g.O.Sink.taken c.run_script-end.new.out;
-  runs = c.run_script-end.ensures.runs tells clock_tells script_tells settled true_folder lines is;
+returns-clause-runs g c = λ tells clock_tells settled true_folder lines answers. record {
+  how = c.perform-end.result.end;
+  between = g.O.Sink.taken c.perform-end.new.out;
+  runs = c.perform-end.ensures.runs tells clock_tells settled true_folder lines answers;
   cause = comes g c;
-  ended = c.conclude-status-2.ensures.status;
-  concludes = λ told. c.conclude-status-2.ensures.text told;
+  ended = c.conclude-status.ensures.status;
+  concludes = λ told. c.conclude-status.ensures.text told;
 }
 
+pub returns-clause-rebuilds : goal.returns-clause-rebuilds
+returns-clause-rebuilds g c = λ is tells clock_tells settled.
+    let rebuilds = c.perform-end.ensures.rebuilds is tells clock_tells settled in record {
+      how = c.perform-end.result.end;
+      rebuilds = rebuilds.1;
+      cause = comes g c;
+      ended = c.conclude-status.ensures.status;
+      concludes = λ told.
+          subst (λ (taken : List ℕ). Concludes c.perform-end.result.end c.conclude-status.result taken (g.O.Sink.taken c.conclude-status.new.out))
+          (ap g.O.Sink.taken rebuilds.0) (c.conclude-status.ensures.text told);
+    }
+
+pub returns-clause-usage : goal.returns-clause-usage
+returns-clause-usage g c = λ none.
+    let usage = c.perform-end.ensures.usage none in
+    let e = c.perform-end.result.end in
+    let status = c.conclude-status.result in
+    let new = g.O.Sink.taken c.conclude-status.new.out in (
+      usage.2,
+      usage_status status (subst (λ (x : End). IsStatus x status) usage.1 c.conclude-status.ensures.status),
+      λ told.
+          usage_prints status (g.O.Sink.taken c.args.out.now) new
+          (subst (λ (x : End). Concludes x status (g.O.Sink.taken c.args.out.now) new) usage.1
+          (subst (λ (taken : List ℕ). Concludes e status taken new) (ap g.O.Sink.taken usage.0) (c.conclude-status.ensures.text told))),
+    )
+
 pub returns-clause-refused : goal.returns-clause-refused
-returns-clause-refused g c = λ good script_tells fault bad.
-    let refused = c.run_script-end.ensures.refused script_tells fault bad in (
-      refused.0,
+returns-clause-refused g c = λ run script_tells fault bad.
+    let refused = c.perform-end.ensures.refused run script_tells fault bad in (
+      refused.1,
       record {
-        how = c.run_script-end.result.end;
-        ends = refused.1;
+        how = c.perform-end.result.end;
+        ends = refused.0;
         cause = comes g c;
-        ended = c.conclude-status-2.ensures.status;
+        ended = c.conclude-status.ensures.status;
         concludes = λ told.
-            subst (λ (taken : List ℕ). Concludes c.run_script-end.result.end c.conclude-status-2.result taken (g.O.Sink.taken c.conclude-status-2.new.out))
-            (ap g.O.Sink.taken refused.2) (c.conclude-status-2.ensures.text told);
+            subst (λ (taken : List ℕ). Concludes c.perform-end.result.end c.conclude-status.result taken (g.O.Sink.taken c.conclude-status.new.out))
+            (ap g.O.Sink.taken refused.2) (c.conclude-status.ensures.text told);
       },
     )
 
@@ -71,53 +106,104 @@ returns-clause-refused g c = λ good script_tells fault bad.
 
 pub returns-clause-causes : goal.returns-clause-causes
 returns-clause-causes g c =
-    causes_of c.conclude-status-2.result (is_run (map string_bytes c.args.words.now)) (before g c) (now g c)
+    causes_of c.conclude-status.result (t g c) (before g c) (now g c)
     (g.S.Shelf.files c.args.shelf) (parsed (g.I.Source.left c.args.script.now)) g.S.Shelf.tells g.I.Source.tells
-    c.run_script-end.result.end c.conclude-status-2.ensures.status (comes g c) (sinks g c)
-    (λ tells. c.run_script-end.ensures.found tells) (λ tells. c.run_script-end.ensures.script tells)
+    c.perform-end.result.end c.conclude-status.ensures.status c.perform-end.ensures.cause.0 (comes g c) (sinks g c)
+    c.perform-end.ensures.found c.perform-end.ensures.script
 
 pub returns-clause-fault : goal.returns-clause-fault
-returns-clause-fault g c = λ good tells script_tells lines is has.
-    fault_is_told c.conclude-status-2.result (before g c) (now g c) (g.S.Shelf.files c.args.shelf)
-    c.run_script-end.result.end (c.run_script-end.ensures.found tells) has (well g c script_tells lines is)
+returns-clause-fault g c = λ tells lines answers has.
+    fault_is_told c.conclude-status.result (before g c) (now g c) (g.S.Shelf.files c.args.shelf)
+    c.perform-end.result.end (c.perform-end.ensures.found tells) has (well g c lines answers)
 
 pub returns-clause-complete : goal.returns-clause-complete
-returns-clause-complete g c = λ good tells script_tells lines is start used starts.
-    start_is_served c.conclude-status-2.result (before g c) (now g c) (g.C.Clock.upcoming c.args.clock) (g.S.Shelf.files c.args.shelf)
-    start used c.run_script-end.result.end (c.run_script-end.ensures.found tells) starts (well g c script_tells lines is)
+returns-clause-complete g c = λ tells lines answers start used starts.
+    start_is_served c.conclude-status.result (before g c) (now g c) (g.C.Clock.upcoming c.args.clock) (g.S.Shelf.files c.args.shelf)
+    start used c.perform-end.result.end (c.perform-end.ensures.found tells) starts (well g c lines answers)
 
-pub returns-clause-unread : goal.returns-clause-unread
-returns-clause-unread g c = λ clock_tells.
-    status_takes _ _ c.conclude-status-2.result c.run_script-end.result.end c.conclude-status-2.ensures.status
-    (c.run_script-end.ensures.unread clock_tells)
+pub returns-clause-readings : goal.returns-clause-readings
+returns-clause-readings g c = λ clock_tells. record {
+  lines = c.perform-end.ensures.readings clock_tells;
+  statuses =
+      status_takes _ _ c.conclude-status.result c.perform-end.result.end c.conclude-status.ensures.status
+      (c.perform-end.ensures.unread clock_tells);
+}
 
 -- ---- what it is a function of
 
+module _ (g : given.Over) (c : goal.After-conclude-status g) (out_tells : g.O.Sink.tells) (not-four : c.conclude-status.result ≡ 4 → ⊥)
+    (still : Rattle.dv_cli.specs.Causes.AnyRose (before g c) (now g c) → ⊥) where
+  abbrev e : End
+  e = c.perform-end.result.end
+
+  abbrev status : ℕ
+  status = c.conclude-status.result
+
+  abbrev old : List ℕ
+  old = g.O.Sink.taken c.args.out.now
+
+  abbrev mid : List ℕ
+  mid = g.O.Sink.taken c.perform-end.new.out
+
+  abbrev new : List ℕ
+  new = g.O.Sink.taken c.conclude-status.new.out
+
+  not-seven : status ≡ 7 → ⊥
+  not-seven seven = still (inr (inr (sinks g c seven)))
+
+  last : Concludes e status mid new
+  last = c.conclude-status.ensures.text out_tells
+
+  -- nothing was written before it
+  only : c.perform-end.new.out ≡ c.args.out.now → Concludes e status old new
+  only same = subst (λ (taken : List ℕ). Concludes e status taken new) (ap g.O.Sink.taken same) last
+
+  lines_told : g.S.Shelf.tells → g.C.Clock.tells
+      → Rattle.dv_shelf.specs.Crashes.IsSettled g.S.Shelf.files g.S.Shelf.may_leave c.args.shelf
+      → Rattle.dv_serial.specs.NextRuns.IsTrueFolder (g.S.Shelf.files c.args.shelf) → (lines : List NamedLine)
+      → Answers (t g c) g.I.Source.tells (parsed (g.I.Source.left c.args.script.now)) lines → Opens (t g c)
+      → Writes old new (IsOutputOver (load_in (t g c)) lines (g.C.Clock.upcoming c.args.clock) (g.S.Shelf.files c.args.shelf))
+  lines_told tells clock_tells settled true_folder lines answers opens =
+      let S = g.S.Shelf in
+      let runs = c.perform-end.ensures.runs tells clock_tells settled true_folder lines answers in
+      lines_output S.files S.may_leave S.moment S.left_since (g.C.Clock.upcoming c.args.clock) (g.C.Clock.upcoming c.perform-end.result.clock)
+      (S.fault_count c.args.shelf) (S.fault_count c.perform-end.result.shelf) (t g c) lines c.perform-end.result.journal g.O.Sink.tells old mid new
+      c.args.shelf c.perform-end.result.shelf (λ rose. still (inl rose)) out_tells opens runs.silent
+      e status (before g c) (now g c) (well g c lines answers) still not-four not-seven last runs.runs
+
 pub returns-clause-output : goal.returns-clause-output
-returns-clause-output g c = λ tells clock_tells script_tells out_tells settled true_folder not_four still.
+returns-clause-output g c = λ tells clock_tells script_tells out_tells settled true_folder not-four still.
     let S = g.S.Shelf in
-    let O = g.O.Sink in
-    let words = map string_bytes c.args.words.now in
     let read = parsed (g.I.Source.left c.args.script.now) in
     let clock = g.C.Clock.upcoming c.args.clock in
     let folder = S.files c.args.shelf in
-    let e = c.run_script-end.result.end in
-    let status = c.conclude-status-2.result in
-    let old = O.taken c.args.out.now in
-    let mid = O.taken c.run_script-end.new.out in
-    let new = O.taken c.conclude-status-2.new.out in
-    let not_seven : status ≡ 7 → ⊥ = λ seven. still (Rattle.std.proofs.Common.inr (Rattle.std.proofs.Common.inr (sinks g c seven))) in
-    let good : is_run words ≡ true = sym c.is_run_word.ensures ∙ c.if-not-is_run_word.false in
-    words_output words read clock folder old new good
-    (script_output read clock folder old new
+    let old = old g c out_tells not-four still in
+    let new = new g c out_tells not-four still in
+    task_output (t g c) (g.I.Source.left c.args.script.now) clock folder old new
+    (λ none.
+    let usage = c.perform-end.ensures.usage none in (
+      usage_text,
+      (told_plainly end.Usage c.conclude-status.result old new (subst (λ (x : End). Concludes x c.conclude-status.result old new) usage.1 (only g c out_tells not-four still usage.0)) not-four (not-seven g c out_tells not-four still)).1,
+      refl,
+    ))
+    (λ run.
+    script_output read clock folder old new
     (λ lines is.
-    lines_output S.files S.may_leave S.moment S.left_since clock (g.C.Clock.upcoming c.run_script-end.result.clock)
-    (S.fault_count c.args.shelf) (S.fault_count c.run_script-end.result.shelf) lines c.run_script-end.result.journal O.tells old mid new
-    c.args.shelf c.run_script-end.result.shelf (λ rose. still (Rattle.std.proofs.Common.inl rose)) out_tells
-    e status (before g c) (now g c) (well g c script_tells lines is) still not_four not_seven
-    (c.conclude-status-2.ensures.text out_tells)
-    (c.run_script-end.ensures.runs tells clock_tells script_tells settled true_folder lines is))
+    subst (λ (x : Option Task). Writes old new (IsOutputOver (load_in x) lines clock folder)) run
+    (lines_told g c out_tells not-four still tells clock_tells settled true_folder lines
+    (subst (λ (x : Option Task). Answers x g.I.Source.tells read lines) (sym run) (script_tells, is))
+    (subst Opens (sym run) tt)))
     (λ fault bad.
-    let refused = c.run_script-end.ensures.refused script_tells fault bad in
-    refused_output fault (before g c) (now g c) status e clock folder old new refused.1 (comes g c) not_four not_seven still
-    (subst (λ (taken : List ℕ). Concludes e status taken new) (ap O.taken refused.2) (c.conclude-status-2.ensures.text out_tells))))
+    let refused = c.perform-end.ensures.refused run script_tells fault bad in
+    refused_output fault (before g c) (now g c) c.conclude-status.result c.perform-end.result.end clock folder old new refused.0 (comes g c) not-four
+    (not-seven g c out_tells not-four still) still (only g c out_tells not-four still refused.2)))
+    (λ is.
+    let rebuilds = c.perform-end.ensures.rebuilds is tells clock_tells settled in
+    rebuilt_output S.files S.may_leave S.moment S.left_since clock (g.C.Clock.upcoming c.perform-end.result.clock) c.perform-end.result.end c.perform-end.result.journal
+    c.args.shelf c.perform-end.result.shelf c.conclude-status.result (before g c) (now g c) old new rebuilds.1 (comes g c) still not-four (not-seven g c out_tells not-four still)
+    (only g c out_tells not-four still rebuilds.0))
+    (λ load is.
+    subst (λ (x : Option Task). Writes old new (IsOutputOver (load_in x) (generated_by load) clock folder)) is
+    (lines_told g c out_tells not-four still tells clock_tells settled true_folder (generated_by load)
+    (subst (λ (x : Option Task). Answers x g.I.Source.tells read (generated_by load)) (sym is) refl)
+    (subst Opens (sym is) tt)))

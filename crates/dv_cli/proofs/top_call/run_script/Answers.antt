@@ -2,12 +2,14 @@ use Rattle.std.proofs.Common.{◌≡◌, ◌∙◌, ap, sym, subst, refl, inl, i
 use Rattle.dv_formats.specs.Parsing.{parsed}
 use Rattle.dv_formats.specs.Scripts.{NamedLine}
 use Rattle.dv_script.specs.Sources.{all_named, named}
+use Rattle.std.specs.Prelude.{None, Some}
 use Rattle.std.proofs.lemmas.List.{length-map}
 use Rattle.dv_serial.specs.Serves.{TakesUpTo}
 use Rattle.dv_cli.specs.Causes.{most_readings}
+use Rattle.dv_cli.specs.declared.words.Task.TheVariants as task
 use Rattle.dv_cli.specs.Runs.{RunsOver}
 use Rattle.dv_cli.proofs.Parsed.{same_lines}
-use Rattle.dv_cli.proofs.Reached.{folder_comes, folder_script, folder_takes, not_refused, read_comes, read_faults, read_script, read_takes_none, reads_refused, reads_well}
+use Rattle.dv_cli.proofs.Reached.{folder_comes, folder_ends, folder_script, folder_takes, not_refused, read_comes, read_ends, read_faults, read_script, read_takes_none, reads_refused, reads_well}
 use Rattle.dv_cli.proofs.Takes.{run_takes, takes_none}
 use Rattle.dv_cli.proofs.top_call.run_script.Goals as goal
 
@@ -22,7 +24,7 @@ returns-in-Ok-clause-runs g c = λ tells clock_tells script_tells settled true_f
     let same : all_named c.as_slice.result.now ≡ lines =
     ap all_named c.as_slice.ensures ∙ same_lines (parsed (g.I.Source.left c.args.script.now)) _ lines (c.in-Ok.ensures.lines script_tells) is in
     inr (subst (λ (ls : List NamedLine). RunsOver S.files S.may_leave S.moment S.left_since
-    (C.upcoming c.args.clock) (C.upcoming o.clock) (S.fault_count c.args.shelf) (S.fault_count o.shelf) ls o.end o.journal O.tells (O.taken c.args.out.now)
+    (C.upcoming c.args.clock) (C.upcoming o.clock) (S.fault_count c.args.shelf) (S.fault_count o.shelf) None ls o.end o.journal O.tells (O.taken c.args.out.now)
     (O.taken c.run_folder.new.out) c.args.shelf o.shelf) same (c.run_folder.ensures.runs tells clock_tells settled true_folder))
 
 pub returns-in-Ok-clause-refused : goal.returns-in-Ok-clause-refused
@@ -40,6 +42,10 @@ returns-in-Ok-clause-cause g c =
       later = (later.0, c.in-Ok.ensures.later, later.1);
       cause = folder_comes _ _ _ _ _ _ c.run_folder.result.end c.run_folder.ensures.cause.cause;
     }
+
+pub returns-in-Ok-clause-ends : goal.returns-in-Ok-clause-ends
+returns-in-Ok-clause-ends g c =
+    folder_ends (Some task.Run) _ _ _ _ c.run_folder.result.end tt refl (λ rose. refl) c.run_folder.ensures.cause.cause
 
 pub returns-in-Ok-clause-readings : goal.returns-in-Ok-clause-readings
 returns-in-Ok-clause-readings g c = λ clock_tells script_tells lines is.
@@ -83,6 +89,9 @@ returns-in-Err-clause-cause g c =
       later = (omega arith, c.in-Err.ensures.later, omega arith);
       cause = read_comes _ _ _ _ c.in-Err.end c.in-Err.ensures.cause;
     })
+
+pub returns-in-Err-clause-ends : goal.returns-in-Err-clause-ends
+returns-in-Err-clause-ends g c = rw c.untouched.ensures.end (read_ends _ _ c.in-Err.end c.in-Err.ensures.cause)
 
 pub returns-in-Err-clause-readings : goal.returns-in-Err-clause-readings
 returns-in-Err-clause-readings g c = λ clock_tells script_tells lines is.

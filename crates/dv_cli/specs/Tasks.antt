@@ -1,0 +1,56 @@
+-- Which lines a task answers, and which ends it may come to.
+use Rattle.std.specs.Prelude.{◌≡◌, List, Option, Some, None, IsSome, Result, Ok, ⊤}
+use Rattle.dv_formats.specs.Generators.{generated}
+use Rattle.dv_formats.specs.Parsing.{ScriptFault}
+use Rattle.dv_formats.specs.Scripts.{NamedLine}
+use Rattle.dv_cli.specs.declared.words.Load.{Load}
+use Rattle.dv_cli.specs.declared.words.Task.{Task}
+use Rattle.dv_cli.specs.declared.words.Task.TheVariants as task
+use Rattle.dv_cli.specs.declared.ending.End.{End}
+use Rattle.dv_cli.specs.declared.ending.End.TheVariants as end
+use Rattle.dv_cli.specs.Endings.{IsFault}
+
+-- the lines of a load
+abbrev pub generated_by : Load → List NamedLine
+generated_by load = generated load.seed load.count load.sessions
+
+-- The lines that a task answers: those of a good script, which the source has to tell, or generated
+-- ones.
+abbrev pub Answers : Option Task → Type 0 → Result (List NamedLine) ScriptFault → List NamedLine
+    → Type 0
+Answers (Some task.Run) told read lines = told × (read ≡ Ok lines)
+Answers (Some (task.Generate load)) told read lines = lines ≡ generated_by load
+Answers other told read lines = ⊥
+
+-- the load that a task generates
+abbrev pub load_in : Option Task → Option Load
+load_in (Some (task.Generate load)) = Some load
+load_in other = None
+
+-- a script is read, and its replies are written
+abbrev pub HasScript : Option Task → Type 0
+HasScript (Some task.Run) = ⊤
+HasScript other = ⊥
+
+-- what an output that tells has of the replies: those to a script
+abbrev pub RepliesTold : Option Task → Type 0 → Type 0
+RepliesTold (Some task.Run) told = told
+RepliesTold other told = ⊥
+
+-- a mailbox is opened or made where lines are answered
+abbrev pub Opens : Option Task → Type 0
+Opens (Some task.Run) = ⊤
+Opens (Some (task.Generate load)) = ⊤
+Opens other = ⊥
+
+-- Each end is of its tasks: the words ask for nothing only where there is none, a rebuild finds no
+-- fault in its folder, and only a script that is read may be refused or its replies not written.
+abbrev pub EndsBy : Option Task → End → Type 0
+EndsBy t (end.Answered mark groups loaded) = Opens t
+EndsBy t (end.Rebuilt kept skipped) = t ≡ Some task.Rebuild
+EndsBy t end.Usage = t ≡ None
+EndsBy t (end.Unopened f) = IsSome t × (IsFault f → Opens t)
+EndsBy t end.NoMemory = IsSome t
+EndsBy t (end.Script fault) = t ≡ Some task.Run
+EndsBy t (end.Source faults) = t ≡ Some task.Run
+EndsBy t end.Sink = t ≡ Some task.Run

@@ -1,0 +1,98 @@
+//! What the program's words behind the folder's ask for.
+
+ghost use Rattle.std.specs.Prelude.{◌≡◌, ◌+◌, ◌^◌, ◌<◌, ◌≤◌, IfSome, map, string_bytes};
+ghost use Rattle.dv_formats.specs.Parsing.{number_of};
+ghost use Rattle.dv_cli.specs.Words.{IsLoad, IsTask, load_of, task_of};
+
+use dv_commands::read_decimal;
+
+/// The most commands that are generated, not counting a SELECT of each session.
+const MOST_COMMANDS: u32 = 1_000_000;
+
+/// The most sessions of a script.
+const MOST_SESSIONS: u32 = 64;
+
+/// A load that is generated: from its seed, so many commands of so many sessions.
+#[derive(Clone, Copy, PartialEq, Eq, Debug)]
+pub struct Load {
+    pub seed: u64,
+    pub count: u32,
+    pub sessions: u32,
+}
+
+/// What the words behind the folder's ask for.
+#[derive(Clone, Copy, PartialEq, Eq, Debug)]
+pub enum Task {
+    /// The script is answered over the folder.
+    Run,
+    /// A damaged folder, or one that another server made, gets a new log.
+    Rebuild,
+    /// A generated script is answered over the folder, and no reply is written.
+    Generate(Load),
+}
+
+/// A number of 64 bits is one.
+fn is_wide(n: u64)
+    ensures { n < 2 ^ 64 }
+{}
+
+/// The number of a word below 2^64, in decimal digits and without leading zeros.
+fn seed_in(word: &[u8]) -> Option<u64>
+    ensures { result ≡ number_of (2 ^ 64) word.now }
+{
+    let Some(n) = read_decimal(word) else {
+        return None;
+    };
+    is_wide(n);
+    Some(n)
+}
+
+/// The number of a word, so large at most.
+fn number_up_to(most: u32, word: &[u8]) -> Option<u32>
+    ensures is { result ≡ number_of (1 + most) word.now }
+    ensures small { IfSome result (λ n. n ≤ most) }
+{
+    let Some(n) = read_decimal(word) else {
+        return None;
+    };
+    is_wide(n);
+    if n <= u64::from(most) {
+        Some(n as u32)
+    } else {
+        None
+    }
+}
+
+/// The load that three words name.
+fn load_of(seed: &[u8], count: &[u8], sessions: &[u8]) -> Option<Load>
+    ensures is { result ≡ load_of seed.now count.now sessions.now }
+    ensures some { IfSome result IsLoad }
+{
+    let seed = seed_in(seed)?;
+    let count = number_up_to(MOST_COMMANDS, count)?;
+    let sessions = number_up_to(MOST_SESSIONS, sessions)?;
+    if sessions == 0 {
+        return None;
+    }
+    Some(Load {
+        seed,
+        count,
+        sessions,
+    })
+}
+
+/// What the words behind the folder's ask for, or nothing.
+pub fn task_of(words: &[String]) -> Option<Task>
+    ensures is { result ≡ task_of (map string_bytes words.now) }
+    ensures some { IfSome result IsTask }
+{
+    match words {
+        [word] if word.as_str() == "run" => Some(Task::Run),
+        [word] if word.as_str() == "rebuild" => Some(Task::Rebuild),
+        [word, seed, count, sessions] if word.as_str() == "gen" => {
+            let load = load_of(seed.as_bytes(), count.as_bytes(), sessions.as_bytes())?;
+            Some(Task::Generate(load))
+        }
+        _ => None,
+    }
+}
