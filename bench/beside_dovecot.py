@@ -23,12 +23,12 @@ import sys
 import tempfile
 import time
 
+import dovecot
+
 APPENDS = 1_000
 STORES = 10_000
 TURNS = 5
 MESSAGE = b"Subject: x\r\n\r\nhello\r\n"
-IMAP = "/usr/lib/dovecot/imap"
-USER = 1234
 
 
 def append(session=b"a"):
@@ -64,63 +64,11 @@ def ours(program, directory):
         shutil.rmtree(place)
 
 
-class Imap:
-    """Dovecot's imap program by itself, with a client that waits for each answer."""
-
-    def __init__(self, directory):
-        self.place = tempfile.mkdtemp(prefix="dovecot.", dir=directory)
-        conf = os.path.join(self.place, "conf")
-        with open(conf, "w", encoding="ascii") as text:
-            text.write(
-                f"base_dir = {self.place}/run\nstate_dir = {self.place}/state\n"
-                f"log_path = {self.place}/log\nmail_location = sdbox:{self.place}/mail\n"
-                "mail_fsync = always\nfirst_valid_uid = 1\nfirst_valid_gid = 1\n"
-                f"mail_uid = {USER}\nmail_gid = {USER}\nssl = no\nstats_writer_socket_path =\n"
-            )
-        os.makedirs(self.place + "/run")
-        subprocess.run(["chown", "-R", f"{USER}:{USER}", self.place], check=True)
-        self.process = subprocess.Popen(
-            [IMAP, "-c", conf],
-            stdin=subprocess.PIPE,
-            stdout=subprocess.PIPE,
-            stderr=subprocess.DEVNULL,
-            env={"HOME": self.place, "USER": "root", "PATH": os.environ["PATH"]},
-            bufsize=0,
-            user=USER,
-            group=USER,
-            extra_groups=[],
-        )
-        self.answers = b""
-        self.line()
-        self.command(b"s SELECT INBOX\r\n")
-
-    def line(self):
-        while b"\r\n" not in self.answers:
-            more = os.read(self.process.stdout.fileno(), 65536)
-            if not more:
-                sys.exit("Dovecot's imap ended")
-            self.answers += more
-        line, self.answers = self.answers.split(b"\r\n", 1)
-        return line
-
-    def command(self, text):
-        os.write(self.process.stdin.fileno(), text)
-        while True:
-            line = self.line()
-            if line.startswith(text[:2]):
-                if b" OK" not in line:
-                    sys.exit(line.decode())
-                return
-
-    def end(self):
-        os.write(self.process.stdin.fileno(), b"l LOGOUT\r\n")
-        self.process.wait()
-        shutil.rmtree(self.place)
-
-
 def theirs(directory):
     """The seconds of Dovecot's appends and stores."""
-    imap = Imap(directory)
+    place = dovecot.Place(directory)
+    imap = dovecot.Imap(place)
+    imap.command(b"s SELECT INBOX\r\n")
     before = time.perf_counter()
     for _ in range(APPENDS):
         imap.command(b"a APPEND INBOX () {%d+}\r\n%s\r\n" % (len(MESSAGE), MESSAGE))
@@ -131,11 +79,12 @@ def theirs(directory):
         imap.command(b"b STORE %d %sFLAGS (\\Seen)\r\n" % (i % APPENDS + 1, sign))
     stores = time.perf_counter() - before
     imap.end()
+    place.remove()
     return appends, stores
 
 
 def beside(program, directory):
-    has_dovecot = os.path.exists(IMAP) and os.geteuid() == 0
+    has_dovecot = dovecot.is_there()
     times = {"sdbox": [], "Dovecot": []}
     for _ in range(TURNS):
         times["sdbox"].append(ours(program, directory))
