@@ -8,8 +8,9 @@ PROGRAM is the built binary, crates/dv_cli/out/dv_cli. Folders and scripts are m
 was resident at once, the time, and what the run has: the bytes of its script, the lines in it, the rows of
 the mailbox, the rows that its sessions are shown, and the bytes of the largest message that a command
 reads or adds. The last column divides by one of these, which it names, what the peak has beyond that of a
-run of no lines over a mailbox without messages; or, for SELECT, over the same mailbox. Where that is less
-than a mebibyte it says little and is left out.
+run of no lines over a mailbox without messages; or, for SELECT, over the same mailbox; or, for SELECT by
+more sessions, beyond that of SELECT by one. Where that is less than a mebibyte it says little and is left
+out.
 
 It needs GNU time (Debian's package `time`), since a child of this script begins with the script's own size.
 """
@@ -55,13 +56,15 @@ class Bench:
         with open(told, encoding="ascii") as text:
             return int(text.read()), seconds, os.path.getsize(source)
 
-    def run(self, name, words, script=(), by=None, beyond=None, **has):
-        """One line of the table, and the peak. The script is given in pieces."""
+    def run(self, name, words, script=(), by=None, beyond=(0, 0), **has):
+        """One line of the table, and the peak. The script is given in pieces. The last column is that of
+        what is there beyond another run's peak and number."""
         peak, seconds, has["script"] = self.peak(words, script)
         line = f"{name:<30} {peak:>9,} {seconds:>8.2f} " + " ".join(f"{has.get(q, 0):>10,}" for q in QUANTITIES)
-        more = peak - (beyond or self.base)
+        before, number = beyond
+        more = peak - (before or self.base)
         if by and more >= 1024:
-            line += f"  {more * 1024 / has[by]:.1f} bytes for each of {by}"
+            line += f"  {more * 1024 / (has[by] - number):.1f} bytes for each of {by}"
         print(line, flush=True)
         return peak
 
@@ -80,11 +83,11 @@ def mailboxes(bench):
         pieces = [b"a SELECT\n", b"a APPEND () {0}\n\n" * rows]
         bench.run(f"{rows:,} APPENDs", (box, "run"), pieces, "lines", lines=rows + 1, rows=rows, shown=rows)
         bench.peak((box, "run"), [b"a SELECT\na CHECK\n"])
-        opened = bench.run("  opened", (box, "run"), (), "rows", rows=rows)
+        beyond = bench.run("  opened", (box, "run"), (), "rows", rows=rows), 0
         for sessions in SESSIONS:
             pieces = [b"s%d SELECT\n" % i for i in range(sessions)]
-            name, shown = f"  SELECT by {sessions}", rows * sessions
-            bench.run(name, (box, "run"), pieces, "shown", opened, lines=sessions, rows=rows, shown=shown)
+            name, has = f"  SELECT by {sessions}", {"lines": sessions, "rows": rows, "shown": rows * sessions}
+            beyond = bench.run(name, (box, "run"), pieces, "shown", beyond, **has), rows * sessions
         bench.run("  CHECK", (box, "run"), [b"a SELECT\na CHECK\n"], "rows", lines=2, rows=rows, shown=rows)
         shutil.rmtree(box)
 
