@@ -1,5 +1,6 @@
 mod faults;
 mod folders;
+mod hostile;
 mod limits;
 mod real;
 mod rows;
