@@ -8,9 +8,9 @@ none is given: a file system in memory, and one on a disk) both programs in turn
 messages to a new mailbox and then add a flag to one message after another, 10,000 times; the median
 of five such turns counts. Dovecot runs by itself, without a server, in sdbox format and with
 mail_fsync=always, and its client waits for each answer. This program reads a script and syncs each
-command's group before it answers. Then, in the first directory, 2,000 STOREs and 200,000 NOOPs over a
-mailbox of 100 messages and one of 100,000, less what SELECT alone takes, the shortest of nine runs of
-each in turn.
+command's group before it answers. Then, in the first directory, 200,000 NOOPs, and 2,000 and 42,000
+STOREs, over a mailbox of 100 messages and one of 100,000, less what SELECT alone takes, the shortest
+of nine runs of each in turn.
 
 Where Debian's dovecot-imapd isn't installed, or this isn't run as root, Dovecot is left out.
 """
@@ -117,17 +117,22 @@ def shortest(program, box, commands):
     return min(times[1]) - min(times[0])
 
 
-def sizes(program, directory):
-    """A log is rotated in some of the runs, which the shortest leaves out."""
-    stores = b"".join(
-        b"a STORE %d %sFLAGS (\\Seen)\n" % (i % 100 + 1, b"+-"[i // 100 % 2 :][:1]) for i in range(2_000)
+def stores(count):
+    return b"".join(
+        b"a STORE %d %sFLAGS (\\Seen)\n" % (i % 100 + 1, b"+-"[i // 100 % 2 :][:1]) for i in range(count)
     )
+
+
+def sizes(program, directory):
+    """In the shortest run of few STOREs the log isn't rotated; in each of many it is, six times."""
     place = tempfile.mkdtemp(prefix="sdbox.", dir=directory)
     try:
         boxes = [filled(program, place, rows) for rows in (100, 100_000)]
-        for name, commands in (("2,000 STORE", stores), ("200,000 NOOP", b"a NOOP\n" * 200_000)):
-            few, many = (shortest(program, box, commands) for box in boxes)
-            print(f"{name} over 100 messages {few:.4f} s, over 100,000 {many:.4f} s", flush=True)
+        few, many = (shortest(program, box, b"a NOOP\n" * 200_000) for box in boxes)
+        print(f"200,000 NOOP over 100 messages {few:.4f} s, over 100,000 {many:.4f} s", flush=True)
+        for count in (2_000, 42_000):
+            few, many = (shortest(program, box, stores(count)) for box in boxes)
+            print(f"{count:,} STORE over 100 messages {few:.4f} s, over 100,000 {many:.4f} s", flush=True)
     finally:
         shutil.rmtree(place)
 
