@@ -15,6 +15,9 @@ const LONGEST_NAME: usize = 20;
 /// The file that is written before it takes a name. No other call uses it.
 const TEMPORARY: &str = "dovecot.tmp";
 
+/// What is kept free behind a file's bytes, so that the read that meets its end has room.
+const ROOM_BEHIND: usize = 64;
+
 /// What is told of a folder that another process has.
 const IN_USE: &[u8] = b"sdbox: another process has the folder\n";
 
@@ -185,10 +188,7 @@ impl System for Calls {
     }
 
     fn read(&mut self, alloc: Global, file: File) -> Result<Bytes, ShelfFault> {
-        let mut file = file;
-        let mut bytes = Vec::new(alloc);
-        look(file.read_to_end(&mut bytes))?;
-        Ok(List::from_vec(bytes))
+        look(read_whole(alloc, file))
     }
 
     fn write(&mut self, file: &File, at: u32, bytes: &[u8]) -> Result<(), Failed> {
@@ -266,6 +266,23 @@ fn look<T>(done: io::Result<T>) -> Result<T, ShelfFault> {
         Err(e) if e.kind() == ErrorKind::OutOfMemory => Err(ShelfFault::NoMemory),
         Err(_) => Err(ShelfFault::Failed),
     }
+}
+
+/// Room for all bytes of a file, so that they aren't copied while it is read. A guess: only memory
+/// and time go by it.
+fn room_of(file: &File) -> usize {
+    match file.metadata() {
+        Ok(found) => (found.len() as usize).saturating_add(ROOM_BEHIND),
+        Err(_) => 0,
+    }
+}
+
+fn read_whole(alloc: Global, file: File) -> io::Result<Bytes> {
+    let mut file = file;
+    let mut bytes = Vec::new(alloc);
+    bytes.reserve_exact(room_of(&file))?;
+    file.read_to_end(&mut bytes)?;
+    Ok(List::from_vec(bytes))
 }
 
 fn sync_directory(rt: HostRuntime, path: &str) -> io::Result<()> {
