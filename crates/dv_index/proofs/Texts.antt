@@ -1,14 +1,16 @@
 -- The snapshot's texts are written piece by piece.
 use Rattle.std.proofs.Common.{◌≡◌, ℕ, ◌+◌, ◌<◌, List, [], ◌∷◌, ◌++◌, length, get_or, take, sym, ◌∙◌, ap, arith, append_assoc}
-use Rattle.std.specs.Prelude.{flat_map, replicate}
+use Rattle.std.specs.Prelude.{All, flat_map, replicate}
 use Rattle.std.specs.Int.{w16, w32, w64, to_le_bytes}
 use Rattle.std.proofs.lemmas.List.{flat_map_more, take_more}
+use Rattle.std.proofs.lemmas.List.Elements.{All-nil}
 use Rattle.dv_model.specs.declared.types.Extension.{Extension}
 use Rattle.dv_model.specs.declared.types.Mailbox.{Mailbox}
 use Rattle.dv_model.specs.declared.types.Mark.{Mark}
 use Rattle.dv_model.specs.declared.types.Row.{Row}
-use Rattle.dv_model.specs.Mailboxes.{IsValid}
-use Rattle.dv_formats.specs.Snapshots.{Fits, IsSnapshot, current_text, extension_text, filled, header_text, keyword_bits, row_size, row_text, rows_with, snapshot_text, tables_text}
+use Rattle.dv_model.specs.Mailboxes.{IsRowOf, IsValid}
+use Rattle.dv_formats.specs.Snapshots.{AreBytes, Fits, IsSnapshot, current_text, extension_text, filled, header_text, keyword_bits, row_size, row_text, rows_with, tables_text}
+use Rattle.dv_index.specs.Fronts.{with_rows}
 
 -- one more item
 pub text_more : {X : Type 0} (f : X → List ℕ) (xs : List X) (i : ℕ) (x : X) (out one two : List ℕ) → i < length xs → x ≡ get_or xs i x → one ≡ out ++ flat_map f (take i xs) → two ≡ one ++ f x → two ≡ out ++ flat_map f (take (i + 1) xs)
@@ -23,11 +25,10 @@ pub extension_written : (e : Extension) (out one two three four : List ℕ) → 
 extension_written e out one two three four p q r s =
     four_pieces out (flat_map (to_le_bytes w32) (e.reset_id ∷ length e.header ∷ [])) (flat_map (to_le_bytes w16) (e.record_size ∷ e.record_align ∷ e.flags ∷ length e.name ∷ [])) (filled e.name) (filled e.header) one two three four p q r s
 
-pub row_written : (m : Mailbox) (row : Row) (out one two three four five : List ℕ) → one ≡ out ++ to_le_bytes w32 row.uid → two ≡ one ++ row.flags ∷ 0 ∷ 0 ∷ 0 ∷ [] → three ≡ two ++ to_le_bytes w64 row.modseq
-    → four ≡ three ++ keyword_bits (length m.keywords) row.keywords → five ≡ four ++ flat_map filled row.parts → five ≡ out ++ row_text 2 m row
-row_written m row out one two three four five p q r s t =
-    four_pieces out (to_le_bytes w32 row.uid ++ row.flags ∷ 0 ∷ 0 ∷ 0 ∷ []) (to_le_bytes w64 row.modseq) (keyword_bits (length m.keywords) row.keywords) (flat_map filled row.parts) two three four five
-    (q ∙ ap (λ u. u ++ row.flags ∷ 0 ∷ 0 ∷ 0 ∷ []) p ∙ append_assoc out (to_le_bytes w32 row.uid) (row.flags ∷ 0 ∷ 0 ∷ 0 ∷ [])) r s t ∙ simp append_assoc
+pub row_written : (m : Mailbox) (row : Row) (out one two three : List ℕ) → one ≡ out ++ (to_le_bytes w32 row.uid ++ row.flags ∷ 0 ∷ 0 ∷ 0 ∷ to_le_bytes w64 row.modseq)
+    → two ≡ one ++ keyword_bits (length m.keywords) row.keywords → three ≡ two ++ flat_map filled row.parts → three ≡ out ++ row_text 2 m row
+row_written m row out one two three p q r =
+    r ∙ ap (λ t. t ++ flat_map filled row.parts) (q ∙ ap (λ t. t ++ keyword_bits (length m.keywords) row.keywords) p) ∙ simp append_assoc
 
 nine_pieces : (out a b c d e f g h i a' b' c' d' e' f' g' h' i' : List ℕ) → a' ≡ out ++ a → b' ≡ a' ++ b → c' ≡ b' ++ c → d' ≡ c' ++ d → e' ≡ d' ++ e → f' ≡ e' ++ f → g' ≡ f' ++ g → h' ≡ g' ++ h → i' ≡ h' ++ i
     → i' ≡ out ++ (a ++ (b ++ (c ++ (d ++ (e ++ (f ++ (g ++ (h ++ i))))))))
@@ -65,17 +66,39 @@ header_written m indexid mark out current a b c d e f g h i p q r s t u is v w x
     (to_le_bytes w64 m.highest) (replicate 44 0) a b c d e f g h i p q r s t (u ∙ ap (λ z. e ++ z) is) v w x
     ∙ ap (λ z. out ++ numbers_text m indexid mark z) (last_pieces (current_text m.current) (to_le_bytes w32 (rows_with 8 m)) (to_le_bytes w32 (rows_with 4 m)) (to_le_bytes w64 m.highest ++ replicate 44 0))
 
-snapshot_pieces : (m : Mailbox) (indexid : ℕ) (mark : Mark) (tables one two three : List ℕ) → tables ≡ tables_text m → one ≡ header_text 2 m indexid mark → two ≡ one ++ tables
-    → three ≡ two ++ flat_map (row_text 2 m) m.rows → three ≡ snapshot_text 2 m indexid mark
-snapshot_pieces m indexid mark tables one two three t p q r = r ∙ ap (λ u. u ++ flat_map (row_text 2 m) m.rows) (q ∙ ap (λ u. u ++ tables) p ∙ ap (λ u. header_text 2 m indexid mark ++ u) t)
+-- the tables stand behind the header
+pub front_written : (m : Mailbox) (indexid : ℕ) (mark : Mark) (tables one two : List ℕ) → tables ≡ tables_text m → one ≡ header_text 2 m indexid mark → two ≡ one ++ tables
+    → two ≡ header_text 2 m indexid mark ++ tables_text m
+front_written m indexid mark tables one two t p q = q ∙ ap (λ u. u ++ tables) p ∙ ap (λ u. header_text 2 m indexid mark ++ u) t
+
+-- without its rows a mailbox is valid too
+pub valid_head : (m : Mailbox) → IsValid m → IsValid (with_rows [] m)
+valid_head m is = record {
+  next_uid = is.next_uid;
+  rising = λ k less. absurd (omega (arith, less));
+  rows = All-nil (IsRowOf (with_rows [] m));
+  names = is.names;
+  extensions = is.extensions;
+  current = is.current;
+  highest = is.highest;
+}
 
 -- what is written is a snapshot
-pub snapshot_written : (m : Mailbox) (indexid : ℕ) (mark : Mark) (tables one two three : List ℕ) → IsValid m → Fits m indexid mark
-    → tables ≡ tables_text m → one ≡ header_text 2 m indexid mark → two ≡ one ++ tables → three ≡ two ++ flat_map (row_text 2 m) m.rows → IsSnapshot 2 m indexid mark three
-snapshot_written m indexid mark tables one two three valid fits t p q r = record {
+pub snapshot_written : (m : Mailbox) (indexid : ℕ) (mark : Mark) (front text : List ℕ) → IsValid m → Fits (with_rows [] m) indexid mark
+    → All (λ row. row.flags < 256) m.rows → All (λ row. All AreBytes row.parts) m.rows
+    → front ≡ header_text 2 m indexid mark ++ tables_text m → text ≡ front ++ flat_map (row_text 2 m) m.rows → IsSnapshot 2 m indexid mark text
+snapshot_written m indexid mark front text valid fits flags parts p q = record {
   known = (omega arith, omega arith);
   valid = valid;
-  fits = fits;
+  fits = record {
+    validity = fits.validity;
+    flags = flags;
+    parts = parts;
+    extensions = fits.extensions;
+    named = fits.named;
+    place = fits.place;
+    tables = fits.tables;
+  };
   numbered = λ two_is_one. absurd (omega (arith, two_is_one));
-  text = snapshot_pieces m indexid mark tables one two three t p q r;
+  text = q ∙ ap (λ u. u ++ flat_map (row_text 2 m) m.rows) p;
 }

@@ -1,10 +1,12 @@
-ghost use Rattle.std.specs.Prelude.{◌≡◌, ℕ, ◌+◌, ◌*◌, ◌^◌, ◌<◌, ◌≤◌, ◌++◌, IfSome, flat_map, count_by, length, nat_eq, bit_and, not, sum_by, OnOk};
+ghost use Rattle.std.specs.Prelude.{◌≡◌, [], ℕ, List, ◌+◌, ◌*◌, ◌^◌, ◌<◌, ◌≤◌, ◌++◌, IfSome, flat_map, count_by, length, nat_eq, bit_and, not, sum_by, OnOk};
 ghost use Rattle.std.specs.Int.{w32, to_le_bytes};
 ghost use Rattle.dv_model.specs.Mailboxes.{IsValid};
 ghost use Rattle.dv_model.specs.Spelling.{padded};
-ghost use Rattle.dv_formats.specs.Snapshots.{current_text, header_text, row_size, rows_with, tables_text};
+ghost use Rattle.dv_formats.specs.Snapshots.{current_text, header_text, row_size, tables_text};
+ghost use Rattle.dv_index.specs.Fronts.{HasCounts, with_rows};
 
 use crate::rows::keyword_words;
+use crate::tally::Tally;
 use crate::words::{padding, write_words};
 use dv_model::{Bytes, Current, Extension, Mailbox, Mark, NoMemory, Row};
 
@@ -19,13 +21,6 @@ pub fn count_with(bit: u8, rows: &[Row]) -> u32
     ensures { result ≡ count_by (λ row. not (nat_eq (bit_and row.flags bit) 0)) rows.now }
 {
     rows.iter().filter(|row| row.flags & bit != 0).count() as u32
-}
-
-fn rows_with(bit: u8, m: &Mailbox) -> u32
-    requires { IsValid m.now }
-    ensures { result ≡ rows_with bit m.now }
-{
-    count_with(bit, m.rows.as_slice())
 }
 
 // How many bytes of each row the parts take.
@@ -63,29 +58,31 @@ pub fn current_words(current: Option<Current>) -> [u32; 2]
     }
 }
 
-/// Adds the header of a snapshot in the layout of version 2, before tables of so many bytes.
+/// Adds the header of a snapshot in the layout of version 2, before tables of so many bytes. The
+/// mailbox's rows aren't looked at: only their counts.
 pub fn write_header(
     m: &Mailbox,
+    counts: Tally,
     indexid: u32,
     mark: Mark,
     tables: u32,
     out: &mut Bytes,
 ) -> Result<(), NoMemory>
-    requires valid { IsValid m.now }
+    requires valid { IsValid (with_rows [] m.now) }
     requires tables { tables ≡ length (tables_text m.now) }
     requires room { 120 + tables < 2 ^ 32 }
-    ensures text { OnOk result (out.new ≡ out.old ++ header_text 2 m.now indexid mark) }
+    ensures text { OnOk result ((rows : List Row) → HasCounts counts rows →
+        out.new ≡ out.old ++ header_text 2 (with_rows rows m.now) indexid mark) }
     ensures fits { OnOk result (m.now.uid_validity < 2 ^ 32) }
 {
     out.extend(&[201, 2, 120, 0])?;
     write_words(&[120 + tables, row_size(m), 0], out)?;
     write_words(&[indexid, 0, m.uid_validity, m.next_uid], out)?;
-    let rows = m.rows.len() as u32;
-    write_words(&[rows, mark.file_seq, mark.offset], out)?;
+    write_words(&[counts.rows, mark.file_seq, mark.offset], out)?;
     let keywords = m.keywords.len() as u32;
     write_words(&[keywords, m.extensions.len() as u32], out)?;
     write_words(&current_words(m.current), out)?;
-    write_words(&[rows_with(SEEN, m), rows_with(DELETED, m)], out)?;
+    write_words(&[counts.seen, counts.deleted], out)?;
     out.extend(&m.highest.to_le_bytes())?;
     out.extend(&[0; 44])?;
     Ok(())

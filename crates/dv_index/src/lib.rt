@@ -7,10 +7,13 @@ mod law;
 mod reading;
 mod rows;
 mod tables;
+mod tally;
 mod words;
 mod writing;
 
 pub use fault::{IndexEnd, IndexFault};
 pub use law::one_outcome;
 pub use reading::read;
-pub use writing::write;
+pub use rows::write_row;
+pub use tally::Tally;
+pub use writing::{begin, write};

@@ -1,10 +1,11 @@
-ghost use Rattle.std.specs.Prelude.{◌≡◌, ◌<◌, ◌*◌, ◌++◌, All, flat_map, length, map, IfOk, OnOk};
+ghost use Rattle.std.specs.Prelude.{◌≡◌, ◌<◌, ◌*◌, ◌++◌, ◌∷◌, All, flat_map, length, map, IfOk, OnOk};
+ghost use Rattle.std.specs.Int.{w32, w64, to_le_bytes};
 ghost use Rattle.std.specs.List.{range_with_len};
 ghost use Rattle.std.specs.List.Sorted.{IsStrictlyIncreasing};
 ghost use Rattle.dv_model.specs.Mailboxes.{IsRowOf};
 ghost use Rattle.dv_formats.specs.Snapshots.{AreBytes, filled, keyword_word, keyword_words, row_text};
 
-use crate::words::{write_bytes, write_filled, write_words};
+use crate::words::{write_filled, write_words};
 use dv_model::{Bytes, Mailbox, NoMemory, Row};
 use std::alloc::{AllocError, Global};
 
@@ -41,7 +42,19 @@ fn write_parts(parts: &[Bytes], out: &mut Bytes) -> Result<(), NoMemory>
     Ok(())
 }
 
-fn write_row(alloc: Global, m: &Mailbox, row: &Row, out: &mut Bytes) -> Result<(), NoMemory>
+// The front of a row, which each row has.
+fn row_front(uid: u32, flags: u8, modseq: u64) -> [u8; 16]
+    ensures text { result ≡ to_le_bytes w32 uid
+        ++ flags ∷ 0 ∷ 0 ∷ 0 ∷ to_le_bytes w64 modseq }
+    ensures flags { flags < 256 }
+{
+    let [a, b, c, d] = uid.to_le_bytes();
+    let [e, f, g, h, i, j, k, l] = modseq.to_le_bytes();
+    [a, b, c, d, flags, 0, 0, 0, e, f, g, h, i, j, k, l]
+}
+
+/// Adds a row of the mailbox, in the layout of version 2.
+pub fn write_row(alloc: Global, m: &Mailbox, row: &Row, out: &mut Bytes) -> Result<(), NoMemory>
     requires { IsRowOf m.now row.now }
     ensures text { OnOk result (out.new ≡ out.old ++ row_text 2 m.now row.now) }
     ensures flags { OnOk result (row.now.flags < 256) }
@@ -49,9 +62,7 @@ fn write_row(alloc: Global, m: &Mailbox, row: &Row, out: &mut Bytes) -> Result<(
 {
     let count = keyword_words(m.keywords.len());
     let words = words_of(alloc, count, row.keywords.as_slice())?;
-    out.extend(&row.uid.to_le_bytes())?;
-    write_bytes(&[row.flags, 0, 0, 0], out)?;
-    out.extend(&row.modseq.to_le_bytes())?;
+    out.extend(&row_front(row.uid, row.flags, row.modseq))?;
     write_words(&words, out)?;
     write_parts(row.parts.as_slice(), out)
 }

@@ -1,7 +1,8 @@
-ghost use Rattle.std.specs.Prelude.{◌≡◌, ◌++◌, All, flat_map, IfOk, OnOk};
+ghost use Rattle.std.specs.Prelude.{◌≡◌, ◌++◌, [], All, flat_map, IfOk, OnOk};
 ghost use Rattle.dv_model.specs.Mailboxes.{IsValid};
 ghost use Rattle.dv_model.specs.Names.{IsName};
 ghost use Rattle.dv_formats.specs.Snapshots.{HasFieldsOf, extension_text, keyword_text, tables_text};
+ghost use Rattle.dv_index.specs.Fronts.{with_rows};
 ghost use Rattle.dv_index.specs.Short.{IsShort};
 
 use crate::words::{write_filled, write_halves, write_words};
@@ -45,7 +46,7 @@ fn write_extensions(extensions: &[Extension], out: &mut Bytes) -> Result<(), NoM
 
 /// The text of a mailbox's keywords and extensions.
 pub fn tables_text(alloc: Global, m: &Mailbox) -> Result<Bytes, NoMemory>
-    requires { IsValid m.now }
+    requires { IsValid (with_rows [] m.now) }
     ensures text { IfOk result (λ text. text ≡ tables_text m.now) }
     ensures fits { OnOk result (All HasFieldsOf m.now.extensions) }
 {

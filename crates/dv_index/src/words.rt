@@ -34,15 +34,6 @@ pub fn write_halves(numbers: &[u16], out: &mut Bytes) -> Result<(), NoMemory>
     Ok(())
 }
 
-/// Adds the bytes.
-pub fn write_bytes(bytes: &[u8], out: &mut Bytes) -> Result<(), NoMemory>
-    ensures text { OnOk result (out.new ≡ out.old ++ bytes.now) }
-    ensures fits { AreBytes bytes.now }
-{
-    out.extend(bytes)?;
-    Ok(())
-}
-
 /// Adds the bytes, and zero bytes up to a multiple of four of them.
 pub fn write_filled(bytes: &[u8], out: &mut Bytes) -> Result<(), NoMemory>
     ensures text { OnOk result (out.new ≡ out.old ++ filled bytes.now) }
@@ -50,7 +41,9 @@ pub fn write_filled(bytes: &[u8], out: &mut Bytes) -> Result<(), NoMemory>
 {
     let (zeros, _) = [0; 4].as_slice().split_at(padding(bytes.len()));
     out.extend(bytes)?;
-    out.extend(zeros)?;
+    if !zeros.is_empty() {
+        out.extend(zeros)?;
+    }
     Ok(())
 }
 

@@ -1,11 +1,13 @@
-ghost use Rattle.std.specs.Prelude.{◌≡◌, ◌↔◌, ◌+◌, ◌^◌, ◌<◌, ◌≤◌, IfOk, IsTrue};
+ghost use Rattle.std.specs.Prelude.{◌≡◌, ◌↔◌, ◌+◌, ◌++◌, ◌^◌, ◌<◌, ◌≤◌, [], List, IfOk, IsTrue};
 ghost use Rattle.dv_model.specs.Mailboxes.{IsValid};
-ghost use Rattle.dv_formats.specs.Snapshots.{IsSnapshot};
+ghost use Rattle.dv_formats.specs.Snapshots.{Fits, IsSnapshot, header_text, tables_text};
+ghost use Rattle.dv_index.specs.Fronts.{HasCounts, with_rows};
 
 use crate::header::write_header;
 use crate::rows::write_rows;
 use crate::tables::tables_text;
-use dv_model::{Bytes, List, Mailbox, Mark, NoMemory};
+use crate::tally::{Tally, tally_of};
+use dv_model::{Bytes, List, Mailbox, Mark, NoMemory, Row};
 use std::alloc::Global;
 
 // Whether the header and so many bytes of tables have a size of 32 bits.
@@ -13,6 +15,32 @@ fn has_room(tables: usize) -> bool
     ensures { IsTrue result ↔ (120 + tables < 2 ^ 32) }
 {
     tables <= (u32::MAX - 120) as usize
+}
+
+/// The front of a snapshot in the layout of version 2, behind which `write_row` adds each row. The
+/// rows of this mailbox aren't looked at: only the counts. `NoMemory` is the only error; that is
+/// the answer too where the header and the tables would pass 4294967295 bytes.
+pub fn begin(
+    alloc: Global,
+    m: &Mailbox,
+    counts: Tally,
+    indexid: u32,
+    mark: Mark,
+) -> Result<Bytes, NoMemory>
+    requires valid { IsValid (with_rows [] m.now) }
+    requires named { 1 ≤ indexid }
+    ensures text { IfOk result (λ text. (rows : List Row) → HasCounts counts rows →
+        text ≡ header_text 2 (with_rows rows m.now) indexid mark ++ tables_text m.now) }
+    ensures fits { IfOk result (λ _. Fits (with_rows [] m.now) indexid mark) }
+{
+    let tables = tables_text(alloc, m)?;
+    if !has_room(tables.len()) {
+        return Err(NoMemory);
+    }
+    let mut text = List::new(alloc);
+    write_header(m, counts, indexid, mark, tables.len() as u32, &mut text)?;
+    text.extend(tables.as_slice())?;
+    Ok(text)
 }
 
 /// The text of the snapshot of a mailbox at a place of the log, in the layout of version 2;
@@ -23,13 +51,7 @@ pub fn write(alloc: Global, m: &Mailbox, indexid: u32, mark: Mark) -> Result<Byt
     requires named { 1 ≤ indexid }
     ensures { IfOk result (λ text. IsSnapshot 2 m.now indexid mark text) }
 {
-    let tables = tables_text(alloc, m)?;
-    if !has_room(tables.len()) {
-        return Err(NoMemory);
-    }
-    let mut text = List::new(alloc);
-    write_header(m, indexid, mark, tables.len() as u32, &mut text)?;
-    text.extend(tables.as_slice())?;
+    let mut text = begin(alloc, m, tally_of(m), indexid, mark)?;
     write_rows(alloc, m, m.rows.as_slice(), &mut text)?;
     Ok(text)
 }
