@@ -1,9 +1,10 @@
 ghost use Rattle.std.specs.Prelude.{◌≡◌, ◌+◌, ◌%◌, ◌<◌, ◌≤◌, ◌^◌, ◌∷◌, [], IfOk, decimal, replicate};
-ghost use Rattle.dv_formats.specs.Generators.{append_drawn, command_by, command_drawn, fetch_drawn, how_of, keyword_of, next_state, store_drawn, uids_from};
+ghost use Rattle.dv_formats.specs.Generators.{append_drawn, command_by, command_drawn, fetch_drawn, how_of, keyword_of, next_state, session_name, store_drawn, uids_from};
+ghost use Rattle.dv_gen.specs.Lines.{line_of};
 
 use crate::draws::draw;
 use dv_model::{Bytes, Command, End, How, Item, List, NoMemory, Span};
-use dv_script::decimal_text;
+use dv_script::{Line, decimal_text};
 use std::alloc::Global;
 
 // A letter, and a number in decimal digits.
@@ -15,6 +16,16 @@ pub(crate) fn lettered(alloc: Global, letter: u8, n: u32) -> Result<Bytes, NoMem
     name.push(letter)?;
     name.extend(digits.as_slice())?;
     Ok(name)
+}
+
+/// A command of a session, by the session's number.
+pub(crate) fn line_of(alloc: Global, session: u32, command: Command) -> Result<Line, NoMemory>
+    ensures { IfOk result (λ line. line ≡ line_of (session_name session, command)) }
+{
+    Ok(Line {
+        session: lettered(alloc, b's', session)?,
+        command,
+    })
 }
 
 // Ten UIDs from one up to i + 1 on.

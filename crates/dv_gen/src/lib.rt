@@ -3,7 +3,9 @@
 
 mod commands;
 mod draws;
+mod generation;
 mod generator;
 
 pub use draws::draw;
-pub use generator::script;
+pub use generation::GeneratedLines;
+pub use generator::{generated_lines, script};

@@ -1,5 +1,6 @@
 pub mod SpacedLemmas
-pub mod Lines
+pub mod Rests
+pub mod LineByLine
 pub mod KeyTexts
 pub mod Printed
 pub mod Grammar

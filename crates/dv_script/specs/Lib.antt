@@ -1,3 +1,5 @@
 pub mod Spaced
 pub mod Sources
+pub mod Rests
+pub mod Opened
 pub mod Printed

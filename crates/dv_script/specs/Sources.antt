@@ -1,5 +1,5 @@
 -- Lines and faults of a script as the program has them.
-use Rattle.std.specs.Prelude.{◌≡◌, ℕ, List, map, Option, Some, None, Result, Ok, Err}
+use Rattle.std.specs.Prelude.{◌≡◌, ℕ, List, [], ◌∷◌, map, Option, Some, None, Result, Ok, Err}
 use Rattle.dv_formats.specs.Scripts.{IsBadLine, IsScript, IsShortLiteral, IsTooLong, NamedLine}
 use Rattle.dv_formats.specs.Parsing.{LineFault, ScriptFault}
 use Rattle.dv_script.specs.declared.types.Line.{Line}
@@ -39,13 +39,17 @@ abbrev pub ScriptGives : Result (List Line) ScriptEnd → Result (List NamedLine
 ScriptGives (Ok lines) read = read ≡ Ok (all_named lines)
 ScriptGives (Err e) read = ScriptFails e read
 
+-- by the grammar this is the script's first fault
+abbrev pub IsFault : ScriptEnd → List ℕ → Type 0
+IsFault (script_end.BadLine k) script = IsBadLine script k
+IsFault script_end.TooLong script = IsTooLong script
+IsFault (script_end.ShortLiteral k) script = IsShortLiteral script k
+IsFault script_end.NoMemory script = Unit {0}
+
 -- by the grammar these are the script's lines, or this is its first fault
 abbrev pub IsOf : Result (List Line) ScriptEnd → List ℕ → Type 0
 IsOf (Ok lines) script = IsScript (all_named lines) script
-IsOf (Err (script_end.BadLine k)) script = IsBadLine script k
-IsOf (Err script_end.TooLong) script = IsTooLong script
-IsOf (Err (script_end.ShortLiteral k)) script = IsShortLiteral script k
-IsOf (Err script_end.NoMemory) script = Unit {0}
+IsOf (Err e) script = IsFault e script
 
 -- a line that may have a command
 abbrev pub may_name : Option Line → Option NamedLine
@@ -57,3 +61,9 @@ abbrev pub script_end_of : ℕ → LineEnd → ScriptEnd
 script_end_of k line_end.Bad = script_end.BadLine k
 script_end_of k line_end.Short = script_end.ShortLiteral k
 script_end_of k line_end.NoMemory = script_end.NoMemory
+
+-- what was given of the lines that were left is the first one, and the others are left; none is given
+-- where none is left
+abbrev pub IsNext : List NamedLine → Option Line → List NamedLine → Type 0
+IsNext old None new = (old ≡ []) × (new ≡ [])
+IsNext old (Some line) new = old ≡ named line ∷ new

@@ -3,16 +3,21 @@
 
 mod keys;
 mod law;
+mod lines;
 mod pieces;
 mod printing;
 mod reply;
+mod room;
 mod script;
+mod script_lines;
 mod types;
 mod value;
 
 pub use law::printed_script_is_parsed;
+pub use lines::{Lines, all_lines};
 pub use pieces::decimal_text;
 pub use printing::print_script;
 pub use reply::{mark_text, replies_text, reply_text};
-pub use script::{parse, split_session};
+pub use script::{open_script, parse, split_session};
+pub use script_lines::{Script, ScriptLines};
 pub use types::{Line, ScriptEnd};

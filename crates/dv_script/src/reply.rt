@@ -3,6 +3,7 @@ ghost use Rattle.dv_model.specs.Texts.{line_text, reply_text, given_text, modifi
 ghost use Rattle.dv_model.specs.declared.types.Reply.TheVariants.{Fetch, Search, Done, Gone, Damaged};
 
 use crate::pieces::{put, put_around, put_before, put_number, put_numbers};
+use crate::room::room_for;
 use crate::value::put_values;
 use dv_model::{Bytes, List, Mark, NoMemory, Reply, Value, Word};
 use std::alloc::Global;
@@ -20,7 +21,7 @@ pub fn reply_text(alloc: Global, session: &[u8], reply: &Reply) -> Result<Bytes,
 pub fn replies_text(alloc: Global, session: &[u8], replies: &List<Reply>) -> Result<Bytes, NoMemory>
     ensures { IfOk result (λ text. text ≡ flat_map (line_text session.now) replies.now) }
 {
-    let mut text = List::new(alloc);
+    let mut text = room_for(alloc, session, replies.as_slice())?;
     for reply in replies.as_slice() {
         put_line(&mut text, session, reply)?;
     }

@@ -1,11 +1,14 @@
-ghost use Rattle.std.specs.Prelude.{◌≡◌, ◌+◌, ◌<◌, ◌≤◌, ◌++◌, ℕ, List, bytes_eq, count_by, length, IfOk, IfSome, MatchBool, MatchOption, OnOk, Ok, Err, Some, None};
+ghost use Rattle.std.specs.Prelude.{◌≡◌, ◌+◌, ◌<◌, ◌≤◌, ℕ, true, List, [], bytes_eq, count_by, length, IfErr, IfOk, IfSome, MatchBool, MatchOption, OnOk, Ok, Err, Some, None};
 ghost use Rattle.std.specs.List.{list_all, list_any};
 ghost use Rattle.std.specs.Str.Lines.{strip_carriage_return};
-ghost use Rattle.dv_formats.specs.Scripts.{IsBadLine, IsScript, IsShortLiteral, IsTooLong, NamedLine, is_session_byte};
-ghost use Rattle.dv_formats.specs.Parsing.{ScriptFault, as_list, behind_line_end, command_at, feeds_before, first_line, is_byte, is_session_name, is_skipped, line_at, literal_at, parsed, session_at, with_session};
-ghost use Rattle.dv_script.specs.Sources.{IsOf, LineGives, ScriptGives, may_name, named, script_end_of};
+ghost use Rattle.dv_formats.specs.Scripts.{IsBadLine, IsScript, IsShortLiteral, IsTooLong, NamedLine, is_session_byte, sessions_of};
+ghost use Rattle.dv_formats.specs.Parsing.{ScriptFault, behind_line_end, command_at, feeds_before, first_line, is_byte, is_session_name, is_skipped, line_at, literal_at, parsed, session_at, with_session};
+ghost use Rattle.dv_script.specs.Opened.{OpensAs, OpensOf, lines_left};
+ghost use Rattle.dv_script.specs.Rests.{BeginsCommand, LeavesOut, is_good, is_passed, left_from};
+ghost use Rattle.dv_script.specs.Sources.{IsOf, LineGives, ScriptFails, ScriptGives, may_name, named, script_end_of};
 
-use crate::{Line, ScriptEnd};
+use crate::lines::all_lines;
+use crate::{Line, Script, ScriptEnd, ScriptLines};
 use dv_commands::{behind, parse_append, parse_command, split_at_byte};
 use dv_model::{Bytes, Command, List, NoMemory, OutOfMemory};
 use dv_sets::ParseEnd;
@@ -39,6 +42,46 @@ impl<E: OutOfMemory> From<E> for LineEnd {
     }
 }
 
+/// Goes over all lines of a script, of which none is kept, and gives a cursor at the first one, or
+/// the script's first fault (RFC 3501, section 9).
+pub fn open_script(alloc: Global, b: &[u8]) -> Result<Script<'_>, ScriptEnd>
+    // The lines left are those that the script says, and a fault is its first one.
+    ensures lines { OpensAs result (parsed b.now) }
+    // Each line has a byte.
+    ensures few { IfOk result (λ script. length (lines_left script.lines) ≤ length b.now) }
+    ensures sessions { IfOk result (λ script.
+        script.sessions ≡ length (sessions_of (lines_left script.lines))) }
+    // By the grammar, too, these are the script's lines, or this is its first fault.
+    ensures found { OpensOf result b.now }
+    // A script is opened, and each fault is told.
+    ensures only { (lines : List NamedLine) → IsScript lines b.now
+        → OpensAs result (Ok lines) }
+    ensures bad { (number : ℕ) → IsBadLine b.now number
+        → OpensAs result (Err (ScriptFault.BadLine number)) }
+    ensures short { (number : ℕ) → IsShortLiteral b.now number
+        → OpensAs result (Err (ScriptFault.ShortLiteral number)) }
+    ensures long { IsTooLong b.now → OpensAs result (Err ScriptFault.TooLong) }
+{
+    open_lines(alloc, b)
+}
+
+// A cursor at the first line, or the script's first fault.
+fn open_lines(alloc: Global, b: &[u8]) -> Result<Script<'_>, ScriptEnd>
+    ensures lines { OpensAs result (parsed b.now) }
+    ensures few { IfOk result (λ script. length (lines_left script.lines) ≤ length b.now) }
+    ensures sessions { IfOk result (λ script.
+        script.sessions ≡ length (sessions_of (lines_left script.lines))) }
+{
+    let sessions = count_sessions(alloc, b)?;
+    let names = List::new(alloc);
+    let lines = ScriptLines {
+        alloc,
+        rest: b,
+        names,
+    };
+    Ok(Script { lines, sessions })
+}
+
 /// The lines of a script with their commands, or its first fault (RFC 3501, section 9).
 pub fn parse(alloc: Global, b: &[u8]) -> Result<List<Line>, ScriptEnd>
     // The lines are those that the script says, and a fault is its first one.
@@ -59,29 +102,39 @@ pub fn parse(alloc: Global, b: &[u8]) -> Result<List<Line>, ScriptEnd>
     read_lines(alloc, b)
 }
 
-// One line after another, up to the first fault.
+// All lines of a script, or its first fault.
 fn read_lines(alloc: Global, b: &[u8]) -> Result<List<Line>, ScriptEnd>
     ensures lines { ScriptGives result (parsed b.now) }
     ensures few { IfOk result (λ lines. length lines ≤ length b.now) }
 {
+    let mut script = open_lines(alloc, b)?;
+    Ok(all_lines(alloc, &mut script.lines)?)
+}
+
+// Goes over one line after another, up to the first fault, and gives the number of their sessions.
+fn count_sessions(alloc: Global, b: &[u8]) -> Result<u32, ScriptEnd>
+    ensures lines { OnOk result (parsed b.now ≡ Ok (left_from [] b.now)) }
+    ensures fault { IfErr result (λ e. ScriptFails e (parsed b.now)) }
+    ensures good { OnOk result (is_good [] b.now ≡ true) }
+    ensures few { OnOk result (length (left_from [] b.now) ≤ length b.now) }
+    ensures sessions { IfOk result (λ n. n ≡ length (sessions_of (left_from [] b.now))) }
+{
     if b.len() > MAX_SCRIPT {
         return Err(ScriptEnd::TooLong);
     }
-    let mut lines = List::new(alloc);
     let mut names = List::new(alloc);
     let mut rest = b;
     let mut number: u32 = 1;
     'lines: while !rest.is_empty() {
         let (text, end) = first_line(rest);
-        let (line, next) = match read_line(alloc, &mut names, text, end) {
-            Ok(read) => read,
+        let next = match read_line(alloc, &mut names, text, end) {
+            Ok((_, next)) => next,
             Err(fault) => return Err(script_end(number, fault)),
         };
-        add_line(&mut lines, line)?;
         number += feeds_before(rest, next);
         rest = next;
     }
-    Ok(lines)
+    Ok(names.len() as u32)
 }
 
 // A line's fault, by the line's number.
@@ -93,16 +146,6 @@ fn script_end(line: u32, end: LineEnd) -> ScriptEnd
         LineEnd::Short => ScriptEnd::ShortLiteral { line },
         LineEnd::NoMemory => ScriptEnd::NoMemory,
     }
-}
-
-fn add_line(lines: &mut List<Line>, line: Option<Line>) -> Result<(), NoMemory>
-    ensures lines { OnOk result (lines.new ≡ lines.old ++ as_list line) }
-    ensures one { OnOk result (length lines.new ≤ length lines.old + 1) }
-{
-    if let Some(line) = line {
-        lines.push(line)?;
-    }
-    Ok(())
 }
 
 fn count_feeds(b: &[u8]) -> usize
@@ -133,7 +176,7 @@ fn without_carriage_return(text: &[u8]) -> &[u8]
 }
 
 // The first line without its end, and what stands behind that.
-fn first_line(b: &[u8]) -> (&[u8], &[u8])
+pub(crate) fn first_line(b: &[u8]) -> (&[u8], &[u8])
     ensures text { result.0.now ≡ (first_line b.now).0 }
     ensures rest { result.1.now ≡ (first_line b.now).1 }
     ensures shorter { 0 < length b.now → length result.1.now < length b.now }
@@ -154,9 +197,36 @@ fn is_skipped(text: &[u8]) -> bool
     }
 }
 
+// Whether a line has no command and no fault.
+#[tactic(auto, unfolding(crate::specs::Rests::is_passed))]
+fn is_passed(text: &[u8]) -> bool
+    ensures { result ≡ is_passed text.now }
+{
+    if text.len() > MAX_LINE {
+        return false;
+    }
+    is_skipped(text)
+}
+
+/// The bytes from the first line on that isn't skipped. It takes no memory.
+pub(crate) fn skip(b: &[u8]) -> &[u8]
+    ensures same { LeavesOut b.now result.now }
+    ensures command { 0 < length result.now → BeginsCommand result.now }
+{
+    let mut rest = b;
+    'skipped: while !rest.is_empty() {
+        let (text, end) = first_line(rest);
+        if !is_passed(text) {
+            return rest;
+        }
+        rest = end;
+    }
+    rest
+}
+
 // A line without its end, behind which these bytes stand.
 #[tactic(auto, unfolding(dv_formats::specs::Parsing::line_at))]
-fn read_line<'a>(
+pub(crate) fn read_line<'a>(
     alloc: Global,
     names: &mut List<Bytes>,
     text: &[u8],

@@ -1,12 +1,7 @@
-use Rattle.std.proofs.Common.{◌++◌, ◌∙◌, map, ap}
-use Rattle.dv_formats.specs.Generators.{commands_from}
-use Rattle.dv_gen.specs.Lines.{line_of, select_of}
-use Rattle.std.specs.List.{range_with_len}
-use Rattle.dv_gen.proofs.Steps.{script_lines}
+use Rattle.dv_formats.specs.Generators.{generated}
+use Rattle.dv_gen.specs.LinesToCome.{lines_to_come}
+use Rattle.dv_gen.proofs.Steps.{all_given}
 use Rattle.dv_gen.proofs.generator.script.Goals as goal
 
 pub returns : goal.returns
-returns c =
-    c.in_ok-add_commands.ensures
-    ∙ ap (λ t. t ++ map line_of (commands_from c.args.sessions 0 c.args.count c.args.seed)) (c.in_ok-add_selects.ensures ∙ ap (λ t. t ++ map select_of (range_with_len 1 c.args.sessions)) c.new-lines.ensures)
-    ∙ script_lines c.args.seed c.args.count c.args.sessions
+returns c = all_given c.all_lines.result (lines_to_come c.generated_lines-lines.result) (generated c.args.seed c.args.count c.args.sessions) c.generated_lines-lines.ensures.lines c.all_lines.ensures

@@ -1,13 +1,13 @@
 use Rattle.std.proofs.Common.{◌+◌, ◌≤◌, length}
-use Rattle.dv_script.proofs.Lines.{IsReadTo}
-use Rattle.dv_script.proofs.script.read_lines.Given as goal
+use Rattle.dv_script.proofs.LineByLine.{IsReadTo}
+use Rattle.dv_script.proofs.script.count_sessions.Given as goal
 
 abbrev pub invariant-lines : goal.invariant-lines
 invariant-lines l = record {
   short : length l.b ≤ 67108864;
   counted : l.number + length l.rest ≤ length l.b + 1;
-  few : length l.lines + length l.rest ≤ length l.b;
-  same : IsReadTo l.b l.number l.lines l.names l.rest;
+  seats : length l.names ≤ 64;
+  same : IsReadTo l.b l.number l.names l.rest;
 }
 
 abbrev pub decreases-lines : goal.decreases-lines
