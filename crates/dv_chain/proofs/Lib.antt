@@ -3,6 +3,7 @@ pub mod Numbered
 pub mod Files
 pub mod Joins
 pub mod Shelves
+pub mod Named
 pub mod Mended
 pub mod Found
 pub mod Opened

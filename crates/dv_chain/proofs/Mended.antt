@@ -11,10 +11,12 @@ use Rattle.dv_logfile.specs.Layout.{IsHeader, closing, last_end, longest_log}
 use Rattle.dv_logfile.specs.Scans.{AreSpots, Good, GoodLog, IsGood, IsScanned, Scanned, Spot}
 use Rattle.dv_logfile.proofs.Logs.{header_front}
 use Rattle.dv_logfile.proofs.OneScan.{scans_one}
+use Rattle.dv_openings.specs.Numbers.{IsNamed}
 use Rattle.dv_openings.specs.Openings.{Found, IfGood, IsFound, IsIndex, found_in, mended}
 use Rattle.dv_chain.specs.declared.file.File.{File}
 use Rattle.dv_chain.specs.Files.{HasSpots, good_file}
 use Rattle.dv_chain.specs.Openings.{IsLogOf, IsMended, IsQuiet}
+use Rattle.dv_chain.proofs.Named.{file_named}
 
 -- the bytes of the records, which are those records before any rest
 record Front (from : ℕ) (spots : List Spot) (b : List ℕ) (end : ℕ) (rest : List ℕ) : Type 0 where
@@ -156,12 +158,24 @@ quiet old c log is mend = ⊎_elim same put mend
         by_gate false shut_gate = subst (IsGood (good_file log is.spots)) (sym (shut_end log shut_gate)) is.has.good
 
     same : c ≡ old → IsQuiet old c
-    same e = record { opens = λ f found. subst (λ (d : Folder). IsFound d f) (sym e) found; others = λ n other. ap (λ (d : Folder). d n) e }
+    same e = record {
+      opens = λ f. (λ found. subst (λ (d : Folder). IsFound d f) (sym e) found, λ found. subst (λ (d : Folder). IsFound d f) e found);
+      named = λ indexid. (λ named. subst (λ (d : Folder). IsNamed d indexid) (sym e) named, λ named. subst (λ (d : Folder). IsNamed d indexid) e named);
+      others = λ n other. ap (λ (d : Folder). d n) e;
+    }
+
+    before : IsScanned (old name.Log) (Good (good_file log is.spots))
+    before = subst (λ (x : Option (List ℕ)). IsScanned x (Good (good_file log is.spots))) (sym is.file) is.has.good
+
+    after : c ≡ with_file old name.Log (Some (mended log.bytes log.end)) → IsScanned (c name.Log) (Good (good_file log is.spots))
+    after e = subst (λ (d : Folder). IsScanned (d name.Log) (Good (good_file log is.spots))) (sym e) good
 
     put : c ≡ with_file old name.Log (Some (mended log.bytes log.end)) → IsQuiet old c
     put e = record {
-      opens = λ f found.
-          found_again old c (good_file log is.spots) (subst (λ (x : Option (List ℕ)). IsScanned x (Good (good_file log is.spots))) (sym is.file) is.has.good)
-          (subst (λ (d : Folder). IsScanned (d name.Log) (Good (good_file log is.spots))) (sym e) good) (ap (λ (d : Folder). d name.Log2) e) (ap (λ (d : Folder). d name.Index) e) f found;
+      opens = λ f. (
+        λ found. found_again old c (good_file log is.spots) before (after e) (ap (λ (d : Folder). d name.Log2) e) (ap (λ (d : Folder). d name.Index) e) f found,
+        λ found. found_again c old (good_file log is.spots) (after e) before (sym (ap (λ (d : Folder). d name.Log2) e)) (sym (ap (λ (d : Folder). d name.Index) e)) f found,
+      );
+      named = λ indexid. (file_named old c (good_file log is.spots) before (after e) indexid, file_named c old (good_file log is.spots) (after e) before indexid);
       others = λ n other. ap (λ (d : Folder). d n) e ∙ with_else old name.Log (Some (mended log.bytes log.end)) n other;
     }

@@ -1,5 +1,5 @@
 -- What opening answers, and what it leaves of the folder.
-use Rattle.std.specs.Prelude.{◌≡◌, ◌≢◌, ◌⊎◌, ℕ, ◌*◌, ◌≤◌, List, [], length, Option, Some, None, Result, Ok, Err, IfSome, ⊤}
+use Rattle.std.specs.Prelude.{◌≡◌, ◌≢◌, ◌⊎◌, ◌↔◌, ℕ, ◌*◌, ◌≤◌, List, [], length, Option, Some, None, Result, Ok, Err, IfSome, ⊤}
 use Rattle.dv_model.specs.declared.types.Mailbox.{Mailbox}
 use Rattle.dv_model.specs.declared.types.Mark.{Mark}
 use Rattle.dv_model.specs.declared.types.OpenFault.{OpenFault}
@@ -13,6 +13,7 @@ use Rattle.dv_shelf.specs.Crashes.{FollowsNone, LeavesOnly}
 use Rattle.dv_logfile.specs.declared.commit.Debt.TheVariants as debt
 use Rattle.dv_logfile.specs.Layout.{last_end}
 use Rattle.dv_logfile.specs.Scans.{Spot, GoodLog, Scanned, Good, IsGood, IsScanned}
+use Rattle.dv_openings.specs.Numbers.{IsNamed}
 use Rattle.dv_openings.specs.Openings as found
 use Rattle.dv_openings.specs.Openings.{Found, Finds, IsFound, end_mark, IsIndex, Snapshot, mended, joining, counted}
 use Rattle.dv_apply.specs.States.{Held}
@@ -64,9 +65,11 @@ pub record HasBounds (chain : Chain) : Type 0 where
   pub count : 8 * chain.log.count ≤ chain.log.end
   pub named : 1 ≤ chain.indexid
 
--- the other folder opens to the same, and the files but the log are as they were
+-- the other folder opens to the same, of the mailbox of the same number, and the files but the log
+-- are as they were
 pub record IsQuiet (old new : Folder) : Type 0 where
-  pub opens : (f : Found) → IsFound old f → IsFound new f
+  pub opens : (f : Found) → IsFound old f ↔ IsFound new f
+  pub named : (indexid : ℕ) → IsNamed old indexid ↔ IsNamed new indexid
   pub others : (n : Name) → n ≢ name.Log → new n ≡ old n
 
 -- Behind Ok the log's end is mended, and nothing else is changed. A fault of the disk leaves a

@@ -12,6 +12,7 @@ use Rattle.dv_logfile.specs.declared.commit.Debt.TheVariants as debt
 use Rattle.dv_logfile.specs.declared.header.LogHeader.{LogHeader}
 use Rattle.dv_logfile.specs.Layout.{Begins, Spelled, closing, longest_log}
 use Rattle.dv_logfile.specs.Reading.{HasGroup, HasShutGate}
+use Rattle.dv_openings.specs.Numbers.{OpensAs}
 use Rattle.dv_openings.specs.Openings.{Finds, IsFound}
 use Rattle.dv_chain.specs.declared.chain.Chain.{Chain}
 use Rattle.dv_chain.specs.Openings.{HasBounds, found_of}
@@ -79,7 +80,7 @@ IsResting (Pending text after) chain c =
     Holds chain c × HasGroup chain.log.end text (contents c name.Log)
 IsResting (Last log after) chain c =
     (HoldsAlone chain c ⊎ (c name.Log ≡ Some log))
-    × IsFound (with_file c name.Log (Some log)) (Finds after (next_mark chain))
+    × OpensAs (with_file c name.Log (Some log)) chain.indexid (Finds after (next_mark chain))
 
 -- A chain is at rest where each folder that a crash now may leave is so; the files as they are read
 -- are one of these. It takes the shelf's member `may_leave`.

@@ -21,11 +21,13 @@ use Rattle.dv_logfile.proofs.Groups.{group_gate, group_some}
 use Rattle.dv_logfile.proofs.Logs.{closed_by, log_begins, log_grown, spelling_of}
 use Rattle.dv_logfile.proofs.Reading.{front_keeps, group_open, shut_closed}
 use Rattle.dv_logfile.proofs.Spots.{places_of}
+use Rattle.dv_openings.specs.Numbers.{OpensAs}
 use Rattle.dv_openings.specs.Openings.{Finds, Found, Gives, IsFound, spots_applied}
 use Rattle.dv_chain.specs.declared.chain.Chain.{Chain}
 use Rattle.dv_chain.specs.Openings.{HasBounds, found_of}
 use Rattle.dv_chain.specs.Rest.{Holds, HoldsAlone, IsPending, StandsOn, cut_at}
 use Rattle.dv_chain.proofs.Mended.{cut_at_end, cut_good, found_again}
+use Rattle.dv_chain.proofs.Named.{holds_as}
 use Rattle.dv_chain.proofs.Shelves.{log_put}
 use Rattle.dv_chain.proofs.Spots.{spots_give}
 use Rattle.dv_commits.specs.Commits.{KeepsOthers}
@@ -199,17 +201,17 @@ module _ (chain : Chain) (c : Folder) (holds : Holds chain c) where
         }
 
   -- a group may stand there
-  pub either_opens : (text : List ℕ) (after : Mailbox) → IsPending text after chain → HasGroup e text b → IsFound c (found_of chain) ⊎ IsFound c (Finds after (mark_behind text chain))
+  pub either_opens : (text : List ℕ) (after : Mailbox) → IsPending text after chain → HasGroup e text b → OpensAs c chain.indexid (found_of chain) ⊎ OpensAs c chain.indexid (Finds after (mark_behind text chain))
   either_opens text after pending group = ⊎_elim opened shut (cases_eq (slice_index b e) 128)
     where
       is_group : IsGroupText text
       is_group = record { records = pending.records; some = pending.some; spelled = pending.spelled }
 
-      opened : slice_index b e ≡ 128 → IsFound c (found_of chain) ⊎ IsFound c (Finds after (mark_behind text chain))
-      opened is = inr (group_opens text after pending (group_open e text b (group_some text is_group) (group_gate text is_group) group is))
+      opened : slice_index b e ≡ 128 → OpensAs c chain.indexid (found_of chain) ⊎ OpensAs c chain.indexid (Finds after (mark_behind text chain))
+      opened is = inr (holds_as chain c holds (Finds after (mark_behind text chain)) (group_opens text after pending (group_open e text b (group_some text is_group) (group_gate text is_group) group is)))
 
-      shut : (slice_index b e ≡ 128 → ⊥) → IsFound c (found_of chain) ⊎ IsFound c (Finds after (mark_behind text chain))
-      shut other = inl (alone_opens (group.0, other))
+      shut : (slice_index b e ≡ 128 → ⊥) → OpensAs c chain.indexid (found_of chain) ⊎ OpensAs c chain.indexid (Finds after (mark_behind text chain))
+      shut other = inl (holds_as chain c holds (found_of chain) (alone_opens (group.0, other)))
 
 -- ---- the log is written behind the chain's end
 

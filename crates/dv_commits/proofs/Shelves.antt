@@ -23,6 +23,7 @@ use Rattle.dv_logfile.proofs.Reading.{group_stays, shut_behind, shut_stays}
 use Rattle.dv_chain.specs.declared.chain.Chain.{Chain}
 use Rattle.dv_chain.specs.Openings.{HasBounds, found_of}
 use Rattle.dv_chain.specs.Rest.{Holds, HoldsAlone, IsPending, IsResting, Last, Nothing, Owed, Owes, Pending, Rests, cut_at}
+use Rattle.dv_chain.proofs.Named.{holds_as}
 use Rattle.dv_apply.specs.States.{Held}
 use Rattle.dv_openings.specs.Openings.{Finds, IsFound}
 use Rattle.dv_commits.specs.Commits.{CommitsGroup, HealsFolder, KeepsOthers, OpensBeside, healed, owed_after}
@@ -109,7 +110,7 @@ module _ {S : Type 0} (files : S → Folder) (may_leave : S → Folder → Type 
 
   since_opens : (d c : Folder) → may_leave old d → IsBeforeOrAfter d e text c → OpensBeside (Pending text after) chain d c
   since_opens d c left step =
-      ⊎_elim (λ shut. let is = kept_shut d c left shut in (shut.kept.others, inl (alone_opens chain c is.0 is.1)))
+      ⊎_elim (λ shut. let is = kept_shut d c left shut in (shut.kept.others, inl (holds_as chain c is.0 (found_of chain) (alone_opens chain c is.0 is.1))))
       (λ staged. let is = kept_staged d c left staged in (staged.kept.others, either_opens chain c is.0 text after pending is.1)) step
 
   module _ (log : LogFile) {T E : Type 0} (result : Result T E) (crash : LeavesGroup files may_leave moment left_since text chain.log log result old new) where

@@ -3,6 +3,7 @@ use Rattle.std.specs.Prelude.{◌≡◌, ◌⊎◌, ℕ, ◌+◌, ◌-◌, List,
 use Rattle.dv_model.specs.declared.types.Mark.{Mark}
 use Rattle.dv_shelf.specs.Folders.{Folder}
 use Rattle.dv_logfile.specs.Layout.{closing}
+use Rattle.dv_openings.specs.Numbers.{OpensAs}
 use Rattle.dv_openings.specs.Openings.{Finds, Found, IsFound}
 use Rattle.dv_chain.specs.declared.chain.Chain.{Chain}
 use Rattle.dv_chain.specs.Openings.{HasBounds, IsChainOf, found_of}
@@ -15,13 +16,15 @@ mark_behind text chain = record {
   offset = chain.log.end + length text - length closing;
 }
 
--- to the chain's mailbox at its mark, or to that with what is owed
+-- to the chain's mailbox at its mark, or to that with what is owed, of the chain's number
 abbrev pub MayOpen : Owed → Chain → Folder → Type 0
-MayOpen Nothing chain c = IsFound c (found_of chain)
+MayOpen Nothing chain c = OpensAs c chain.indexid (found_of chain)
 MayOpen (Pending text after) chain c =
-    IsFound c (found_of chain) ⊎ IsFound c (Finds after (mark_behind text chain))
+    OpensAs c chain.indexid (found_of chain)
+    ⊎ OpensAs c chain.indexid (Finds after (mark_behind text chain))
 MayOpen (Last log after) chain c =
-    IsFound c (found_of chain) ⊎ IsFound c (Finds after (next_mark chain))
+    OpensAs c chain.indexid (found_of chain)
+    ⊎ OpensAs c chain.indexid (Finds after (next_mark chain))
 
 -- whatever a crash leaves of a chain at rest opens so
 abbrev pub RestOpens : Type 0

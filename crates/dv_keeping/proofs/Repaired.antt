@@ -152,9 +152,9 @@ module _ {S : Type 0} (files : S → Folder) (may_leave : S → Folder → Type 
       let opens = weaker moment left_since old new (FromOneOf (may_leave old) (OpensBeside owed chain)) (MayOpen owed chain) heals.any_moment (λ c step. step.2.1) in
       let follows = follows_since moment left_since may_leave old new KeepsOthers now from in
       record {
-        since = gives_since may_leave log due chain old stands KeepsOthers kept due (λ c is. is) moment left_since new from opens;
-        ok = on_ok result (λ rests. stands_then may_leave log due chain old stands KeepsOthers kept Nothing (λ c is. tt) next new mailbox indexid (healed_rests fits rests) follows) heals.ok;
-        err = on_err result (λ rests. stands_then may_leave log due chain old stands KeepsOthers kept due (λ c is. is) next new mailbox indexid (owed_rests rests) follows) heals.err;
+        since = gives_since may_leave log due chain old stands KeepsOthers kept due (λ is. is) (λ c is. is) moment left_since new from opens;
+        ok = on_ok result (λ rests. stands_then may_leave log due chain old stands KeepsOthers kept Nothing (λ is. tt) (λ c is. tt) next new mailbox indexid (healed_rests fits rests) follows) heals.ok;
+        err = on_err result (λ rests. stands_then may_leave log due chain old stands KeepsOthers kept due (λ is. is) (λ c is. is) next new mailbox indexid (owed_rests rests) follows) heals.err;
       }
 
 -- ---- the last replace of a rotation
@@ -167,7 +167,7 @@ module _ {S : Type 0} (files : S → Folder) (may_leave : S → Folder → Type 
   finished : {T E : Type 0} (result : Result T E) → Stands may_leave log (Last turn.new) chain old → Leaves files may_leave moment left_since (Puts name.Log turn.new result) put old new → FinishesQuietly may_leave moment left_since turn chain next result old new
       → RepairsQuietly may_leave moment left_since log (Last turn.new) chain next result old new
   finished {T = T} {E = E} result stands leaves quiet = record {
-    since = gives_since may_leave log (Last turn.new) chain old stands put kept (Last turn.new) (λ c is. is) moment left_since new leaves.since quiet.since;
+    since = gives_since may_leave log (Last turn.new) chain old stands put kept (Last turn.new) (λ is. tt) (λ c is. is) moment left_since new leaves.since quiet.since;
     ok = ok result quiet.rests;
     err = err result quiet.rests;
   }
@@ -181,12 +181,12 @@ module _ {S : Type 0} (files : S → Folder) (may_leave : S → Folder → Type 
           (from.0, from.1, puts_either name.Log turn.new result from.0 c from.2)
 
       ok : (r : Result T E) → RestsFinished may_leave turn next new r → OnOk r (Stands may_leave log Nothing next new)
-      ok (Ok x) rests = stands_then may_leave log (Last turn.new) chain old stands put kept Nothing (λ c is. tt) next new (λ i. (live i).mailbox) indexid rests follows
+      ok (Ok x) rests = stands_then may_leave log (Last turn.new) chain old stands put kept Nothing (λ is. tt) (λ c is. tt) next new (λ i. (live i).mailbox) indexid rests follows
       ok (Err e) rests = tt
 
       err : (r : Result T E) → RestsFinished may_leave turn next new r → OnErr r (Stands may_leave log (Last turn.new) next new)
       err (Ok x) rests = tt
-      err (Err e) rests = stands_then may_leave log (Last turn.new) chain old stands put kept (Last turn.new) (λ c is. tt) next new (λ i. (live i).mailbox) indexid rests follows
+      err (Err e) rests = stands_then may_leave log (Last turn.new) chain old stands put kept (Last turn.new) (λ is. tt) (λ c is. tt) next new (λ i. (live i).mailbox) indexid rests follows
 
   pub finished_quiet : {T E : Type 0} (result : Result T E) (due : Debt) → Fits (Some turn) due → Stands may_leave log due chain old → Leaves files may_leave moment left_since (Puts name.Log turn.new result) put old new
       → (chain_rest.Rests may_leave (chain_rest.Last turn.new chain.live.mailbox) chain old → FinishesQuietly may_leave moment left_since turn chain next result old new) → RepairsQuietly may_leave moment left_since log due chain next result old new

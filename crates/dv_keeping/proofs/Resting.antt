@@ -1,33 +1,40 @@
 -- A store at rest, put together from its chain's being so and from the files that stay.
 use Rattle.std.proofs.Common.{◌≡◌, inl, inr, ⊎_elim, ℕ, sym, ◌∙◌, subst}
 use Rattle.dv_model.specs.declared.types.Mailbox.{Mailbox}
+use Rattle.dv_model.specs.declared.types.Mark.{Mark}
 use Rattle.dv_model.specs.Journals.{Log}
 use Rattle.dv_shelf.specs.Crashes.{Follows, LeavesOnly}
 use Rattle.dv_shelf.specs.Folders.{Folder}
 use Rattle.dv_logfile.specs.Gates.{FromOneOf}
+use Rattle.dv_openings.specs.Numbers.{HasIndexid, OpensAs}
+use Rattle.dv_openings.specs.Openings.{Finds}
 use Rattle.dv_chain.specs.declared.chain.Chain.{Chain}
-use Rattle.dv_chain.specs.Rest.{Rests}
-use Rattle.dv_commits.specs.Opening.{MayOpen}
+use Rattle.dv_chain.specs.Rest.{Rests, next_mark}
+use Rattle.dv_commits.specs.Opening.{MayOpen, mark_behind}
+use Rattle.dv_rotation.specs.Texts.{place_of}
 use Rattle.dv_commits.proofs.Resting.{may_open}
-use Rattle.dv_keeping.specs.Debts.{Debt, KeepsOwed, Last, MayGive, Nothing, Pending, Stands, owed_of}
-use Rattle.dv_keeping.specs.Keeping.{Keeps}
+use Rattle.dv_keeping.specs.Debts.{Debt, IsOwedOf, KeepsOwed, Last, MayGive, Nothing, Pending, Stands, owed_of}
+use Rattle.dv_keeping.specs.Keeping.{Gives, Keeps}
 use Rattle.dv_keeping.specs.Laws.{RestGives, SameMessages}
 use Rattle.dv_keeping.proofs.Kept.{KeepsMessages, kept_same, same_messages}
 
 -- ---- what a folder gives
 
+pub gives_as : (log : Log) (m : Mailbox) (mark : Mark) (chain : Chain) (c : Folder) → log.indexid ≡ chain.indexid → OpensAs c chain.indexid (Finds m mark) → Keeps log m c → Gives log m mark c
+gives_as log m mark chain c same opens keeps = record { opens = opens.found; named = subst (HasIndexid c) (sym same) opens.named; keeps = keeps }
+
 -- it opens so, and keeps what is to be kept
-pub gives_so : (log : Log) (debt : Debt) (chain : Chain) (c : Folder) → MayOpen (owed_of chain.live.mailbox debt) chain c → Keeps log chain.live.mailbox c → KeepsOwed debt c → MayGive log debt chain c
-gives_so log Nothing chain c opens keeps owed = record { opens = opens; keeps = keeps }
-gives_so log (Pending text after written) chain c opens keeps owed =
-    ⊎_elim (λ found. inl (record { opens = found; keeps = keeps })) (λ found. inr (record { opens = found; keeps = owed })) opens
-gives_so log (Last new) chain c opens keeps owed =
-    ⊎_elim (λ found. inl (record { opens = found; keeps = keeps })) (λ found. inr (record { opens = found; keeps = keeps })) opens
+pub gives_so : (log : Log) (debt : Debt) (chain : Chain) (c : Folder) → log.indexid ≡ chain.indexid → IsOwedOf log debt → MayOpen (owed_of chain.live.mailbox debt) chain c → Keeps log chain.live.mailbox c → KeepsOwed debt c → MayGive log debt chain c
+gives_so log Nothing chain c named of opens keeps owed = gives_as log chain.live.mailbox (place_of chain) chain c named opens keeps
+gives_so log (Pending text after written) chain c named of opens keeps owed =
+    ⊎_elim (λ found. inl (gives_as log chain.live.mailbox (place_of chain) chain c named found keeps)) (λ found. inr (gives_as written after (mark_behind text chain) chain c (of ∙ named) found owed)) opens
+gives_so log (Last new) chain c named of opens keeps owed =
+    ⊎_elim (λ found. inl (gives_as log chain.live.mailbox (place_of chain) chain c named found keeps)) (λ found. inr (gives_as log chain.live.mailbox (next_mark chain) chain c named found keeps)) opens
 
 pub rests_give : {S : Type 0} (may_leave : S → Folder → Type 0) → RestGives may_leave
 rests_give may_leave log debt chain shelf c stands left =
     let owed = owed_of chain.live.mailbox debt in
-    gives_so log debt chain c (may_open owed chain c stands.rests.owes (stands.rests.each c left)) (stands.keeps c left) (stands.owed c left)
+    gives_so log debt chain c stands.named stands.written (may_open owed chain c stands.rests.owes (stands.rests.each c left)) (stands.keeps c left) (stands.owed c left)
 
 -- ---- steps that leave what is kept
 
@@ -68,7 +75,7 @@ module _ {S : Type 0} (moment : S → ℕ) (left_since : S → ℕ → Folder �
 -- ---- a call
 
 module _ {S : Type 0} (may_leave : S → Folder → Type 0) (log : Log) (debt : Debt) (chain : Chain) (old : S) (stands : Stands may_leave log debt chain old) (step : Folder → Folder → Type 0) (kept : LeavesKept chain.live.mailbox debt step)
-    (given : Debt) (owes : (c : Folder) → KeepsOwed debt c → KeepsOwed given c) where
+    (given : Debt) (of : IsOwedOf log debt → IsOwedOf log given) (owes : (c : Folder) → KeepsOwed debt c → KeepsOwed given c) where
   still_keeps : (d c : Folder) → may_leave old d → step d c → Keeps log chain.live.mailbox c
   still_keeps d c left is = kept_same log chain.live.mailbox d c (kept.same d c is) (stands.keeps d left)
 
@@ -79,6 +86,7 @@ module _ {S : Type 0} (may_leave : S → Folder → Type 0) (log : Log) (debt : 
   pub stands_then : (next : Chain) (new : S) → next.live.mailbox ≡ chain.live.mailbox → next.indexid ≡ chain.indexid → Rests may_leave (owed_of next.live.mailbox given) next new → Follows step (may_leave old) (may_leave new) → Stands may_leave log given next new
   stands_then next new mailbox indexid rests follows = record {
     named = stands.named ∙ sym indexid;
+    written = of stands.written;
     rests = rests;
     keeps = λ c left.
         let from = follows c left in
@@ -93,4 +101,4 @@ module _ {S : Type 0} (may_leave : S → Folder → Type 0) (log : Log) (debt : 
       → LeavesOnly moment left_since old new (MayGive log given chain)
   gives_since moment left_since new since opens =
       both_only moment left_since old new (FromOneOf (may_leave old) step) (MayOpen (owed_of chain.live.mailbox given) chain) (MayGive log given chain) since opens
-      (λ c from found. gives_so log given chain c found (still_keeps from.0 c from.1 from.2) (still_owed from.0 c from.1 from.2))
+      (λ c from found. gives_so log given chain c stands.named (of stands.written) found (still_keeps from.0 c from.1 from.2) (still_owed from.0 c from.1 from.2))

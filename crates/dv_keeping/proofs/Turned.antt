@@ -9,7 +9,7 @@ use Rattle.dv_rotation.specs.declared.fault.TurnEnd.TheVariants as end
 use Rattle.dv_rotation.specs.declared.texts.Turn.{Turn}
 use Rattle.dv_rotation.specs.Leavings.{IsTurning, Leaves, Turns}
 use Rattle.dv_rotation.specs.Quiet.{TurnsQuietly}
-use Rattle.dv_keeping.specs.Debts.{KeepsOwed, Last, Nothing, Stands, debt_of, owed_of}
+use Rattle.dv_keeping.specs.Debts.{IsOwedOf, KeepsOwed, Last, Nothing, Stands, debt_of, owed_of}
 use Rattle.dv_keeping.specs.Turning.{TurnsOverQuietly}
 use Rattle.dv_keeping.proofs.Kept.{beside_turn}
 use Rattle.dv_keeping.proofs.Resting.{follows_since, gives_since, leaves_messages, stands_then}
@@ -24,10 +24,14 @@ module _ {S : Type 0} (files : S → Folder) (may_leave : S → Folder → Type 
       let kept = leaves_messages chain.live.mailbox Nothing (IsTurning turn) (λ d c step. beside_turn turn d c step) in
       let follows = follows_since moment left_since may_leave old new (IsTurning turn) now leaves.since in
       record {
-        since = gives_since may_leave log Nothing chain old stands (IsTurning turn) kept (Last turn.new) (λ c is. tt) moment left_since new leaves.since quiet.since;
-        stands = stands_then may_leave log Nothing chain old stands (IsTurning turn) kept (debt_of left) (by_left left) next new (λ i. (live i).mailbox) indexid rests follows;
+        since = gives_since may_leave log Nothing chain old stands (IsTurning turn) kept (Last turn.new) (λ is. tt) (λ c is. tt) moment left_since new leaves.since quiet.since;
+        stands = stands_then may_leave log Nothing chain old stands (IsTurning turn) kept (debt_of left) (λ is. of_left left) (by_left left) next new (λ i. (live i).mailbox) indexid rests follows;
       }
     where
+      of_left : (t : Option Turn) → IsOwedOf log (debt_of t)
+      of_left None = tt
+      of_left (Some t) = tt
+
       by_left : (t : Option Turn) (c : Folder) → KeepsOwed Nothing c → KeepsOwed (debt_of t) c
       by_left None c is = tt
       by_left (Some t) c is = tt

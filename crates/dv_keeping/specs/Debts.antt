@@ -44,11 +44,18 @@ KeepsOwed Nothing c = ⊤
 KeepsOwed (Pending text after written) c = Keeps written after c
 KeepsOwed (Last new) c = ⊤
 
+-- the log with the pending group's message is of the same mailbox
+abbrev pub IsOwedOf : Log → Debt → Type 0
+IsOwedOf log Nothing = ⊤
+IsOwedOf log (Pending text after written) = written.indexid ≡ log.indexid
+IsOwedOf log (Last new) = ⊤
+
 -- A store is at rest: its chain is, and each folder that a crash now may leave keeps the mailbox,
 -- and that with what is owed. It takes the shelf's member `may_leave`.
 pub record Stands {S : Type 0} (may_leave : S → Folder → Type 0) (log : Log) (debt : Debt)
     (chain : Chain) (shelf : S) : Type 0 where
   pub named : log.indexid ≡ chain.indexid
+  pub written : IsOwedOf log debt
   pub rests : Rests may_leave (owed_of chain.live.mailbox debt) chain shelf
   pub keeps : (c : Folder) → may_leave shelf c → Keeps log chain.live.mailbox c
   pub owed : (c : Folder) → may_leave shelf c → KeepsOwed debt c

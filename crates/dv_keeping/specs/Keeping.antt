@@ -6,6 +6,7 @@ use Rattle.dv_model.specs.declared.types.Mark.{Mark}
 use Rattle.dv_model.specs.declared.types.Row.{Row}
 use Rattle.dv_model.specs.Journals.{Log}
 use Rattle.dv_shelf.specs.Folders.{Folder}
+use Rattle.dv_openings.specs.Numbers.{HasIndexid}
 use Rattle.dv_openings.specs.Openings.{Finds, IsFound}
 use Rattle.dv_openings.specs.TrueCaches.{HasTrueCache}
 use Rattle.dv_mails.specs.Reading.{guid_at, mail_at}
@@ -20,7 +21,8 @@ pub record Keeps (log : Log) (m : Mailbox) (c : Folder) : Type 0 where
   pub messages : (row : Row) → Contains m.rows row → HasMessage log row.uid c
   pub cache : HasTrueCache c log.indexid m
 
--- the folder opens to that mailbox at that mark, and keeps it
+-- the folder opens to that mailbox, of the log's number, at that mark, and keeps it
 pub record Gives (log : Log) (m : Mailbox) (mark : Mark) (c : Folder) : Type 0 where
   pub opens : IsFound c (Finds m mark)
+  pub named : HasIndexid c log.indexid
   pub keeps : Keeps log m c

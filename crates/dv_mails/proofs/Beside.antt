@@ -9,10 +9,12 @@ use Rattle.dv_shelf.proofs.Moments.{weaker}
 use Rattle.dv_logfile.specs.Gates.{FromOneOf}
 use Rattle.dv_logfile.specs.Layout.{Begins, closing}
 use Rattle.dv_logfile.specs.Reading.{HasGroup, HasShutGate}
+use Rattle.dv_openings.specs.Numbers.{OpensAs}
 use Rattle.dv_openings.specs.Openings.{Found, IfGood, IsFound, IsIndex}
 use Rattle.dv_logfile.specs.Scans.{IsScanned}
 use Rattle.dv_chain.specs.declared.chain.Chain.{Chain}
 use Rattle.dv_chain.specs.Rest.{Holds, HoldsAlone, IsResting, Last, Nothing, Owed, Pending, Rests, StandsOn, cut_at}
+use Rattle.dv_chain.proofs.Named.{same_named}
 use Rattle.dv_rotation.specs.Leavings.{IsPut, Leaves}
 use Rattle.dv_mails.specs.Quiet.{KeepsRest}
 use Rattle.dv_mails.specs.Writing.{IsSwept, mail_names}
@@ -87,12 +89,15 @@ module _ (chain : Chain) (old new : Folder) (same : KeepsIndex old new) where
   alone_beside : HoldsAlone chain old → HoldsAlone chain new
   alone_beside alone = (holds_beside alone.0, subst (λ (b : List ℕ). HasShutGate chain.log.end b) text_beside alone.1)
 
+  named_beside : (number : ℕ) (o n : Folder) (f : Found) → KeepsIndex o n → OpensAs o number f → OpensAs n number f
+  named_beside number o n f index is = record { found = found_beside o n f index is.found; named = same_named o n index.log number is.named }
+
   pub resting_beside : (owed : Owed) → IsResting owed chain old → IsResting owed chain new
   resting_beside Nothing alone = alone_beside alone
   resting_beside (Pending text after) rest = (holds_beside rest.0, subst (λ (b : List ℕ). HasGroup chain.log.end text b) text_beside rest.1)
   resting_beside (Last log after) rest = (
     ⊎_elim (λ alone. inl (alone_beside alone)) (λ there. inr (same.log ∙ there)) rest.0,
-    found_beside (with_file old name.Log (Some log)) (with_file new name.Log (Some log)) _ (record { index = same.index; log = refl; log2 = same.log2 }) rest.1,
+    named_beside chain.indexid (with_file old name.Log (Some log)) (with_file new name.Log (Some log)) _ (record { index = same.index; log = refl; log2 = same.log2 }) rest.1,
   )
 
 -- ---- a call

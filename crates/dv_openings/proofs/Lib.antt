@@ -1,2 +1,3 @@
 pub mod FoundOnce
+pub mod Numbers
 pub mod Cached

@@ -1,5 +1,5 @@
 -- A call whose steps keep what a folder has of a store at rest is quiet.
-use Rattle.std.proofs.Common.{ℕ}
+use Rattle.std.proofs.Common.{◌≡◌, ℕ}
 use Rattle.dv_model.specs.Journals.{Log}
 use Rattle.dv_shelf.specs.Folders.{Folder}
 use Rattle.dv_shelf.proofs.Moments.{joined, weaker}
@@ -9,8 +9,10 @@ use Rattle.dv_chain.specs.Rest as rest
 use Rattle.dv_chain.specs.Rest.{IsResting, Owes}
 use Rattle.dv_commits.proofs.Resting.{may_open}
 use Rattle.dv_rotation.specs.Leavings.{Leaves}
+use Rattle.dv_rotation.specs.Texts.{place_of}
 use Rattle.dv_keeping.specs.Debts.{MayGive, Nothing, Stands}
 use Rattle.dv_keeping.specs.Keeping.{Keeps}
+use Rattle.dv_keeping.proofs.Resting.{gives_as}
 use Rattle.dv_phases.specs.Quiet.{IsQuiet}
 
 -- what each folder has that a crash may leave of a store that owes nothing
@@ -18,8 +20,8 @@ pub record HasAll (log : Log) (chain : Chain) (c : Folder) : Type 0 where
   pub rest : IsResting rest.Nothing chain c
   pub keeps : Keeps log chain.live.mailbox c
 
-pub all_gives : (log : Log) (chain : Chain) (c : Folder) → Owes chain rest.Nothing → HasAll log chain c → MayGive log Nothing chain c
-all_gives log chain c owes has = record { opens = may_open rest.Nothing chain c owes has.rest; keeps = has.keeps }
+pub all_gives : (log : Log) (chain : Chain) (c : Folder) → log.indexid ≡ chain.indexid → Owes chain rest.Nothing → HasAll log chain c → MayGive log Nothing chain c
+all_gives log chain c named owes has = gives_as log chain.live.mailbox (place_of chain) chain c named (may_open rest.Nothing chain c owes has.rest) has.keeps
 
 module _ {S : Type 0} (files : S → Folder) (may_leave : S → Folder → Type 0) (moment : S → ℕ) (left_since : S → ℕ → Folder → Type 0) (log : Log) (chain : Chain) where
   pub stands_all : (old : S) → Stands may_leave log Nothing chain old → (c : Folder) → may_leave old c → HasAll log chain c
@@ -29,9 +31,10 @@ module _ {S : Type 0} (files : S → Folder) (may_leave : S → Folder → Type 
       → Leaves files may_leave moment left_since behind at_any old new → Stands may_leave log Nothing chain old → IsQuiet may_leave moment left_since log chain old new
   quiet_steps old new behind at_any late early leaves stands = record {
     any_moment = weaker moment left_since old new (FromOneOf (may_leave old) at_any) (MayGive log Nothing chain) leaves.since
-        (λ c from. all_gives log chain c stands.rests.owes (early from.0 c from.2 (stands_all old stands from.0 from.1)));
+        (λ c from. all_gives log chain c stands.named stands.rests.owes (early from.0 c from.2 (stands_all old stands from.0 from.1)));
     stands = record {
       named = stands.named;
+      written = tt {0};
       rests = record { bounds = stands.rests.bounds; owes = stands.rests.owes; each = λ c left. (has c left).rest };
       keeps = λ c left. (has c left).keeps;
       owed = λ c left. tt {0};

@@ -13,10 +13,13 @@ use Rattle.dv_chain.specs.Rest as rest
 use Rattle.dv_chain.specs.Rest.{IsPending, Rests}
 use Rattle.dv_commits.specs.declared.committing.Committed.{Committed}
 use Rattle.dv_commits.specs.Commits.{AdvancesChain, CommitsGroup, OpensBeside, owed_after}
+use Rattle.dv_commits.specs.Opening.{mark_behind}
+use Rattle.dv_rotation.specs.Texts.{place_of}
 use Rattle.dv_keeping.specs.Debts.{MayGive, Nothing, Pending, Stands}
 use Rattle.dv_keeping.specs.Keeping.{Keeps}
 use Rattle.dv_phases.specs.Groups.{KeepsNext, WritesGroup, debt_after}
 use Rattle.dv_keeping.proofs.Kept.{beside_log, kept_same, same_messages}
+use Rattle.dv_keeping.proofs.Resting.{gives_as}
 
 module _ {S : Type 0} (files : S → Folder) (may_leave : S → Folder → Type 0) (moment : S → ℕ) (left_since : S → ℕ → Folder → Type 0)
     (text : List ℕ) (log written : Log) (after : Mailbox) (chain next : Chain) (old new : S) (stands : Stands may_leave log Nothing chain old)
@@ -37,11 +40,12 @@ module _ {S : Type 0} (files : S → Folder) (may_leave : S → Folder → Type 
   gives c from =
       let one = kept_same log m from.0 c (same_messages m from.0 c (beside_log from.0 c from.2.0)) (stands.keeps from.0 from.1) in
       let other = kept_same written after from.0 c (same_messages after from.0 c (beside_log from.0 c from.2.0)) (keeps_next.keeps from.0 from.1) in
-      ⊎_elim (λ opens. inl (record { opens = opens; keeps = one })) (λ opens. inr (record { opens = opens; keeps = other })) from.2.1
+      ⊎_elim (λ opens. inl (gives_as log m (place_of chain) chain c stands.named opens one)) (λ opens. inr (gives_as written after (mark_behind text chain) chain c (keeps_next.named ∙ stands.named) opens other)) from.2.1
 
   ok_by : (r : Result Committed E) → AdvancesChain text chain next r → OnOk r (Rests may_leave rest.Nothing next new) → OnOk r (Stands may_leave written Nothing next new)
   ok_by (Ok x) value rests = record {
     named = keeps_next.named ∙ stands.named ∙ sym value.file.1;
+    written = tt {0};
     rests = rests;
     keeps = λ c left. subst (λ (k : Mailbox). Keeps written k c) (sym (value.mailbox after pending)) (kept c left).1;
     owed = λ c left. tt {0};
@@ -51,12 +55,14 @@ module _ {S : Type 0} (files : S → Folder) (may_leave : S → Folder → Type 
   err_debt : (debt : LogDebt) → next.live ≡ chain.live → Rests may_leave (owed_after debt text after) next new → Stands may_leave log (debt_after debt text after written) next new
   err_debt log_debt.None same rests = record {
     named = stands.named ∙ sym value.file.1;
+    written = tt {0};
     rests = rests;
     keeps = λ c left. subst (λ (l : Held). Keeps log l.mailbox c) (sym same) (kept c left).0;
     owed = λ c left. tt {0};
   }
   err_debt log_debt.Gate same rests = record {
     named = stands.named ∙ sym value.file.1;
+    written = keeps_next.named;
     rests = rests;
     keeps = λ c left. subst (λ (l : Held). Keeps log l.mailbox c) (sym same) (kept c left).0;
     owed = λ c left. (kept c left).1;

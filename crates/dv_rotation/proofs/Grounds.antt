@@ -16,6 +16,8 @@ use Rattle.dv_chain.specs.declared.chain.Chain.{Chain}
 use Rattle.dv_chain.specs.Openings.{found_of}
 use Rattle.dv_chain.specs.Rest.{Holds, HoldsAlone, cut_at}
 use Rattle.dv_chain.proofs.Mended.{ends_of, found_again}
+use Rattle.dv_chain.proofs.Named.{holds_as}
+use Rattle.dv_rotation.specs.Quiet.{Opens}
 use Rattle.dv_rotation.specs.Texts.{IsSnapshotOf, closed_at, place_of}
 use Rattle.dv_rotation.proofs.Empty.{HasNumber, found_end}
 use Rattle.dv_rotation.proofs.Resumed.{IsSnapshotAt, opens_at_end}
@@ -123,6 +125,9 @@ module _ (chain : Chain) where
       let g = ground d alone.0 in
       let there = some_there (d name.Log) chain.log.end alone.1.0 in
       found_again (cut_at chain.log.end d) d g.log g.good (subst (λ (x : Option (List ℕ)). IsScanned x (Good g.log)) (sym there) (alone_good d alone)) refl refl (found_of chain) alone.0.opens
+
+  pub alone_opens : (d : Folder) → HoldsAlone chain d → Opens chain d
+  alone_opens d alone = holds_as chain d alone.0 (found_of chain) (alone_found d alone)
 
   -- with the chain's snapshot, and whatever rotated log, it rests too
   pub alone_with : (d c : Folder) → HoldsAlone chain d → c name.Log ≡ d name.Log → (text : List ℕ) → IsSnapshotOf chain text → c name.Index ≡ Some text → (rotated : Scanned) → IsScanned (c name.Log2) rotated → HoldsAlone chain c

@@ -6,6 +6,7 @@ use Rattle.dv_shelf.specs.Folders.{Folder, with_file}
 use Rattle.dv_shelf.proofs.FolderLemmas.{with_same}
 use Rattle.dv_shelf.proofs.Moments.{weaker}
 use Rattle.dv_logfile.proofs.Patches.{written_again}
+use Rattle.dv_openings.specs.Numbers.{OpensAs}
 use Rattle.dv_openings.specs.Openings.{Finds, IsFound}
 use Rattle.dv_chain.specs.declared.chain.Chain.{Chain}
 use Rattle.dv_chain.specs.Openings.{HasBounds, OnlyLooks}
@@ -16,7 +17,7 @@ use Rattle.dv_rotation.specs.declared.texts.Turn.{Turn}
 use Rattle.dv_rotation.specs.Leavings.{IsPut, IsTurning, Leaves, Puts, Turns, with_new}
 use Rattle.dv_rotation.specs.Quiet.{FinishesQuietly, Opens, OpensEither, RestsFinished, RestsTurned, StaysAtRest, TurnsQuietly}
 use Rattle.dv_rotation.specs.Texts.{Advances, ClosesLog, IsSnapshotOf, IsTurnOf, turned}
-use Rattle.dv_rotation.proofs.Grounds.{alone_found}
+use Rattle.dv_rotation.proofs.Grounds.{alone_opens}
 use Rattle.dv_rotation.proofs.Replacing.{puts_either}
 use Rattle.dv_rotation.proofs.Turned.{alone_before, alone_new, alone_put, found_new, opens_turning, rests_last}
 
@@ -32,7 +33,7 @@ module _ {S : Type 0} (files : S → Folder) (may_leave : S → Folder → Type 
   pub put_quiet : {T E : Type 0} (chain : Chain) (text : List ℕ) (result : Result T E) (old new : S) → IsSnapshotOf chain text → Rests may_leave Nothing chain old
       → Leaves files may_leave moment left_since (Puts name.Index text result) (IsPut name.Index text) old new → StaysAtRest may_leave moment left_since chain old new
   put_quiet chain text result old new is rests leaves = record {
-    since = weaker moment left_since old new _ (Opens chain) leaves.since (λ c from. alone_found chain c (alone_put chain text is from.0 (rests.each from.0 from.1) c from.2));
+    since = weaker moment left_since old new _ (Opens chain) leaves.since (λ c from. alone_opens chain c (alone_put chain text is from.0 (rests.each from.0 from.1) c from.2));
     rests = record {
       bounds = rests.bounds;
       owes = rests.owes;
@@ -50,7 +51,7 @@ module _ {S : Type 0} (files : S → Folder) (may_leave : S → Folder → Type 
     next_rests : (new : S) → Rests may_leave Nothing (turned chain) new → (next : Chain) → next ≡ turned chain → Rests may_leave Nothing next new
     next_rests new rests next e = subst (λ (x : Chain). Rests may_leave Nothing x new) (sym e) rests
 
-    next_opens : (c : Folder) → IsFound c (Finds m (next_mark chain)) → (next : Chain) → next ≡ turned chain → Opens next c
+    next_opens : (c : Folder) → OpensAs c chain.indexid (Finds m (next_mark chain)) → (next : Chain) → next ≡ turned chain → Opens next c
     next_opens c found next e = subst (λ (x : Chain). Opens x c) (sym e) found
 
     -- a rotation
@@ -68,8 +69,8 @@ module _ {S : Type 0} (files : S → Folder) (may_leave : S → Folder → Type 
         held : HoldsAlone chain seen
         held = rests.each seen here
 
-        is_new : (c d : Folder) → c ≡ with_new turn d → IsFound c (Finds m (next_mark chain))
-        is_new c d e = subst (λ (f : Folder). IsFound f (Finds m (next_mark chain))) (sym e) (found_new chain turn is room seen held closes d)
+        is_new : (c d : Folder) → c ≡ with_new turn d → OpensAs c chain.indexid (Finds m (next_mark chain))
+        is_new c d e = subst (λ (f : Folder). OpensAs f chain.indexid (Finds m (next_mark chain))) (sym e) (found_new chain turn is room seen held closes d)
 
         finds : (r : Result T TurnEnd) → Advances chain next r → ((c : Folder) → may_leave new c → (d : Folder) × may_leave old d × Turns turn r d c) → OnOk r ((c : Folder) → may_leave new c → Opens next c)
         finds (Ok x) e crash = λ c left.
@@ -84,7 +85,7 @@ module _ {S : Type 0} (files : S → Folder) (may_leave : S → Folder → Type 
               owes = rests.owes;
               each = λ c left.
                   let from = crash c left in
-                  alone_new chain turn is room c (ap (λ (f : Folder). f name.Log) from.2) (is_new c from.0 from.2);
+                  alone_new chain turn is room c (ap (λ (f : Folder). f name.Log) from.2) (is_new c from.0 from.2).found;
             }) next e
         rested (Err end.Before) e crash =
             subst (λ (x : Chain). Rests may_leave Nothing x new) (sym e) (record {
@@ -107,19 +108,19 @@ module _ {S : Type 0} (files : S → Folder) (may_leave : S → Folder → Type 
 
     module _ (d : Folder) (resting : IsResting (Last turn.new m) chain d) where
       last_opens : (c : Folder) → IsPut name.Log turn.new d c → OpensEither chain c
-      last_opens c put = ⊎_elim (λ e. subst (OpensEither chain) (sym e) here) (λ e. inr (subst (λ (f : Folder). IsFound f (Finds m (next_mark chain))) (sym e) resting.1)) put
+      last_opens c put = ⊎_elim (λ e. subst (OpensEither chain) (sym e) here) (λ e. inr (subst (λ (f : Folder). OpensAs f chain.indexid (Finds m (next_mark chain))) (sym e) resting.1)) put
         where
           here : OpensEither chain d
           here =
-              ⊎_elim (λ alone. inl (alone_found chain d alone))
-              (λ e. inr (subst (λ (f : Folder). IsFound f (Finds m (next_mark chain))) (sym (ap (with_file d name.Log) e) ∙ with_same d name.Log) resting.1))
+              ⊎_elim (λ alone. inl (alone_opens chain d alone))
+              (λ e. inr (subst (λ (f : Folder). OpensAs f chain.indexid (Finds m (next_mark chain))) (sym (ap (with_file d name.Log) e) ∙ with_same d name.Log) resting.1))
               resting.0
 
       last_rests : (c : Folder) → IsPut name.Log turn.new d c → IsResting (Last turn.new m) chain c
       last_rests c put =
           let P : Folder → Type 0 = IsResting (Last turn.new m) chain in
           ⊎_elim (λ e. subst P (sym e) resting)
-          (λ e. subst P (sym e) (inr refl, subst (λ (f : Folder). IsFound f (Finds m (next_mark chain))) (sym (written_again d (Some turn.new) (Some turn.new))) resting.1)) put
+          (λ e. subst P (sym e) (inr refl, subst (λ (f : Folder). OpensAs f chain.indexid (Finds m (next_mark chain))) (sym (written_again d (Some turn.new) (Some turn.new))) resting.1)) put
 
     pub finished_quiet : {T E : Type 0} (result : Result T E) (next : Chain) (old new : S) → Advances chain next result → Rests may_leave (Last turn.new m) chain old
         → Leaves files may_leave moment left_since (Puts name.Log turn.new result) (IsPut name.Log turn.new) old new → FinishesQuietly may_leave moment left_since turn chain next result old new
@@ -129,8 +130,8 @@ module _ {S : Type 0} (files : S → Folder) (may_leave : S → Folder → Type 
       rests = rested result advances leaves.crash;
     }
       where
-        is_new : (c d : Folder) → may_leave old d → c ≡ with_file d name.Log (Some turn.new) → IsFound c (Finds m (next_mark chain))
-        is_new c d left e = subst (λ (f : Folder). IsFound f (Finds m (next_mark chain))) (sym e) (rests.each d left).1
+        is_new : (c d : Folder) → may_leave old d → c ≡ with_file d name.Log (Some turn.new) → OpensAs c chain.indexid (Finds m (next_mark chain))
+        is_new c d left e = subst (λ (f : Folder). OpensAs f chain.indexid (Finds m (next_mark chain))) (sym e) (rests.each d left).1
 
         finds : (r : Result T E) → Advances chain next r → ((c : Folder) → may_leave new c → (d : Folder) × may_leave old d × Puts name.Log turn.new r d c) → OnOk r ((c : Folder) → may_leave new c → Opens next c)
         finds (Ok x) e crash = λ c left.
@@ -145,7 +146,7 @@ module _ {S : Type 0} (files : S → Folder) (may_leave : S → Folder → Type 
               owes = rests.owes;
               each = λ c left.
                   let from = crash c left in
-                  alone_new chain turn is room c (ap (λ (f : Folder). f name.Log) from.2) (is_new c from.0 from.1 from.2);
+                  alone_new chain turn is room c (ap (λ (f : Folder). f name.Log) from.2) (is_new c from.0 from.1 from.2).found;
             }) next e
         rested (Err fault) e crash =
             subst (λ (x : Chain). Rests may_leave (Last turn.new x.live.mailbox) x new) (sym e) (record {

@@ -13,14 +13,16 @@ use Rattle.dv_logfile.specs.Reading.{HasShutGate}
 use Rattle.dv_logfile.specs.Scans.{GoodLog, IsGood, Good}
 use Rattle.dv_logfile.proofs.Logs.{log_begins, written_log}
 use Rattle.dv_logfile.proofs.Reading.{written_gate}
+use Rattle.dv_openings.specs.Numbers.{OpensAs}
 use Rattle.dv_openings.specs.Openings.{Finds, IsFound}
 use Rattle.dv_chain.specs.declared.chain.Chain.{Chain}
 use Rattle.dv_chain.specs.Rest.{HoldsAlone, IsResting, Last, next_mark}
+use Rattle.dv_chain.proofs.Named.{holds_as}
 use Rattle.dv_rotation.specs.declared.texts.Turn.{Turn}
 use Rattle.dv_rotation.specs.Leavings.{IsBeforeLast, IsPut, IsTurning, with_new, with_old}
 use Rattle.dv_rotation.specs.Quiet.{OpensEither}
 use Rattle.dv_rotation.specs.Texts.{ClosesLog, IsSnapshotOf, IsTurnOf, next_header, next_log, turned}
-use Rattle.dv_rotation.proofs.Grounds.{Ground, alone_found, alone_with, closed_long, ground, snapshot_there}
+use Rattle.dv_rotation.proofs.Grounds.{Ground, alone_opens, alone_with, closed_long, ground, snapshot_there}
 use Rattle.dv_rotation.proofs.Resumed.{IsNext, opens_next}
 
 -- ---- the snapshot alone
@@ -101,6 +103,10 @@ module _ (chain : Chain) (turn : Turn) (is : IsTurnOf chain turn) (room : chain.
         subst (HasShutGate 40) there (written_gate (next_header chain is.now) []),
       )
 
+  -- so it is of the chain's number
+  new_opens : (c : Folder) → c name.Log ≡ Some turn.new → IsFound c (Finds m (next_mark chain)) → OpensAs c chain.indexid (Finds m (next_mark chain))
+  new_opens c log found = holds_as (turned chain) c (alone_new c log found).0 (Finds m (next_mark chain)) found
+
   -- ---- the folders in turn
 
   -- the old log is that of a folder that holds the chain
@@ -116,10 +122,11 @@ module _ (chain : Chain) (turn : Turn) (is : IsTurnOf chain turn) (room : chain.
     pub alone_old : (d : Folder) → HoldsAlone chain d → HoldsAlone chain (with_old turn d)
     alone_old d alone = alone_with chain d (with_old turn d) alone refl turn.index is.index refl (Good old_log) old_good
 
-    pub found_new : (d : Folder) → IsFound (with_new turn d) (Finds m (next_mark chain))
+    pub found_new : (d : Folder) → OpensAs (with_new turn d) chain.indexid (Finds m (next_mark chain))
     found_new d =
         let g = ground chain seen held.0 in
-        opens_next g.log next_good m g.number (next_follows seen g) (with_new turn d) turn.index turn.old next_is_good refl (snapshot_there chain seen g turn.index is.index) old_good old_good
+        new_opens (with_new turn d) refl
+        (opens_next g.log next_good m g.number (next_follows seen g) (with_new turn d) turn.index turn.old next_is_good refl (snapshot_there chain seen g turn.index is.index) old_good old_good)
 
     pub alone_before : (d c : Folder) → HoldsAlone chain d → IsBeforeLast turn d c → HoldsAlone chain c
     alone_before d c alone step =
@@ -128,13 +135,13 @@ module _ (chain : Chain) (turn : Turn) (is : IsTurnOf chain turn) (room : chain.
 
     pub opens_turning : (d c : Folder) → HoldsAlone chain d → IsTurning turn d c → OpensEither chain c
     opens_turning d c alone step =
-        ⊎_elim (λ before. inl (alone_found chain c (alone_before d c alone before)))
-        (λ e. inr (subst (λ (f : Folder). IsFound f (Finds m (next_mark chain))) (sym e) (found_new d))) step
+        ⊎_elim (λ before. inl (alone_opens chain c (alone_before d c alone before)))
+        (λ e. inr (subst (λ (f : Folder). OpensAs f chain.indexid (Finds m (next_mark chain))) (sym e) (found_new d))) step
 
     pub rests_last : (d c : Folder) → HoldsAlone chain d → IsPut name.Log turn.new (with_old turn d) c → IsResting (Last turn.new m) chain c
     rests_last d c alone put =
         let P : Folder → Type 0 = IsResting (Last turn.new m) chain in
         ⊎_elim (λ e. subst P (sym e) (inl (alone_old d alone), found_new d)) (λ e. subst P (sym e) (inr refl, again d)) put
       where
-        again : (d : Folder) → IsFound (with_file (with_new turn d) name.Log (Some turn.new)) (Finds m (next_mark chain))
-        again d = subst (λ (f : Folder). IsFound f (Finds m (next_mark chain))) (sym (with_same (with_new turn d) name.Log)) (found_new d)
+        again : (d : Folder) → OpensAs (with_file (with_new turn d) name.Log (Some turn.new)) chain.indexid (Finds m (next_mark chain))
+        again d = subst (λ (f : Folder). OpensAs f chain.indexid (Finds m (next_mark chain))) (sym (with_same (with_new turn d) name.Log)) (found_new d)

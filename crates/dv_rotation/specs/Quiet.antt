@@ -3,7 +3,8 @@
 use Rattle.std.specs.Prelude.{◌⊎◌, ℕ, Result, Ok, Err, OnOk}
 use Rattle.dv_shelf.specs.Crashes.{LeavesOnly}
 use Rattle.dv_shelf.specs.Folders.{Folder}
-use Rattle.dv_openings.specs.Openings.{Finds, IsFound}
+use Rattle.dv_openings.specs.Numbers.{OpensAs}
+use Rattle.dv_openings.specs.Openings.{Finds}
 use Rattle.dv_chain.specs.declared.chain.Chain.{Chain}
 use Rattle.dv_chain.specs.Openings.{found_of}
 use Rattle.dv_chain.specs.Rest.{Last, Nothing, Rests, next_mark}
@@ -11,13 +12,14 @@ use Rattle.dv_rotation.specs.declared.fault.TurnEnd.{TurnEnd}
 use Rattle.dv_rotation.specs.declared.fault.TurnEnd.TheVariants as end
 use Rattle.dv_rotation.specs.declared.texts.Turn.{Turn}
 
--- the folder opens to the chain's mailbox at its place
+-- the folder opens to the chain's mailbox, of its number, at its place
 abbrev pub Opens : Chain → Folder → Type 0
-Opens chain c = IsFound c (found_of chain)
+Opens chain c = OpensAs c chain.indexid (found_of chain)
 
 -- or at the first place of the next file
 abbrev pub OpensEither : Chain → Folder → Type 0
-OpensEither chain c = Opens chain c ⊎ IsFound c (Finds chain.live.mailbox (next_mark chain))
+OpensEither chain c =
+    Opens chain c ⊎ OpensAs c chain.indexid (Finds chain.live.mailbox (next_mark chain))
 
 -- at any moment a crash leaves a folder that opens to the chain's mailbox at its place; behind it
 -- the chain is at rest

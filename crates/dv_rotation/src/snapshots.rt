@@ -1,10 +1,40 @@
-ghost use Rattle.std.specs.Prelude.{◌≤◌, IfOk};
+ghost use Rattle.std.specs.Prelude.{◌≡◌, ◌≤◌, [], IfOk};
+ghost use Rattle.dv_model.specs.Mailboxes.{IsValid};
+ghost use Rattle.dv_index.specs.Fronts.{HasCounts, with_rows};
 ghost use Rattle.dv_rotation.specs.Texts.{IsSnapshotOf};
 
+use dv_apply::Live;
 use dv_chain::Chain;
-use dv_index::write;
-use dv_model::{Bytes, Mark, NoMemory};
+use dv_index::{Tally, begin, write_row};
+use dv_model::{Bytes, Duplicate, List, Mailbox, Mark, NoMemory};
 use std::alloc::Global;
+
+// A copy of the mailbox without its rows.
+fn head_of(alloc: Global, live: &Live) -> Result<Mailbox, NoMemory>
+    ensures is { IfOk result (λ head. head ≡ with_rows [] live.now.mailbox) }
+    ensures valid { IsValid live.now.mailbox }
+{
+    let extensions = live.extensions();
+    Ok(Mailbox {
+        uid_validity: live.uid_validity(),
+        next_uid: live.next_uid(),
+        rows: List::new(alloc),
+        keywords: live.names().list(alloc)?,
+        extensions: extensions.list().duplicate(alloc)?,
+        current: extensions.current(),
+        highest: live.highest(),
+    })
+}
+
+fn tally_of(live: &Live) -> Tally
+    ensures { HasCounts result live.now.mailbox.rows }
+{
+    Tally {
+        rows: live.count(),
+        seen: live.seen(),
+        deleted: live.deleted(),
+    }
+}
 
 /// The text of the snapshot of a chain's mailbox at the end of its log. `NoMemory` is the only
 /// error; that is the answer too where the keywords and extensions would pass 4294967295 bytes.
@@ -12,10 +42,15 @@ pub fn snapshot(alloc: Global, chain: &Chain) -> Result<Bytes, NoMemory>
     requires named { 1 ≤ chain.now.indexid }
     ensures text { IfOk result (IsSnapshotOf chain.now) }
 {
-    let mailbox = chain.live.mailbox(alloc)?;
+    let live = &chain.live;
+    let head = head_of(alloc, live)?;
     let mark = Mark {
         file_seq: chain.log.file_seq,
         offset: chain.log.end,
     };
-    write(alloc, &mailbox, chain.indexid, mark)
+    let mut text = begin(alloc, &head, tally_of(live), chain.indexid, mark)?;
+    for k in 0..live.count() {
+        write_row(alloc, &head, live.row(k), &mut text)?;
+    }
+    Ok(text)
 }

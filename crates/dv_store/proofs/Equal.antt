@@ -65,6 +65,7 @@ module _ (chain : Chain) (spare : ℕ) (hidden : List (List ℕ)) where
       let owed = owed_of chain.live.mailbox debt in
       record {
         named = stands.named;
+        written = stands.written;
         rests = record {
           bounds = bounds_of stands.rests.bounds;
           owes = owes_of owed stands.rests.owes;

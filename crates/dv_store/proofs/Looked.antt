@@ -21,6 +21,7 @@ module _ {S : Type 0} (files : S → Folder) (may_leave : S → Folder → Type 
   pub stands_seen : (log : Log) (debt : Debt) (chain : Chain) (old new : S) → OnlyLooks files may_leave moment left_since old new → Stands may_leave log debt chain old → Stands may_leave log debt chain new
   stands_seen log debt chain old new looks stands = record {
     named = stands.named;
+    written = stands.written;
     rests = record { bounds = stands.rests.bounds; owes = stands.rests.owes; each = λ c left. stands.rests.each c (looks.crash c left) };
     keeps = λ c left. stands.keeps c (looks.crash c left);
     owed = λ c left. stands.owed c (looks.crash c left);

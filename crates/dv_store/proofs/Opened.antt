@@ -18,6 +18,7 @@ module _ {S : Type 0} (files : S → Folder) (may_leave : S → Folder → Type 
       let beside : KeepsMessages old (files new) = beside_file old (files new) name.Log (Some text) of_log is in
       record {
         named = named;
+        written = tt;
         rests = rests;
         keeps = λ c may. kept_same log chain.live.mailbox old c (same_messages chain.live.mailbox old c (subst (KeepsMessages old) (sym (settled c may)) beside)) keeps;
         owed = λ c may. tt;

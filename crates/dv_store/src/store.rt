@@ -1,8 +1,7 @@
 //! A mailbox that was opened, with its folder and a clock.
 
-ghost use Rattle.std.specs.Prelude.{◌≡◌, IfSome};
+ghost use Rattle.std.specs.Prelude.{◌≡◌};
 ghost use Rattle.dv_chain.specs.Openings.{HasBounds};
-ghost use Rattle.dv_keeping.specs.Repairing.{IsOwedTurn};
 ghost use Rattle.dv_rotation.specs.Texts.{place_of};
 ghost use Rattle.dv_store.specs.States.{fresh_state};
 
@@ -96,13 +95,6 @@ impl<S, C> Store<S, C> {
         ensures { result ≡ self.now.chain.indexid }
     {
         self.chain.indexid
-    }
-
-    /// A turn that is owed is of the mailbox and of the place where its log ends.
-    pub fn owed_turn_fits(&self)
-        ensures { IfSome self.now.owed (IsOwedTurn self.now.chain) }
-    {
-        let _owed = &self.owed;
     }
 
     /// The folder and the clock, for other uses.
