@@ -1,5 +1,5 @@
 -- A run begins over a mailbox that is made.
-use Rattle.std.proofs.Common.{◌≡◌, ⊎_elim, inl, inr, ℕ, ◌≤◌, [], Ok, Err, refl, sym, ◌∙◌, ap, subst, arith}
+use Rattle.std.proofs.Common.{◌≡◌, ⊎_elim, inl, inr, ℕ, ◌≤◌, ◌<◌, ◌^◌, [], Ok, Err, refl, sym, ◌∙◌, ap, subst, arith}
 use Rattle.dv_model.specs.declared.types.Mailbox.{Mailbox}
 use Rattle.dv_model.specs.declared.types.Mark.{Mark}
 use Rattle.dv_model.specs.declared.types.OpenFault.{OpenFault}
@@ -26,6 +26,8 @@ use Rattle.dv_cli.specs.Endings.{IsFault}
 use Rattle.dv_cli.specs.Runs.{IsUnopened, LeavesUnopened, MayLeave}
 use Rattle.dv_cli.specs.Starts.{IsNew, first_mark, new_log}
 use Rattle.dv_cli.proofs.Opened.{fresh_owes, fresh_rests, start_may}
+use Rattle.dv_serial.specs.NextRuns.{IsTrueFolder}
+use Rattle.dv_cli.proofs.Leaving.{created_named, made_true}
 use Rattle.dv_cli.proofs.Starting.{IsTyped, keeps_none, sound_from}
 
 pub has_none : (folder : Folder) → IsNew folder → HasNone folder
@@ -72,6 +74,7 @@ module _ {S C : Type 0} (files : S → Folder) (may_leave : S → Folder → Typ
 
     gives : (c : Folder) → c ≡ created (files old) (clock 0) → Gives start start.start start.start_mark c
     gives c is = record {
+      named = created_named (files old) c (clock 0) (subst IsU32 first.indexid typed.indexid) is;
       opens = subst (λ (d : Folder). IsFound d (Finds (first_mailbox number) first_mark)) (leaves ∙ sym is)
           (subst (λ (k : Mark). IsFound (files store.shelf) (Finds (first_mailbox number) k)) (sym mark) (subst (λ (m : Mailbox). IsFound (files store.shelf) (Finds m (place_of chain))) first.mailbox found));
       keeps = keeps_none start number c;
@@ -107,12 +110,21 @@ module _ {S C : Type 0} (files : S → Folder) (may_leave : S → Folder → Typ
   made_or_not (fault.Gap index log) c leaves = absurd leaves
 
   module _ (e : S × C × OpenFault) (outside : IsOutside e.2) (leaves : LeavesCreated (files old) (clock 0) (files e.0) (Err e.2)) (quiet : OpensQuietly files may_leave moment left_since (λ (f : Folder). IsOldOrCreated f (clock 0)) old (Err e))
-      (now : (t : ℕ) (c : Folder) → t ≤ moment e.0 → may_leave e.0 c → left_since e.0 t c) where
+      (now : (t : ℕ) (c : Folder) → t ≤ moment e.0 → may_leave e.0 c → left_since e.0 t c) (small : stamp_of (clock 0) < 2 ^ 32) where
     pub unopened_made : LeavesUnopened files may_leave moment left_since clock e.2 old e.0
-    unopened_made = record {
-      found = outside_found e.2 (IsFound (files old)) outside;
-      some = λ is none. outside_none e.2 outside is;
-      folder = inr (new, made_or_not e.2 (files e.0) leaves);
-      after = λ c left. inr (new, quiet.since.each c (now (moment old) c quiet.since.later left));
-      crash = weaker moment left_since old e.0 (IsOldOrCreated (files old) (clock 0)) (IsUnopened clock (files old)) quiet.since (λ c either. inr (new, either));
-    }
+    unopened_made =
+        let seen : IsOldOrCreated (files old) (clock 0) (files e.0) = made_or_not e.2 (files e.0) leaves in
+        let after : (c : Folder) → may_leave e.0 c → IsOldOrCreated (files old) (clock 0) c = λ c left. quiet.since.each c (now (moment old) c quiet.since.later left) in
+        let is_true : (c : Folder) → IsOldOrCreated (files old) (clock 0) c → IsTrueFolder c = λ c either. made_true (files old) c (clock 0) small new either in
+        record {
+          found = outside_found e.2 (IsFound (files old)) outside;
+          some = λ is none. outside_none e.2 outside is;
+          folder = inr (new, seen);
+          after = λ c left. inr (new, after c left);
+          next = λ was. record {
+            seen = is_true (files e.0) seen;
+            after = λ c left. is_true c (after c left);
+            crash = weaker moment left_since old e.0 (IsOldOrCreated (files old) (clock 0)) IsTrueFolder quiet.since is_true;
+          };
+          crash = weaker moment left_since old e.0 (IsOldOrCreated (files old) (clock 0)) (IsUnopened clock (files old)) quiet.since (λ c either. inr (new, either));
+        }

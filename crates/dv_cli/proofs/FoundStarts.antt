@@ -5,17 +5,15 @@ use Rattle.dv_model.specs.declared.types.Mark.{Mark}
 use Rattle.dv_model.specs.declared.types.OpenFault.{OpenFault}
 use Rattle.dv_model.specs.declared.types.OpenFault.TheVariants as fault
 use Rattle.dv_model.specs.Journals.{Log}
-use Rattle.dv_shelf.specs.declared.shelf.Name.TheVariants as name
 use Rattle.dv_shelf.specs.Folders.{Folder}
-use Rattle.dv_logfile.specs.Scans.{Good, IsScanned, Scanned}
-use Rattle.dv_logfile.proofs.OneScan.{scans_one}
+use Rattle.dv_logfile.specs.Scans.{Good, IsScanned}
 use Rattle.dv_openings.specs.Openings as found
 use Rattle.dv_openings.specs.Openings.{Finds, Found, IsFound}
 use Rattle.dv_openings.proofs.FoundOnce.{found_one}
+use Rattle.dv_openings.proofs.Numbers.{mailbox_in, named_one}
 use Rattle.dv_chain.specs.Openings.{FaultFound}
 use Rattle.dv_cli.specs.Endings.{IsFault, fault_status}
 use Rattle.dv_cli.specs.Causes.{HasFault}
-use Rattle.dv_serial.specs.NextRuns.{IsNamed}
 use Rattle.dv_cli.specs.Starts.{IsNew, IsOpened, Starts, log_from}
 
 -- ---- faults
@@ -75,24 +73,9 @@ found_faultless folder m mark f there is other =
 
 -- ---- starts
 
-abbrev number_in : Scanned → ℕ
-number_in (Good log) = log.header.indexid
-number_in scanned = 0
-
-abbrev mailbox_in : Mailbox → Found → Mailbox
-mailbox_in m (found.Finds other mark) = other
-mailbox_in m f = m
-
 abbrev mark_in : Mark → Found → Mark
 mark_in k (found.Finds other mark) = mark
 mark_in k f = k
-
--- its log has one number
-pub named_one : (folder : Folder) (n k : ℕ) → IsNamed folder n → IsNamed folder k → n ≡ k
-named_one folder n k one other =
-    one.is
-    ∙ ap number_in (scans_one (folder name.Log) (Good one.log) (Good other.log) one.scanned other.scanned)
-    ∙ sym other.is
 
 opened_one : (folder : Folder) (s t : Log) → IsOpened folder s → IsOpened folder t → s ≡ t
 opened_one folder s t one other =

@@ -5,6 +5,7 @@ mod Statuses
 mod Takes
 mod GuidFiles
 mod Starting
+mod Leaving
 mod Opened
 mod Created
 mod Looked

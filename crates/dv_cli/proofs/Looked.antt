@@ -57,6 +57,9 @@ module _ {S C : Type 0} (files : S → Folder) (may_leave : S → Folder → Typ
     after = λ c left. subst (λ (d : Folder). IsUnopened clock d c) same (unopened.after c left);
     crash = looked_then files may_leave moment left_since old mid new (IsUnopened clock (files old)) settled (inl (quiet_same (files old) (files old) refl)) looks
         (subst (λ (d : Folder). LeavesOnly moment left_since mid new (IsUnopened clock d)) same unopened.crash);
+    next = λ is_true.
+        let next = unopened.next (subst IsTrueFolder (sym same) is_true) in
+        record { seen = next.seen; after = next.after; crash = looked_then files may_leave moment left_since old mid new IsTrueFolder settled is_true looks next.crash };
   }
 
   pub begins_behind : (result : Result (State S C) (S × C × OpenFault)) → IsTrueFolder (files old) → Begins files may_leave moment left_since upcoming clock mid result → Begins files may_leave moment left_since upcoming clock old result
@@ -72,6 +75,11 @@ module _ {S C : Type 0} (files : S → Folder) (may_leave : S → Folder → Typ
     folder = inl (quiet_same (files old) (files mid) same);
     after = λ c left. inl (quiet_same (files old) c (settled c (looks.crash c left)));
     crash = looked_only files may_leave moment left_since old mid (IsUnopened clock (files old)) settled (inl (quiet_same (files old) (files old) refl)) looks;
+    next = λ is_true. record {
+      seen = subst IsTrueFolder (sym same) is_true;
+      after = λ c left. subst IsTrueFolder (sym (settled c (looks.crash c left))) is_true;
+      crash = looked_only files may_leave moment left_since old mid IsTrueFolder settled is_true looks;
+    };
   }
 
 -- ---- causes

@@ -19,11 +19,13 @@ use Rattle.dv_lookups.specs.Kept.{IsFileOf}
 use Rattle.dv_store.specs.Opening.{IsFresh, Opens, OpensQuietly}
 use Rattle.dv_store.specs.Rest.{IsAtRest}
 use Rattle.dv_store.specs.States.{State}
-use Rattle.dv_serial.specs.NextRuns.{IsNamed, IsTrueFolder}
+use Rattle.dv_openings.specs.Numbers.{IsNamed}
+use Rattle.dv_serial.specs.NextRuns.{IsTrueFolder}
 use Rattle.dv_serial.specs.Places.{MayGive}
 use Rattle.dv_cli.specs.Begins.{IsBegun}
 use Rattle.dv_cli.specs.Runs.{IsUnopened, LeavesUnopened, MayLeave}
 use Rattle.dv_cli.specs.Starts.{IsNew, log_from}
+use Rattle.dv_cli.proofs.Leaving.{quiet_true}
 use Rattle.dv_cli.proofs.Starting.{IsTyped, behind_none, gives_quiet, keeps_itself, quiet_same, sound_from}
 
 -- ---- any start
@@ -66,7 +68,7 @@ module _ {S C : Type 0} (files : S → Folder) (may_leave : S → Folder → Typ
     keeps = keeps_itself chain.indexid mailbox (place_of chain) (files old) cache
 
     may : (c : Folder) → IsQuiet (files old) c → MayLeave (behind clock 0) start [] (files old) c
-    may c same = inr (start_may (behind clock 0) start c (gives_quiet chain.indexid mailbox (place_of chain) (files old) c opens.found cache same))
+    may c same = inr (start_may (behind clock 0) start c (gives_quiet chain.indexid mailbox (place_of chain) (files old) c named opens.found cache same))
 
     pub begun_found : IsBegun files may_leave moment left_since upcoming clock old store
     begun_found = record {
@@ -97,10 +99,18 @@ module _ {S C : Type 0} (files : S → Folder) (may_leave : S → Folder → Typ
   module _ (e : S × C × OpenFault) (opens : Opens (files old) (Err e)) (leaves : LeavesFolder (files old) (files e.0) (Err e.2)) (quiet : OpensQuietly files may_leave moment left_since IsQuiet old (Err e)) (some : IsNew (files old) → ⊥)
       (now : (t : ℕ) (c : Folder) → t ≤ moment e.0 → may_leave e.0 c → left_since e.0 t c) where
     pub unopened_found : LeavesUnopened files may_leave moment left_since clock e.2 old e.0
-    unopened_found = record {
-      found = opens.found;
-      some = λ is new. some new;
-      folder = inl (fault_quiet e.2 (files e.0) leaves);
-      after = λ c left. inl (quiet.since.each c (now (moment old) c quiet.since.later left));
-      crash = weaker moment left_since old e.0 (IsQuiet (files old)) (IsUnopened clock (files old)) quiet.since (λ c same. inl same);
-    }
+    unopened_found =
+        let seen : IsQuiet (files old) (files e.0) = fault_quiet e.2 (files e.0) leaves in
+        let after : (c : Folder) → may_leave e.0 c → IsQuiet (files old) c = λ c left. quiet.since.each c (now (moment old) c quiet.since.later left) in
+        record {
+          found = opens.found;
+          some = λ is new. some new;
+          folder = inl seen;
+          after = λ c left. inl (after c left);
+          crash = weaker moment left_since old e.0 (IsQuiet (files old)) (IsUnopened clock (files old)) quiet.since (λ c same. inl same);
+          next = λ is_true. record {
+            seen = quiet_true (files old) (files e.0) is_true seen;
+            after = λ c left. quiet_true (files old) c is_true (after c left);
+            crash = weaker moment left_since old e.0 (IsQuiet (files old)) IsTrueFolder quiet.since (λ c same. quiet_true (files old) c is_true same);
+          };
+        }

@@ -82,7 +82,7 @@ read_comes shelf source source_now out (end.Source faults) is = is
 read_comes shelf source source_now out end.Sink is = absurd is
 
 pub read_script : (read : Result (List NamedLine) ScriptFault) (e : End)
-    → ScriptEnds (Err e) read → TellsScript read e
+    → ScriptEnds e read → TellsScript read e
 read_script read (end.Answered mark groups loaded) is = absurd is
 read_script read (end.Rebuilt kept skipped) is = absurd is
 read_script read end.Usage is = is
@@ -133,7 +133,7 @@ script_reading read lines script.NoMemory is good = tt
 
 -- a good script is refused by none
 pub reads_well : (read : Result (List NamedLine) ScriptFault) (lines : List NamedLine) (e : End)
-    → ScriptEnds (Err e) read → read ≡ Ok lines → EndsReading e
+    → ScriptEnds e read → read ≡ Ok lines → EndsReading e
 reads_well read lines (end.Answered mark groups loaded) is good = is
 reads_well read lines (end.Rebuilt kept skipped) is good = is
 reads_well read lines end.Usage is good = is
@@ -150,7 +150,7 @@ script_refused read f s is bad =
 
 -- a bad one is
 pub reads_refused : (read : Result (List NamedLine) ScriptFault) (f : ScriptFault) (e : End)
-    → ScriptEnds (Err e) read → read ≡ Err f → EndsRefused f e
+    → ScriptEnds e read → read ≡ Err f → EndsRefused f e
 reads_refused read f (end.Answered mark groups loaded) is bad = is
 reads_refused read f (end.Rebuilt kept skipped) is bad = is
 reads_refused read f end.Usage is bad = is

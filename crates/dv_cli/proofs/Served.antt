@@ -1,9 +1,8 @@
 -- Lines are served from where a run begins.
 use Rattle.std.proofs.Common.{◌≡◌, ◌⊎◌, ⊎_elim, inl, inr, ℕ, ◌+◌, ◌≤◌, ◌<◌, Bool, true, false, List, [], ◌∷◌, ◌++◌, append-nil, length, Option, Result, Ok, Err, refl, sym, ◌∙◌, ap, subst, arith}
-use Rattle.std.specs.Prelude.{IfSome, replicate, if◌then◌else◌}
+use Rattle.std.specs.Prelude.{replicate, if◌then◌else◌}
 use Rattle.std.proofs.lemmas.List.{get_or-replicate, length-replicate}
 use Rattle.std.proofs.lemmas.List.Elements.{All-nil, All-replicate}
-use Rattle.dv_model.specs.declared.types.Entry.{Entry}
 use Rattle.dv_model.specs.declared.types.Mailbox.{Mailbox}
 use Rattle.dv_model.specs.declared.types.Mark.{Mark}
 use Rattle.dv_model.specs.declared.types.Reply.{Reply}
@@ -11,6 +10,7 @@ use Rattle.dv_model.specs.Journals.{Log}
 use Rattle.dv_model.specs.Sessions.{new_session}
 use Rattle.dv_model.specs.Transcripts.{Line, Serial, touches_disk}
 use Rattle.dv_shelf.specs.Clocks.{behind}
+use Rattle.dv_shelf.specs.Crashes.{LeavesOnly}
 use Rattle.dv_shelf.specs.Folders.{Folder}
 use Rattle.dv_shelf.proofs.Moments.{joined, weaker}
 use Rattle.dv_formats.specs.Scripts.{NamedLine}
@@ -22,11 +22,8 @@ use Rattle.dv_playing.proofs.Plays.{goes_on, leaves, serial}
 use Rattle.dv_store.specs.States.{State}
 use Rattle.dv_serial.specs.declared.lines.LineEnd.{LineEnd}
 use Rattle.dv_serial.specs.declared.lines.LineEnd.TheVariants as line_end
-use Rattle.dv_rotation.specs.declared.texts.Turn.{Turn}
-use Rattle.dv_keeping.specs.Repairing.{IsOwedTurn}
 use Rattle.dv_serial.specs.Following.{AreSeated, Follows, IsLeft, Keeps, MayBeLeft}
-use Rattle.dv_serial.specs.NextRuns.{LeavesTrue}
-use Rattle.dv_serial.proofs.NextRuns.{leaves_true}
+use Rattle.dv_cli.proofs.Leaving.{leaves_next}
 use Rattle.dv_serial.specs.Places.{GivesBehind, MayGive, play_of}
 use Rattle.dv_serial.specs.Runs.{EndsWith, HasRead, IsCaused, Runs, Writes}
 use Rattle.dv_serial.specs.Scripts.{numbered}
@@ -150,7 +147,7 @@ module _ {S C : Type 0} (files : S → Folder) (may_leave : S → Folder → Typ
 
   keeps_start : (seats : List Follower) → Keeps files may_leave time start [] (serving_over store seats)
   keeps_start seats = record {
-    at = record { rotates = bare.rotates; journal = bare.entries; mailbox = begun.mailbox; mark = begun.mark; place = (sym begun.mark, begun.owed) };
+    at = record { rotates = bare.rotates; groups = ap length bare.entries; mailbox = begun.mailbox; mark = begun.mark; place = (sym begun.mark, begun.owed) };
     debt = Nothing;
     owed = tt;
     rests = begun.rests;
@@ -181,51 +178,53 @@ module _ {S C : Type 0} (files : S → Folder) (may_leave : S → Folder → Typ
 
   module _ (faults : ℕ) (lines : List NamedLine) (told : Type 0) (taken taken_now : List ℕ) (seats : List Follower) (result : Result (Unit {0}) LineEnd) (new : Serving S C)
       (runs : Runs files may_leave moment left_since upcoming time start base faults lines result told taken taken_now (serving_over store seats) new)
-      (there : may_leave new.store.shelf (files new.store.shelf)) (next : LeavesTrue files may_leave new.store.shelf) where
+      (there : may_leave new.store.shelf (files new.store.shelf)) where
     abbrev all : List Attempt
     all = runs.answered ++ runs.left
 
     abbrev how : End
-    how = end_behind result new.mark (length new.journal) (loaded_by load new.store.chain.live.mailbox)
+    how = end_behind result new.mark new.groups (loaded_by load new.store.chain.live.mailbox)
 
     kept : (c : Folder) → may_leave new.store.shelf c → GivesBehind time start all c
     kept c left = keeps_behind files may_leave time start all new runs.leaves.keeps c left
 
-    pub serves_lines : ServesLines files may_leave moment left_since clock (upcoming new.store.clock) base faults load lines how new.journal told taken taken_now old new.store.shelf
-    serves_lines = record {
-      start = start;
-      used = begun.used;
-      starts = begun.starts;
-      answered = runs.answered;
-      left = runs.left;
-      rest = runs.rest;
-      parts = runs.parts;
-      ends = ends_at time base start load runs.answered runs.left runs.rest result new.mark (length new.journal) new.store.chain.live.mailbox runs.leaves.keeps.at.mark (ap length runs.leaves.keeps.at.journal) runs.leaves.keeps.at.mailbox runs.ends;
-      serial = subst (λ (ls : List Line). Serial (play_of time start all).log base faults ls (replies_to time (begin start) runs.answered)) (sym runs.parts)
-          (serial_left time start base faults runs.answered runs.may runs.left runs.rest (first_of time base start runs.answered runs.left runs.rest result runs.ends));
-      entries = sym runs.leaves.keeps.at.journal;
-      output = λ tells. writes_lines time start runs.answered runs.left lines result new.mark (length new.journal) (loaded_by load new.store.chain.live.mailbox) taken taken_now (runs.output tells);
-      readings = has_read clock begun.used (play_of time start runs.answered).used (upcoming new.store.clock) result new.mark (length new.journal) (loaded_by load new.store.chain.live.mailbox) runs.readings;
-      others = λ n other none. runs.others n none ∙ begun.others n other;
-      folder = kept (files new.store.shelf) there;
-      after = kept;
-      crash = joined moment left_since old store.shelf new.store.shelf (MayLeave time start all (files old))
-          (weaker moment left_since old store.shelf (MayLeave time start [] (files old)) (MayLeave time start all (files old)) begun.since (longer_leave all))
-          (weaker moment left_since store.shelf new.store.shelf (MayGive time start all) (MayLeave time start all (files old)) runs.leaves.since (λ c may. inr may));
-      next = next;
-    }
+    pub serves_lines : ServesLines files may_leave moment left_since clock (upcoming new.store.clock) base faults load lines how told taken taken_now old new.store.shelf
+    serves_lines =
+        let crash : LeavesOnly moment left_since old new.store.shelf (MayLeave time start all (files old)) =
+        joined moment left_since old store.shelf new.store.shelf (MayLeave time start all (files old))
+        (weaker moment left_since old store.shelf (MayLeave time start [] (files old)) (MayLeave time start all (files old)) begun.since (longer_leave all))
+        (weaker moment left_since store.shelf new.store.shelf (MayGive time start all) (MayLeave time start all (files old)) runs.leaves.since (λ c may. inr may)) in
+        record {
+          start = start;
+          used = begun.used;
+          starts = begun.starts;
+          answered = runs.answered;
+          left = runs.left;
+          rest = runs.rest;
+          parts = runs.parts;
+          ends = ends_at time base start load runs.answered runs.left runs.rest result new.mark new.groups new.store.chain.live.mailbox runs.leaves.keeps.at.mark runs.leaves.keeps.at.groups runs.leaves.keeps.at.mailbox runs.ends;
+          serial = subst (λ (ls : List Line). Serial (play_of time start all).log base faults ls (replies_to time (begin start) runs.answered)) (sym runs.parts)
+              (serial_left time start base faults runs.answered runs.may runs.left runs.rest (first_of time base start runs.answered runs.left runs.rest result runs.ends));
+          output = λ tells. writes_lines time start runs.answered runs.left lines result new.mark new.groups (loaded_by load new.store.chain.live.mailbox) taken taken_now (runs.output tells);
+          readings = has_read clock begun.used (play_of time start runs.answered).used (upcoming new.store.clock) result new.mark new.groups (loaded_by load new.store.chain.live.mailbox) runs.readings;
+          others = λ n other none. runs.others n none ∙ begun.others n other;
+          folder = kept (files new.store.shelf) there;
+          after = kept;
+          crash = crash;
+          next = leaves_next files may_leave moment left_since time start all old new.store.shelf there kept crash;
+        }
 
   -- the play begins with new sessions
   module _ (counts : S → ℕ) (later : base ≤ counts store.shelf) (faults : ℕ) (lines : List NamedLine) (told : Type 0) (taken taken_now : List ℕ) (n : ℕ) (seats : List Follower) (result : Result (Unit {0}) LineEnd) (serial new : Serving S C) where
     pub serves_all : seats ≡ replicate n new_follower → serial ≡ serving_over store seats
         → (Follows files may_leave upcoming time start base (counts serial.store.shelf) [] serial → Runs files may_leave moment left_since upcoming time start base faults lines result told taken taken_now serial new)
-        → may_leave new.store.shelf (files new.store.shelf) → ((attempts : List Attempt) → Keeps files may_leave time start attempts new → LeavesTrue files may_leave new.store.shelf)
-        → ServesLines files may_leave moment left_since clock (upcoming new.store.clock) base faults load lines (end_behind result new.mark (length new.journal) (loaded_by load new.store.chain.live.mailbox)) new.journal told taken taken_now old new.store.shelf
-    serves_all is over run there next =
+        → may_leave new.store.shelf (files new.store.shelf)
+        → ServesLines files may_leave moment left_since clock (upcoming new.store.clock) base faults load lines (end_behind result new.mark new.groups (loaded_by load new.store.chain.live.mailbox)) told taken taken_now old new.store.shelf
+    serves_all is over run there =
         let follows : Follows files may_leave upcoming time start base (counts serial.store.shelf) [] serial =
         subst (λ (s : Serving S C). Follows files may_leave upcoming time start base (counts s.store.shelf) [] s) (sym over) (follows_start n seats (counts store.shelf) later is) in
         let runs = subst (λ (s : Serving S C). Runs files may_leave moment left_since upcoming time start base faults lines result told taken taken_now s new) over (run follows) in
-        serves_lines faults lines told taken taken_now seats result new runs there (next (runs.answered ++ runs.left) runs.leaves.keeps)
+        serves_lines faults lines told taken taken_now seats result new runs there
 
   -- ---- no line was
 
@@ -237,7 +236,7 @@ module _ {S C : Type 0} (files : S → Folder) (may_leave : S → Folder → Typ
     none_ends [] = refl
     none_ends (line ∷ rest) = tt
 
-    pub serves_none : ServesLines files may_leave moment left_since clock (upcoming store.clock) base faults load lines end.NoMemory [] told taken taken old store.shelf
+    pub serves_none : ServesLines files may_leave moment left_since clock (upcoming store.clock) base faults load lines end.NoMemory told taken taken old store.shelf
     serves_none = record {
       start = start;
       used = begun.used;
@@ -248,21 +247,20 @@ module _ {S C : Type 0} (files : S → Folder) (may_leave : S → Folder → Typ
       parts = refl;
       ends = none_ends (numbered lines);
       serial = serial time start base faults [] (may_start faults later) (numbered lines);
-      entries = sym bare.entries;
       output = λ tells. sym (append-nil taken);
       readings = λ answered. absurd answered;
       others = λ n other none. begun.others n other;
       folder = none_kept (files store.shelf) there;
       after = none_kept;
       crash = begun.since;
-      next = leaves_true files may_leave time start [] (serving_over store []) (keeps_start []) (subst (λ (o : Option Turn). IfSome o (IsOwedTurn store.chain)) (sym begun.owed) tt) there;
+      next = leaves_next files may_leave moment left_since time start [] old store.shelf there none_kept begun.since;
     }
 
 -- ---- a run over a folder
 
-module _ {S : Type 0} (files : S → Folder) (may_leave : S → Folder → Type 0) (moment : S → ℕ) (left_since : S → ℕ → Folder → Type 0) (clock clock_now : ℕ → ℕ) (base faults : ℕ) (load : Option Load) (lines : List NamedLine) (journal : List Entry) (told : Type 0) (taken taken_now : List ℕ) (old new : S) where
-  pub runs_serving : (e : End) → EndsServing e → ServesLines files may_leave moment left_since clock clock_now base faults load lines e journal told taken taken_now old new
-      → RunsOver files may_leave moment left_since clock clock_now base faults load lines e journal told taken taken_now old new
+module _ {S : Type 0} (files : S → Folder) (may_leave : S → Folder → Type 0) (moment : S → ℕ) (left_since : S → ℕ → Folder → Type 0) (clock clock_now : ℕ → ℕ) (base faults : ℕ) (load : Option Load) (lines : List NamedLine) (told : Type 0) (taken taken_now : List ℕ) (old new : S) where
+  pub runs_serving : (e : End) → EndsServing e → ServesLines files may_leave moment left_since clock clock_now base faults load lines e told taken taken_now old new
+      → RunsOver files may_leave moment left_since clock clock_now base faults load lines e told taken taken_now old new
   runs_serving (end.Answered mark groups loaded) serving serves = serves
   runs_serving (end.Rebuilt kept skipped) serving serves = absurd serving
   runs_serving end.Usage serving serves = absurd serving

@@ -11,8 +11,10 @@ use Rattle.dv_model.specs.Mailboxes.{IsValid}
 use Rattle.dv_shelf.specs.declared.shelf.Name.TheVariants as name
 use Rattle.dv_shelf.specs.Clocks.{behind}
 use Rattle.dv_shelf.specs.Folders.{Folder}
+use Rattle.dv_openings.specs.Numbers.{IsNamed}
 use Rattle.dv_openings.specs.Openings.{Finds, IsFound}
 use Rattle.dv_openings.specs.TrueCaches.{HasTrueCache}
+use Rattle.dv_openings.proofs.Numbers.{named_one}
 use Rattle.dv_chain.specs.declared.chain.Chain.{Chain}
 use Rattle.dv_chain.specs.Creations.{first_mailbox}
 use Rattle.dv_chain.specs.Openings.{IsQuiet}
@@ -73,19 +75,24 @@ start_bare clock folder start used =
 
 -- ---- what a folder gives
 
-quiet_messages : (old c : Folder) → IsQuiet old c → KeepsMessages old c
+pub quiet_messages : (old c : Folder) → IsQuiet old c → KeepsMessages old c
 quiet_messages old c quiet = record { cache = quiet.others name.Cache (λ e. cc); mail = λ uid. quiet.others (name.Mail uid) (λ e. cc) }
 
 pub quiet_same : (old c : Folder) → c ≡ old → IsQuiet old c
-quiet_same old c is = record { opens = λ f found. subst (λ (d : Folder). IsFound d f) (sym is) found; others = λ n other. ap (λ (d : Folder). d n) is }
+quiet_same old c is = record {
+  opens = λ f. (λ found. subst (λ (d : Folder). IsFound d f) (sym is) found, λ found. subst (λ (d : Folder). IsFound d f) is found);
+  named = λ indexid. (λ named. subst (λ (d : Folder). IsNamed d indexid) (sym is) named, λ named. subst (λ (d : Folder). IsNamed d indexid) is named);
+  others = λ n other. ap (λ (d : Folder). d n) is;
+}
 
 -- messages of the folder itself, and a cache that is true
 pub keeps_itself : (indexid : ℕ) (m : Mailbox) (mark : Mark) (folder : Folder) → HasTrueCache folder indexid m → Keeps (log_from indexid m mark folder) m folder
 keeps_itself indexid m mark folder cache = record { messages = λ row has. record { held = refl; named = refl }; cache = cache }
 
-pub gives_quiet : (indexid : ℕ) (m : Mailbox) (mark : Mark) (folder c : Folder) → IsFound folder (Finds m mark) → HasTrueCache folder indexid m → IsQuiet folder c → Gives (log_from indexid m mark folder) m mark c
-gives_quiet indexid m mark folder c found cache quiet = record {
-  opens = quiet.opens (Finds m mark) found;
+pub gives_quiet : (indexid : ℕ) (m : Mailbox) (mark : Mark) (folder c : Folder) → IsNamed folder indexid → IsFound folder (Finds m mark) → HasTrueCache folder indexid m → IsQuiet folder c → Gives (log_from indexid m mark folder) m mark c
+gives_quiet indexid m mark folder c named found cache quiet = record {
+  opens = (quiet.opens (Finds m mark)).0 found;
+  named = λ n other. named_one c n indexid other ((quiet.named indexid).0 named);
   keeps = kept_same (log_from indexid m mark folder) m folder c (same_messages m folder c (quiet_messages folder c quiet)) (keeps_itself indexid m mark folder cache);
 }
 
@@ -93,7 +100,7 @@ gives_quiet indexid m mark folder c found cache quiet = record {
 pub opened_gives : (folder : Folder) (start : Log) → IsOpened folder start → IsTrueFolder folder → Gives start start.start start.start_mark folder
 opened_gives folder start opened is_true =
     subst (λ (log : Log). Gives log log.start log.start_mark folder) (sym opened.is)
-    (gives_quiet opened.indexid opened.mailbox opened.mark folder folder opened.found (is_true opened.indexid opened.mailbox opened.mark opened.named opened.found) (quiet_same folder folder refl))
+    (gives_quiet opened.indexid opened.mailbox opened.mark folder folder opened.named opened.found (is_true opened.indexid opened.mailbox opened.mark opened.named opened.found) (quiet_same folder folder refl))
 
 -- a mailbox without rows is kept in every folder
 pub keeps_none : (log : Log) (n : ℕ) (c : Folder) → Keeps log (first_mailbox n) c

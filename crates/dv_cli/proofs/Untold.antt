@@ -1,21 +1,19 @@
 -- A run that writes no replies, whatever stands in the output.
-use Rattle.std.proofs.Common.{◌≡◌, ◌⊎◌, inl, inr, ℕ, List, [], refl}
+use Rattle.std.proofs.Common.{ℕ, List}
 use Rattle.std.specs.Prelude.{Option}
-use Rattle.dv_model.specs.declared.types.Entry.{Entry}
 use Rattle.dv_shelf.specs.Folders.{Folder}
 use Rattle.dv_formats.specs.Scripts.{NamedLine}
 use Rattle.dv_cli.specs.declared.ending.End.{End}
 use Rattle.dv_cli.specs.declared.ending.End.TheVariants as end
 use Rattle.dv_cli.specs.declared.words.Load.{Load}
 use Rattle.dv_cli.specs.Runs.{RunsOver, ServesLines}
-use Rattle.dv_cli.specs.Wholes.{IsUnread}
 
-module _ {S : Type 0} (files : S → Folder) (may_leave : S → Folder → Type 0) (moment : S → ℕ) (left_since : S → ℕ → Folder → Type 0) (clock clock_now : ℕ → ℕ) (base faults : ℕ) (load : Option Load) (lines : List NamedLine) (journal : List Entry) (old new : S) (a b c d : List ℕ) where
+module _ {S : Type 0} (files : S → Folder) (may_leave : S → Folder → Type 0) (moment : S → ℕ) (left_since : S → ℕ → Folder → Type 0) (clock clock_now : ℕ → ℕ) (base faults : ℕ) (load : Option Load) (lines : List NamedLine) (old new : S) (a b c d : List ℕ) where
   abbrev Serves : End → List ℕ → List ℕ → Type 0
-  Serves e before now = ServesLines files may_leave moment left_since clock clock_now base faults load lines e journal ⊥ before now old new
+  Serves e before now = ServesLines files may_leave moment left_since clock clock_now base faults load lines e ⊥ before now old new
 
   abbrev Runs : End → List ℕ → List ℕ → Type 0
-  Runs e before now = RunsOver files may_leave moment left_since clock clock_now base faults load lines e journal ⊥ before now old new
+  Runs e before now = RunsOver files may_leave moment left_since clock clock_now base faults load lines e ⊥ before now old new
 
   served : (e : End) → Serves e a b → Serves e c d
   served e s = record {
@@ -28,7 +26,6 @@ module _ {S : Type 0} (files : S → Folder) (may_leave : S → Folder → Type 
     parts = s.parts;
     ends = s.ends;
     serial = s.serial;
-    entries = s.entries;
     output = λ told. absurd told;
     readings = s.readings;
     others = s.others;
@@ -38,17 +35,12 @@ module _ {S : Type 0} (files : S → Folder) (may_leave : S → Folder → Type 
     next = s.next;
   }
 
-  ran : (e : End) → Runs e a b → Runs e c d
+  pub ran : (e : End) → Runs e a b → Runs e c d
   ran (end.Answered mark groups loaded) runs = served (end.Answered mark groups loaded) runs
   ran (end.Rebuilt kept skipped) runs = served (end.Rebuilt kept skipped) runs
   ran end.Usage runs = served end.Usage runs
-  ran (end.Unopened f) runs = (runs.0, λ told. absurd told, runs.2)
+  ran (end.Unopened f) runs = (λ told. absurd told, runs.1)
   ran end.NoMemory runs = served end.NoMemory runs
   ran (end.Script s) runs = served (end.Script s) runs
   ran (end.Source n) runs = served (end.Source n) runs
   ran end.Sink runs = served end.Sink runs
-
-  -- the lines weren't made, or were served
-  pub untold : (e : End) → c ≡ d → IsUnread e journal a b old new ⊎ Runs e a b → IsUnread e journal c d old new ⊎ Runs e c d
-  untold e same (inl unread) = inl (unread.0, unread.1, Rattle.std.proofs.Common.sym same, unread.3)
-  untold e same (inr runs) = inr (ran e runs)

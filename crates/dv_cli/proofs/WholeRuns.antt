@@ -2,7 +2,6 @@
 use Rattle.std.proofs.Common.{◌≡◌, ◌⊎◌, inl, inr, ℕ, List, [], ◌++◌, length, map, Result, Ok, Err, refl, sym, ◌∙◌, ap, subst, append_assoc}
 use Rattle.std.specs.Prelude.{Option, Some, None}
 use Rattle.std.proofs.lemmas.List.{append-nil}
-use Rattle.dv_model.specs.declared.types.Entry.{Entry}
 use Rattle.dv_model.specs.declared.types.Mark.{Mark}
 use Rattle.dv_model.specs.declared.types.OpenFault.{OpenFault}
 use Rattle.dv_model.specs.declared.types.OpenFault.TheVariants as fault
@@ -244,10 +243,10 @@ served_play clock start lines answered base faults are few still =
 
 module _ {S : Type 0} (files : S → Folder) (may_leave : S → Folder → Type 0) (moment : S → ℕ)
     (left_since : S → ℕ → Folder → Type 0) (clock clock_now : ℕ → ℕ) (base faults : ℕ)
-    (t : Option Task) (lines : List NamedLine) (journal : List Entry) (told : Type 0)
+    (t : Option Task) (lines : List NamedLine) (told : Type 0)
     (taken between taken_now : List ℕ) (old new : S) (still : Rose base faults → ⊥) where
   abbrev Serving : End → Type 0
-  Serving e = ServesLines files may_leave moment left_since clock clock_now base faults (load_in t) lines e journal (RepliesTold t told) taken between old new
+  Serving e = ServesLines files may_leave moment left_since clock clock_now base faults (load_in t) lines e (RepliesTold t told) taken between old new
 
   module _ (mark : Mark) (groups : ℕ) (loaded : Option Loaded) (serves : Serving (end.Answered mark groups loaded)) where
     abbrev clock_then : ℕ → ℕ
@@ -328,12 +327,12 @@ module _ {S : Type 0} (files : S → Folder) (may_leave : S → Folder → Type 
 
   module _ (tells : told) (opens : Opens t) (silent : (HasScript t → ⊥) → between ≡ taken) where
     abbrev Running : End → Type 0
-    Running e = RunsOver files may_leave moment left_since clock clock_now base faults (load_in t) lines e journal (RepliesTold t told) taken between old new
+    Running e = RunsOver files may_leave moment left_since clock clock_now base faults (load_in t) lines e (RepliesTold t told) taken between old new
 
     run_output : (e : End) → EndsWell e → Running e → Appends between taken_now (text_of e)
         → Writes taken taken_now (IsOutputOver (load_in t) lines clock (files old))
     run_output (end.Answered mark groups loaded) well runs last = answered_output mark groups loaded runs tells opens silent last
-    run_output (end.Unopened f) well runs last = unopened_output f well (nothing_before t opens runs.1 silent tells) runs.2 last
+    run_output (end.Unopened f) well runs last = unopened_output f well (nothing_before t opens runs.0 silent tells) runs.1 last
     run_output (end.Rebuilt kept skipped) well runs last = absurd well
     run_output end.Usage well runs last = absurd well
     run_output end.NoMemory well runs last = absurd well
@@ -352,7 +351,7 @@ module _ {S : Type 0} (files : S → Folder) (may_leave : S → Folder → Type 
     unread_not_well end.Sink well ends = well
 
     well_output : (e : End) → EndsWell e → Appends between taken_now (text_of e)
-        → IsUnread e journal taken between old new ⊎ Running e
+        → IsUnread e taken between old new ⊎ Running e
         → Writes taken taken_now (IsOutputOver (load_in t) lines clock (files old))
     well_output e well last (inl unread) = absurd (unread_not_well e well unread.0)
     well_output e well last (inr runs) = run_output e well runs last
@@ -360,7 +359,7 @@ module _ {S : Type 0} (files : S → Folder) (may_leave : S → Folder → Type 
     pub lines_output : (e : End) (status : ℕ) (before now : Counts) → WellOr status e before now
         → (AnyRose before now → ⊥) → (status ≡ 4 → ⊥) → (status ≡ 7 → ⊥)
         → Concludes e status between taken_now
-        → IsUnread e journal taken between old new ⊎ Running e
+        → IsUnread e taken between old new ⊎ Running e
         → Writes taken taken_now (IsOutputOver (load_in t) lines clock (files old))
     lines_output e status before now (inl well) none not-four not-seven last runs =
         well_output e well.1 (told_plainly e status between taken_now last not-four not-seven).1 runs
@@ -374,12 +373,12 @@ module _ {S : Type 0} (files : S → Folder) (may_leave : S → Folder → Type 
 -- it kept and skipped what it says, unless memory ran out or the disk failed
 pub rebuilt_output : {S : Type 0} (files : S → Folder) (may_leave : S → Folder → Type 0)
     (moment : S → ℕ) (left_since : S → ℕ → Folder → Type 0) (clock clock_now : ℕ → ℕ) (e : End)
-    (journal : List Entry) (old_shelf new_shelf : S) (status : ℕ) (before now : Counts)
+    (old_shelf new_shelf : S) (status : ℕ) (before now : Counts)
     (old new : List ℕ)
-    → RebuildsFolder files may_leave moment left_since clock clock_now e journal old_shelf new_shelf
+    → RebuildsFolder files may_leave moment left_since clock clock_now e old_shelf new_shelf
     → ComesFrom before now e → (AnyRose before now → ⊥) → (status ≡ 4 → ⊥) → (status ≡ 7 → ⊥)
     → Concludes e status old new → Writes old new (IsRebuiltOutput clock (files old_shelf))
-rebuilt_output files may_leave moment left_since clock clock_now e journal old_shelf new_shelf status before now old new rebuilds cause still not-four not-seven last =
+rebuilt_output files may_leave moment left_since clock clock_now e old_shelf new_shelf status before now old new rebuilds cause still not-four not-seven last =
     by_result rebuilds.result rebuilds.told rebuilds.leaves
   where
     plain : (status ≡ status_of e) × Appends old new (text_of e)

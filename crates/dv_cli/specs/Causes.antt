@@ -1,14 +1,12 @@
 -- What each end and each status of a run comes from, and how often the clock is read.
-use Rattle.std.specs.Prelude.{◌≡◌, ◌⊎◌, ◌≤◌, ◌+◌, ◌*◌, ℕ, List, [], length, Option, Some, None, Result, Ok, Err, ⊤}
+use Rattle.std.specs.Prelude.{◌≡◌, ◌⊎◌, ◌≤◌, ◌+◌, ◌*◌, ℕ, List, length, Option, Some, None, Result, Ok, Err, ⊤}
 use Rattle.dv_model.specs.declared.types.OpenFault.{OpenFault}
 use Rattle.dv_model.specs.declared.types.OpenFault.TheVariants as fault
 use Rattle.dv_model.specs.Counts.{Rose}
-use Rattle.dv_model.specs.declared.types.Entry.{Entry}
 use Rattle.dv_shelf.specs.Folders.{Folder}
 use Rattle.dv_formats.specs.Parsing.{ScriptFault}
 use Rattle.dv_formats.specs.Scripts.{NamedLine}
-use Rattle.dv_script.specs.declared.types.Line.{Line}
-use Rattle.dv_script.specs.Sources.{ScriptFails, all_named}
+use Rattle.dv_script.specs.Sources.{ScriptFails}
 use Rattle.dv_openings.specs.Openings.{IsFound}
 use Rattle.dv_chain.specs.Openings.{FaultFound}
 use Rattle.dv_serial.specs.Serves.{TakesUpTo}
@@ -86,13 +84,12 @@ TellsFaults folder e = ⊤
 
 -- ---- before the folder is touched
 
--- the lines are those of the script, or its fault is told; the source failed, or memory ran out
-abbrev pub ScriptEnds : Result (List Line) End → Result (List NamedLine) ScriptFault → Type 0
-ScriptEnds (Ok lines) read = read ≡ Ok (all_named lines)
-ScriptEnds (Err (end.Script fault)) read = ScriptFails fault read
-ScriptEnds (Err (end.Source faults)) read = ⊤
-ScriptEnds (Err end.NoMemory) read = ⊤
-ScriptEnds (Err e) read = ⊥
+-- a script that isn't served: its fault is told, or the source failed, or memory ran out
+abbrev pub ScriptEnds : End → Result (List NamedLine) ScriptFault → Type 0
+ScriptEnds (end.Script fault) read = ScriptFails fault read
+ScriptEnds (end.Source faults) read = ⊤
+ScriptEnds end.NoMemory read = ⊤
+ScriptEnds e read = ⊥
 
 -- the same without what the script says
 abbrev pub IsReadEnd : End → ℕ → ℕ → Type 0
@@ -101,12 +98,10 @@ IsReadEnd (end.Script fault) before now = ⊤
 IsReadEnd (end.Source faults) before now = Rose before now × (faults ≡ now)
 IsReadEnd e before now = ⊥
 
--- neither the folder nor the clock is touched, and no group is written
-pub record IsUntouched {S C : Type 0} (old new : S) (before now : C) (entries : List Entry)
-    : Type 0 where
+-- neither the folder nor the clock is touched
+pub record IsUntouched {S C : Type 0} (old new : S) (before now : C) : Type 0 where
   pub shelf : new ≡ old
   pub clock : now ≡ before
-  pub journal : entries ≡ []
 
 -- ---- a run before its last line
 

@@ -1,6 +1,5 @@
 -- A run that rebuilds its folder. The records take the members of a shelf's type.
-use Rattle.std.specs.Prelude.{◌≡◌, ℕ, List, [], Result, Ok, Err, OnOk}
-use Rattle.dv_model.specs.declared.types.Entry.{Entry}
+use Rattle.std.specs.Prelude.{◌≡◌, ℕ, Result, Ok, Err, OnOk}
 use Rattle.dv_model.specs.declared.types.OpenFault.TheVariants as open_fault
 use Rattle.dv_shelf.specs.Clocks.{behind}
 use Rattle.dv_shelf.specs.Crashes.{IsSettled, LeavesOnly}
@@ -22,11 +21,10 @@ rebuilt_end (Err (fault.Disk faults)) = end.Unopened (open_fault.Disk faults)
 -- leaves it as it was or rebuilt; and behind a rebuild only what is read.
 pub record RebuildsFolder {S : Type 0} (files : S → Folder) (may_leave : S → Folder → Type 0)
     (moment : S → ℕ) (left_since : S → ℕ → Folder → Type 0) (clock clock_now : ℕ → ℕ) (e : End)
-    (journal : List Entry) (old new : S) : Type 0 where
+    (old new : S) : Type 0 where
   pub result : Result Rebuilt RebuildFault
   pub told : e ≡ rebuilt_end result
   pub leaves : LeavesRebuilt (files old) (clock 0) (files new) result
   pub crash : LeavesOnly moment left_since old new (IsOldOrRebuilt (files old) (clock 0))
   pub settled : OnOk result (IsSettled files may_leave new)
   pub readings : clock_now ≡ behind clock 1
-  pub journal_is : journal ≡ []

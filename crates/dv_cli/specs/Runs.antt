@@ -1,6 +1,5 @@
 -- What a whole run answers, writes and leaves. The records take the members of a shelf's type.
 use Rattle.std.specs.Prelude.{◌≡◌, ◌≢◌, ◌⊎◌, ◌+◌, ◌++◌, ℕ, List, [], ◌∷◌, drop, length, Option, ⊤}
-use Rattle.dv_model.specs.declared.types.Entry.{Entry}
 use Rattle.dv_model.specs.declared.types.OpenFault.{OpenFault}
 use Rattle.dv_model.specs.Journals.{Log}
 use Rattle.dv_model.specs.Transcripts as transcripts
@@ -18,7 +17,7 @@ use Rattle.dv_openings.specs.Openings.{IsFound}
 use Rattle.dv_playing.specs.Laws.{lines_of}
 use Rattle.dv_playing.specs.Playing.{Attempt, begin, replies_to}
 use Rattle.dv_serial.specs.Following.{IsLeft}
-use Rattle.dv_serial.specs.NextRuns.{LeavesTrue}
+use Rattle.dv_serial.specs.NextRuns.{IsTrueFolder, LeavesTrue}
 use Rattle.dv_serial.specs.Others.{MayTouch}
 use Rattle.dv_serial.specs.Places.{GivesBehind, MayGive, play_of}
 use Rattle.dv_serial.specs.Runs.{IsTried}
@@ -32,7 +31,7 @@ use Rattle.dv_cli.specs.Starts.{IsNew, Starts}
 
 -- ---- lines that were answered
 
--- How a run over lines ends: behind all of them, with the place behind the journal, its number of
+-- How a run over lines ends: behind all of them, with the place behind the log, the number of
 -- groups, and, where a load was generated, what the mailbox has then; or where memory or the output
 -- ended it, at the first of the rest.
 abbrev pub EndsAt : Option Load → End → (ℕ → ℕ) → ℕ → Log → List Attempt → List Attempt
@@ -71,17 +70,19 @@ MayLeave clock start attempts old c =
     (IsNew old × (c ≡ old)) ⊎ MayGive clock start attempts c
 
 -- The lines of a script are answered in the mailbox that was found or made. The first ones were, as
--- one play of the session rules says it: their replies are a serial run of the one log that start
--- and journal are. The first of the others may have left its group, as the last of the journal, or
+-- one play of the session rules says it: their replies are a serial run of the one log that `start`
+-- and the written groups make. That log's entries, `(play_of (behind clock used) start (answered ++
+-- left)).log.entries`, have the group of each write that was served once, in order, with its
+-- session's number. The first of the other lines may have left its group, as the last of them, or
 -- be one that the disk failed. The folder gives that log, with its messages and a true cache, or
 -- that with the group of the last write that the disk failed, behind which none was written; so
 -- does what a crash behind the run leaves, and a crash during it leaves a front of it. A file that
 -- none of these lines may change is as it was, but for the log, whose end the opening may close. A
--- next run may begin from what is left, and from what a crash behind the run leaves.
+-- next run may begin from what is left, and from what a crash leaves, behind the run or during it.
 pub record ServesLines {S : Type 0} (files : S → Folder) (may_leave : S → Folder → Type 0)
     (moment : S → ℕ) (left_since : S → ℕ → Folder → Type 0) (clock clock_now : ℕ → ℕ)
     (base faults : ℕ) (load : Option Load) (lines : List NamedLine) (e : End)
-    (journal : List Entry) (told : Type 0) (taken taken_now : List ℕ) (old new : S)
+    (told : Type 0) (taken taken_now : List ℕ) (old new : S)
     : Type 0 where
   pub start : Log
   pub used : ℕ
@@ -93,7 +94,6 @@ pub record ServesLines {S : Type 0} (files : S → Folder) (may_leave : S → Fo
   pub ends : EndsAt load e (behind clock used) base start answered left rest
   pub serial : Serial (play_of (behind clock used) start (answered ++ left)).log base faults
       (numbered lines) (replies_to (behind clock used) (begin start) answered)
-  pub entries : journal ≡ (play_of (behind clock used) start (answered ++ left)).log.entries
   pub output : told → WritesLines e (behind clock used) start answered left lines taken taken_now
   pub readings : IsAnswered e
       → clock_now ≡ behind clock (used + (play_of (behind clock used) start answered).used)
@@ -104,7 +104,7 @@ pub record ServesLines {S : Type 0} (files : S → Folder) (may_leave : S → Fo
       → GivesBehind (behind clock used) start (answered ++ left) c
   pub crash : LeavesOnly moment left_since old new
       (MayLeave (behind clock used) start (answered ++ left) (files old))
-  pub next : LeavesTrue files may_leave new
+  pub next : LeavesTrue files may_leave moment left_since old new
 
 -- ---- a folder that isn't opened
 
@@ -114,7 +114,7 @@ abbrev pub IsUnopened : (ℕ → ℕ) → Folder → Folder → Type 0
 IsUnopened clock old c = IsQuiet old c ⊎ (IsNew old × IsOldOrCreated old (clock 0) c)
 
 -- No line was answered: a fault was found in the folder, memory ran out, or the disk failed; and
--- what is left then, and what a crash leaves.
+-- what is left then, and what a crash leaves. Where this run might begin, so may a next one.
 pub record LeavesUnopened {S : Type 0} (files : S → Folder) (may_leave : S → Folder → Type 0)
     (moment : S → ℕ) (left_since : S → ℕ → Folder → Type 0) (clock : ℕ → ℕ) (f : OpenFault)
     (old new : S) : Type 0 where
@@ -123,18 +123,19 @@ pub record LeavesUnopened {S : Type 0} (files : S → Folder) (may_leave : S →
   pub folder : IsUnopened clock (files old) (files new)
   pub after : (c : Folder) → may_leave new c → IsUnopened clock (files old) c
   pub crash : LeavesOnly moment left_since old new (IsUnopened clock (files old))
+  pub next : IsTrueFolder (files old) → LeavesTrue files may_leave moment left_since old new
 
 -- ---- both
 
 -- the lines of a script are answered, or the folder isn't opened
 abbrev pub RunsOver : {S : Type 0} → (S → Folder) → (S → Folder → Type 0) → (S → ℕ)
     → (S → ℕ → Folder → Type 0) → (ℕ → ℕ) → (ℕ → ℕ) → ℕ → ℕ → Option Load → List NamedLine → End
-    → List Entry → Type 0 → List ℕ → List ℕ → S → S → Type 0
+    → Type 0 → List ℕ → List ℕ → S → S → Type 0
 RunsOver files may_leave moment left_since clock clock_now base faults load lines (end.Unopened f)
-    journal told taken taken_now old new =
-    (journal ≡ []) × (told → taken_now ≡ taken)
+    told taken taken_now old new =
+    (told → taken_now ≡ taken)
     × LeavesUnopened files may_leave moment left_since clock f old new
-RunsOver files may_leave moment left_since clock clock_now base faults load lines e journal told
+RunsOver files may_leave moment left_since clock clock_now base faults load lines e told
     taken taken_now old new =
-    ServesLines files may_leave moment left_since clock clock_now base faults load lines e journal
-    told taken taken_now old new
+    ServesLines files may_leave moment left_since clock clock_now base faults load lines e told
+    taken taken_now old new

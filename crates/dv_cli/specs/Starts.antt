@@ -10,7 +10,7 @@ use Rattle.dv_openings.specs.Openings.{Finds, IsFound}
 use Rattle.dv_openings.specs.Rebuilds.{stamp_of}
 use Rattle.dv_chain.specs.Creations.{first_mailbox}
 use Rattle.dv_mails.specs.Reading.{guid_at, mail_at}
-use Rattle.dv_serial.specs.NextRuns.{IsNamed}
+use Rattle.dv_openings.specs.Numbers.{IsNamed}
 
 -- a file is one of a mailbox's; a cache file alone makes none
 abbrev pub is_of_mailbox : Name → Bool

@@ -1,6 +1,5 @@
 -- A whole run, with its last line. The records take the members of a shelf's type.
-use Rattle.std.specs.Prelude.{◌≡◌, ◌⊎◌, ℕ, List, [], Option, ⊤}
-use Rattle.dv_model.specs.declared.types.Entry.{Entry}
+use Rattle.std.specs.Prelude.{◌≡◌, ◌⊎◌, ℕ, List, Option, ⊤}
 use Rattle.dv_script.specs.declared.types.ScriptEnd.TheVariants as script
 use Rattle.dv_shelf.specs.Folders.{Folder}
 use Rattle.dv_formats.specs.Parsing.{ScriptFault}
@@ -22,32 +21,36 @@ EndsReading (end.Script script.NoMemory) = ⊤
 EndsReading e = ⊥
 
 -- the script couldn't be read, or memory ran out before the folder was touched
-abbrev pub IsUnread : {S : Type 0} → End → List Entry → List ℕ → List ℕ → S → S → Type 0
-IsUnread e journal taken taken_now old new =
-    EndsReading e × (journal ≡ []) × (taken_now ≡ taken) × (new ≡ old)
+abbrev pub IsUnread : {S : Type 0} → End → List ℕ → List ℕ → S → S → Type 0
+IsUnread e taken taken_now old new =
+    EndsReading e × (taken_now ≡ taken) × (new ≡ old)
 
--- The lines of a task: the script couldn't be read after all, or memory for generated ones ran out,
--- and the folder is untouched; or they were answered. To generated ones no reply is written.
+-- The lines of a task: the script couldn't be read after all, and the folder is untouched; or they
+-- were answered, or the folder isn't opened, as it always is with generated ones. To these no reply
+-- is written.
 pub record RunsTask {S : Type 0} (files : S → Folder) (may_leave : S → Folder → Type 0)
     (moment : S → ℕ) (left_since : S → ℕ → Folder → Type 0) (clock clock_now : ℕ → ℕ)
     (base faults : ℕ) (t : Option Task) (lines : List NamedLine) (e : End)
-    (journal : List Entry) (told : Type 0) (taken taken_now : List ℕ) (old new : S)
+    (told : Type 0) (taken taken_now : List ℕ) (old new : S)
     : Type 0 where
-  pub runs : IsUnread e journal taken taken_now old new
+  pub runs : IsUnread e taken taken_now old new
       ⊎ RunsOver files may_leave moment left_since clock clock_now base faults (load_in t) lines e
-      journal (RepliesTold t told) taken taken_now old new
+      (RepliesTold t told) taken taken_now old new
+  pub loads : (HasScript t → ⊥)
+      → RunsOver files may_leave moment left_since clock clock_now base faults (load_in t) lines e
+      (RepliesTold t told) taken taken_now old new
   pub silent : (HasScript t → ⊥) → taken_now ≡ taken
 
 -- A run over the lines of a task, behind which the last line was written.
 pub record IsRun {S : Type 0} (files : S → Folder) (may_leave : S → Folder → Type 0)
     (moment : S → ℕ) (left_since : S → ℕ → Folder → Type 0) (clock clock_now : ℕ → ℕ)
     (before now : Counts) (t : Option Task) (lines : List NamedLine) (status : ℕ)
-    (journal : List Entry) (told : Type 0) (taken taken_now : List ℕ) (old new : S)
+    (told : Type 0) (taken taken_now : List ℕ) (old new : S)
     : Type 0 where
   pub how : End
   pub between : List ℕ
   pub runs : RunsTask files may_leave moment left_since clock clock_now before.shelf now.shelf t
-      lines how journal told taken between old new
+      lines how told taken between old new
   pub cause : ComesFrom before now how
   pub ended : IsStatus how status
   pub concludes : told → Concludes how status between taken_now
@@ -55,11 +58,10 @@ pub record IsRun {S : Type 0} (files : S → Folder) (may_leave : S → Folder �
 -- A run that rebuilds its folder, behind which the last line was written.
 pub record IsRebuildRun {S : Type 0} (files : S → Folder) (may_leave : S → Folder → Type 0)
     (moment : S → ℕ) (left_since : S → ℕ → Folder → Type 0) (clock clock_now : ℕ → ℕ)
-    (before now : Counts) (status : ℕ) (journal : List Entry) (told : Type 0)
+    (before now : Counts) (status : ℕ) (told : Type 0)
     (taken taken_now : List ℕ) (old new : S) : Type 0 where
   pub how : End
-  pub rebuilds : RebuildsFolder files may_leave moment left_since clock clock_now how journal old
-      new
+  pub rebuilds : RebuildsFolder files may_leave moment left_since clock clock_now how old new
   pub cause : ComesFrom before now how
   pub ended : IsStatus how status
   pub concludes : told → Concludes how status taken taken_now

@@ -161,7 +161,6 @@ fn serve<O: Sink, E: Sink>(
         status,
         shelf: _shelf,
         clock: _clock,
-        journal: _journal,
     } = run(rt.alloc(), words, shelf, &mut script, out, clock, &OpenGate);
     if status == 1 {
         tell_usage(errors);

@@ -10,7 +10,7 @@ ghost use Rattle.dv_cli.specs.declared.words.Task.TheVariants as task;
 
 use crate::ending::End;
 use crate::running::Outcome;
-use dv_model::{List, OpenFault};
+use dv_model::OpenFault;
 use dv_rebuild::{RebuildFault, Rebuilt, rebuild};
 use dv_shelf::{Clock, Shelf};
 use std::alloc::Global;
@@ -30,7 +30,7 @@ fn rebuilt_end(rebuilt: Result<Rebuilt, RebuildFault>) -> End
 pub fn run_rebuild<S: Shelf, C: Clock>(alloc: Global, mut shelf: S, mut clock: C) -> Outcome<S, C>
     ensures rebuilds { S.tells → C.tells → IsSettled S.files S.may_leave shelf →
         RebuildsFolder S.files S.may_leave S.moment S.left_since (C.upcoming clock)
-        (C.upcoming result.clock) result.end result.journal shelf result.shelf }
+        (C.upcoming result.clock) result.end shelf result.shelf }
     // Each end is of a rebuild and has its cause, and the clock is read once.
     ensures ends { EndsBy (Some task.Rebuild) result.end }
     ensures cause { (source output : ℕ) → HasRunCause
@@ -39,10 +39,5 @@ pub fn run_rebuild<S: Shelf, C: Clock>(alloc: Global, mut shelf: S, mut clock: C
     ensures readings { C.tells → C.upcoming result.clock ≡ behind (C.upcoming clock) 1 }
 {
     let end = rebuilt_end(rebuild(alloc, &mut shelf, &mut clock));
-    Outcome {
-        end,
-        shelf,
-        clock,
-        journal: List::new(alloc),
-    }
+    Outcome { end, shelf, clock }
 }

@@ -1,9 +1,9 @@
 //! The lines of a script over a mailbox folder.
 
-ghost use Rattle.std.specs.Prelude.{◌≡◌, ◌≤◌, ◌*◌, ◌^◌, [], ℕ, All, length};
+ghost use Rattle.std.specs.Prelude.{◌≡◌, ◌≤◌, ◌*◌, ◌^◌, ℕ, All, length};
 ghost use Rattle.dv_cli.specs.declared.ending.End.TheVariants as how;
 ghost use Rattle.dv_shelf.specs.Crashes.{IsSettled};
-ghost use Rattle.dv_script.specs.Sources.{all_named};
+ghost use Rattle.dv_formats.specs.Scripts.{NamedLine, sessions_of};
 ghost use Rattle.dv_serial.specs.NextRuns.{IsTrueFolder};
 ghost use Rattle.dv_serial.specs.Serves.{IsServable, TakesUpTo};
 ghost use Rattle.dv_cli.specs.Begins.{IsBegun};
@@ -14,20 +14,18 @@ ghost use Rattle.dv_cli.specs.Runs.{RunsOver, ServesLines};
 use crate::ending::{End, Loaded};
 use crate::opening::open_folder;
 use crate::words::Load;
-use dv_model::{Entry, List, Mark, NoMemory};
-use dv_script::Line;
-use dv_serial::{LineEnd, Numbered, Serial, new_seats, next_runs_begin, number_lines};
+use dv_model::Mark;
+use dv_script::Lines;
+use dv_serial::{LineEnd, Serial, new_seats};
 use dv_shelf::{Clock, Gate, Shelf, Sink};
 use dv_store::Store;
 use std::alloc::Global;
 
-/// How a run ends, with the folder, the clock, and the groups that it wrote, each with the number
-/// of its session.
+/// How a run ends, with the folder and the clock.
 pub struct Outcome<S, C> {
     pub end: End,
     pub shelf: S,
     pub clock: C,
-    pub journal: List<Entry>,
 }
 
 /// What is told of a generated load, with the mailbox as it is.
@@ -43,13 +41,13 @@ fn loaded_by<S: Shelf, C: Clock>(load: Option<Load>, serial: &Serial<S, C>) -> O
 }
 
 /// How a run ends behind its lines.
-fn end_behind(served: Result<(), LineEnd>, mark: Mark, groups: usize, loaded: Option<Loaded>) -> End
+fn end_behind(served: Result<(), LineEnd>, mark: Mark, groups: u64, loaded: Option<Loaded>) -> End
     ensures { result ≡ end_behind served mark groups loaded }
 {
     match served {
         Ok(()) => End::Answered {
             mark,
-            groups: groups as u64,
+            groups,
             loaded,
         },
         Err(LineEnd::NoMemory) => End::NoMemory,
@@ -58,27 +56,20 @@ fn end_behind(served: Result<(), LineEnd>, mark: Mark, groups: usize, loaded: Op
 }
 
 /// The outcome where the folder isn't touched.
-pub fn untouched<S, C>(alloc: Global, shelf: S, clock: C, end: End) -> Outcome<S, C>
+pub fn untouched<S, C>(shelf: S, clock: C, end: End) -> Outcome<S, C>
     ensures end { result.end ≡ end }
     ensures shelf { result.shelf ≡ shelf }
     ensures clock { result.clock ≡ clock }
-    ensures journal { result.journal ≡ [] }
 {
-    Outcome {
-        end,
-        shelf,
-        clock,
-        journal: List::new(alloc),
-    }
+    Outcome { end, shelf, clock }
 }
 
 /// The outcome where memory ran out before the first line.
-fn unserved<S, C>(alloc: Global, store: Store<S, C>) -> Outcome<S, C>
+fn unserved<S, C>(store: Store<S, C>) -> Outcome<S, C>
     ensures { result ≡ record {
       end = how.NoMemory;
       shelf = store.shelf;
       clock = store.clock;
-      journal = [];
     } }
 {
     let (shelf, clock) = store.parts();
@@ -86,89 +77,82 @@ fn unserved<S, C>(alloc: Global, store: Store<S, C>) -> Outcome<S, C>
         end: End::NoMemory,
         shelf,
         clock,
-        journal: List::new(alloc),
     }
 }
 
-/// Answers the lines of a script in a mailbox that was opened, to sessions that are made for them.
+/// Answers the lines of a script in a mailbox that was opened, to as many sessions.
 /// Where they are of a generated load, it is told at the end.
-fn serve_lines<S: Shelf, C: Clock, O: Sink, G: Gate>(
+fn serve_lines<S: Shelf, C: Clock, L: Lines, O: Sink, G: Gate>(
     alloc: Global,
     store: Store<S, C>,
     load: Option<Load>,
-    lines: &[Line],
+    lines: &mut L,
+    sessions: u32,
     out: &mut O,
     gate: &G,
 ) -> Outcome<S, C>
-    requires servable { All (λ line. IsServable line.command) lines.now }
-    requires few { length lines.now ≤ 2 ^ 26 }
+    requires servable { All (λ (line : NamedLine). IsServable line.1) (L.left lines.old) }
+    requires few { length (L.left lines.old) ≤ 2 ^ 26 }
+    requires sessions { sessions ≡ length (sessions_of (L.left lines.old)) }
     // Where the store is one from which a run begins: what is answered, written and left.
     ensures runs { S.tells → C.tells → (clock : ℕ → ℕ) (old : S) →
         IsBegun S.files S.may_leave S.moment S.left_since C.upcoming clock old store →
         (base : ℕ) → base ≤ S.fault_count store.shelf →
         ServesLines S.files S.may_leave S.moment S.left_since clock (C.upcoming result.clock)
-        base (S.fault_count result.shelf) load (all_named lines.now) result.end
-        result.journal O.tells (O.taken out.old) (O.taken out.new) old result.shelf }
+        base (S.fault_count result.shelf) load (L.left lines.old) result.end
+        O.tells (O.taken out.old) (O.taken out.new) old result.shelf }
     ensures ends { EndsServing result.end }
     ensures cause { EndCause (S.fault_count store.shelf) (S.fault_count result.shelf)
         (O.fault_count out.old) (O.fault_count out.new) result.end }
-    ensures readings { C.tells → TakesUpTo (2 * length lines.now) (C.upcoming store.clock)
+    ensures readings { C.tells → TakesUpTo (2 * length (L.left lines.old)) (C.upcoming store.clock)
         (C.upcoming result.clock) }
 {
-    let Ok(Numbered { turns, sessions }) = number_lines(alloc, lines) else {
-        return unserved(alloc, store);
-    };
     let Ok(seats) = new_seats(alloc, sessions) else {
-        return unserved(alloc, store);
+        return unserved(store);
     };
     let mut serial = Serial::new(alloc, store, seats);
-    let served = serial.serve_lines(lines, turns.as_slice(), gate, out);
-    next_runs_begin(&serial);
+    let served = serial.serve_lines(lines, gate, out);
     let loaded = loaded_by(load, &serial);
     let end = end_behind(served, serial.mark(), serial.count(), loaded);
-    let (shelf, clock, journal) = serial.parts();
-    Outcome {
-        end,
-        shelf,
-        clock,
-        journal,
-    }
+    let (shelf, clock) = serial.parts();
+    Outcome { end, shelf, clock }
 }
 
 /// Opens or makes the mailbox, and answers the lines in it, which may be of a generated load.
-pub fn run_folder<S: Shelf, C: Clock, O: Sink, G: Gate>(
+pub fn run_folder<S: Shelf, C: Clock, L: Lines, O: Sink, G: Gate>(
     alloc: Global,
     load: Option<Load>,
-    lines: &[Line],
+    lines: &mut L,
+    sessions: u32,
     shelf: S,
     clock: C,
     out: &mut O,
     gate: &G,
 ) -> Outcome<S, C>
-    requires servable { All (λ line. IsServable line.command) lines.now }
-    requires few { length lines.now ≤ 2 ^ 26 }
+    requires servable { All (λ (line : NamedLine). IsServable line.1) (L.left lines.old) }
+    requires few { length (L.left lines.old) ≤ 2 ^ 26 }
+    requires sessions { sessions ≡ length (sessions_of (L.left lines.old)) }
     // Of a settled folder with a true cache: what is answered, written and left, at any moment too.
     ensures runs { S.tells → C.tells → IsSettled S.files S.may_leave shelf →
         IsTrueFolder (S.files shelf) →
         RunsOver S.files S.may_leave S.moment S.left_since (C.upcoming clock)
         (C.upcoming result.clock) (S.fault_count shelf) (S.fault_count result.shelf)
-        load (all_named lines.now) result.end result.journal O.tells (O.taken out.old)
+        load (L.left lines.old) result.end O.tells (O.taken out.old)
         (O.taken out.new) shelf result.shelf }
     // A fault that is found is told, and only where there is none all lines are answered.
     ensures found { S.tells → TellsFaults (S.files shelf) result.end }
     // Each end has its cause, and the clock is read so often.
     ensures cause { EndCause (S.fault_count shelf) (S.fault_count result.shelf)
         (O.fault_count out.old) (O.fault_count out.new) result.end }
-    ensures readings { C.tells → TakesForRun (length lines.now) (C.upcoming clock)
+    ensures readings { C.tells → TakesForRun (length (L.left lines.old)) (C.upcoming clock)
         (C.upcoming result.clock) result.end }
 {
     match open_folder(alloc, shelf, clock) {
-        Ok(store) => serve_lines(alloc, store, load, lines, out, gate),
+        Ok(store) => serve_lines(alloc, store, load, lines, sessions, out, gate),
         Err((shelf, clock, fault)) => Outcome {
             end: End::Unopened(fault),
             shelf,
             clock,
-            journal: List::new(alloc),
         },
     }
 }

@@ -33,7 +33,7 @@ fn given(script: &[u8]) -> Setting {
     }
 }
 
-/// What a run left.
+/// What a run left, with the number of groups that its last line tells.
 #[derive(Drop)]
 struct Left<S: Drop> {
     status: u8,
@@ -66,7 +66,6 @@ fn play_in<S: Shelf + Send + Drop, G: Gate + Sync>(
         status,
         shelf,
         clock: _clock,
-        journal,
     } = run(
         alloc,
         words.as_slice(),
@@ -79,7 +78,7 @@ fn play_in<S: Shelf + Send + Drop, G: Gate + Sync>(
     Ok(Left {
         status,
         output: List::from_slice(alloc, out.taken())?,
-        groups: journal.len(),
+        groups: groups_in(last_line(out.taken())),
         shelf,
     })
 }
@@ -131,6 +130,21 @@ fn count_of(text: &[u8], word: &[u8]) -> usize {
         }
     }
     count
+}
+
+/// The number of groups that a last line tells; 0 where it tells none.
+fn groups_in(line: &[u8]) -> usize {
+    let mut groups = 0usize;
+    let mut told = false;
+    for at in 0..line.len() {
+        let (front, _) = line.split_at(at);
+        told = told || front.ends_with(b" GROUPS ");
+        if told && line[at] != b'\n' {
+            let digit = line[at].saturating_sub(b'0');
+            groups = groups.saturating_mul(10).saturating_add(digit as usize);
+        }
+    }
+    groups
 }
 
 /// The last line of a text.

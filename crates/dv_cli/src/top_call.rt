@@ -1,13 +1,13 @@
 //! The whole run.
 
-ghost use Rattle.std.specs.Prelude.{◌≡◌, ◌≢◌, ◌⊎◌, ◌^◌, ◌≤◌, ℕ, All, Err, IfErr, IfOk, List, None, Ok, Some, length, map, string_bytes};
+ghost use Rattle.std.specs.Prelude.{◌≡◌, ◌≢◌, ◌⊎◌, ◌≤◌, ℕ, Err, IfErr, IfOk, List, None, Ok, Result, Some, length, map, string_bytes};
 ghost use Rattle.dv_model.specs.Journals.{Log};
 ghost use Rattle.dv_shelf.specs.Crashes.{IsSettled};
 ghost use Rattle.dv_shelf.specs.Streams.{Appends};
 ghost use Rattle.dv_formats.specs.Parsing.{ScriptFault, parsed};
 ghost use Rattle.dv_formats.specs.Scripts.{NamedLine};
 ghost use Rattle.dv_serial.specs.NextRuns.{IsTrueFolder};
-ghost use Rattle.dv_serial.specs.Serves.{IsServable, TakesUpTo};
+ghost use Rattle.dv_serial.specs.Serves.{TakesUpTo};
 ghost use Rattle.dv_cli.specs.Causes.{AnyRose, EndsRefused, HasCauses, HasFault, HasRunCause, IsOr, IsReadEnd, IsTimed, IsUntouched, ScriptEnds, TakesByEnd, TellsFaults, TellsScript, counts_of, most_readings};
 ghost use Rattle.dv_cli.specs.Outputs.{IsOutputOf};
 ghost use Rattle.dv_cli.specs.Readings.{TakesFront};
@@ -27,40 +27,34 @@ use crate::reading::{ReadEnd, read_script};
 use crate::rebuilding::run_rebuild;
 use crate::running::{Outcome, run_folder, untouched};
 use crate::words::{Task, task_of};
-use dv_model::{Entry, List};
-use dv_script::{Line, parse};
+use dv_model::Bytes;
+use dv_script::{Script, open_script};
 use dv_serial::commands_are_servable;
 use dv_shelf::{Clock, Gate, Shelf, Sink, Source};
 use std::alloc::Global;
 
-/// What a run leaves: its exit status, the folder and the clock, and the groups that it wrote,
-/// each with the number of the session that wrote it.
+/// What a run leaves: its exit status, the folder and the clock.
 pub struct Ran<S, C> {
     pub status: u8,
     pub shelf: S,
     pub clock: C,
-    pub journal: List<Entry>,
 }
 
-/// The lines of the script, or how a run without them ends.
-fn script_lines<I: Source>(alloc: Global, script: &mut I) -> Result<List<Line>, End>
-    ensures lines { I.tells → ScriptEnds result (parsed (I.left script.old)) }
-    ensures servable { IfOk result (λ lines. All (λ line. IsServable line.command) lines) }
-    ensures few { IfOk result (λ lines. length lines ≤ 2 ^ 26) }
+/// The script's text, or how a run without it ends.
+fn script_text<I: Source>(alloc: Global, script: &mut I) -> Result<Bytes, End>
+    ensures text { I.tells → IfOk result (λ text.
+        parsed text ≡ parsed (I.left script.old)) }
+    ensures unread { IfErr result (λ e. (read : Result (List NamedLine) ScriptFault) →
+        ScriptEnds e read) }
     ensures bound { I.tells → TakesFront (I.left script.old) (I.left script.new) }
     ensures later { I.fault_count script.old ≤ I.fault_count script.new }
     ensures cause { IfErr result (λ e.
         IsReadEnd e (I.fault_count script.old) (I.fault_count script.new)) }
 {
-    let text = match read_script(alloc, script) {
-        Ok(text) => text,
-        Err(ReadEnd::Source(faults)) => return Err(End::Source(faults)),
-        Err(ReadEnd::NoMemory) => return Err(End::NoMemory),
-    };
-    commands_are_servable();
-    match parse(alloc, text.as_slice()) {
-        Ok(lines) => Ok(lines),
-        Err(end) => Err(End::Script(end)),
+    match read_script(alloc, script) {
+        Ok(text) => Ok(text),
+        Err(ReadEnd::Source(faults)) => Err(End::Source(faults)),
+        Err(ReadEnd::NoMemory) => Err(End::NoMemory),
     }
 }
 
@@ -77,13 +71,13 @@ fn run_script<S: Shelf, I: Source, O: Sink, C: Clock, G: Gate>(
     ensures runs { S.tells → C.tells → I.tells → IsSettled S.files S.may_leave shelf →
         IsTrueFolder (S.files shelf) → (lines : List NamedLine) →
         parsed (I.left script.old) ≡ Ok lines →
-        IsUnread result.end result.journal (O.taken out.old) (O.taken out.new) shelf result.shelf
+        IsUnread result.end (O.taken out.old) (O.taken out.new) shelf result.shelf
         ⊎ RunsOver S.files S.may_leave S.moment S.left_since (C.upcoming clock)
         (C.upcoming result.clock) (S.fault_count shelf) (S.fault_count result.shelf) None lines
-        result.end result.journal O.tells (O.taken out.old) (O.taken out.new) shelf result.shelf }
+        result.end O.tells (O.taken out.old) (O.taken out.new) shelf result.shelf }
     // One that is refused leaves everything but its source untouched.
     ensures refused { I.tells → (fault : ScriptFault) → parsed (I.left script.old) ≡ Err fault →
-        IsUntouched shelf result.shelf clock result.clock result.journal
+        IsUntouched shelf result.shelf clock result.clock
         × EndsRefused fault result.end × (out.new ≡ out.old) }
     // What the script and the folder hold is told, and each end has its cause.
     ensures script { I.tells → TellsScript (parsed (I.left script.old)) result.end }
@@ -101,9 +95,20 @@ fn run_script<S: Shelf, I: Source, O: Sink, C: Clock, G: Gate>(
     ensures unread { C.tells →
         TakesByEnd (C.upcoming clock) (C.upcoming result.clock) result.end }
 {
-    match script_lines(alloc, script) {
-        Ok(lines) => run_folder(alloc, None, lines.as_slice(), shelf, clock, out, gate),
-        Err(end) => untouched(alloc, shelf, clock, end),
+    let text = match script_text(alloc, script) {
+        Ok(text) => text,
+        Err(end) => return untouched(shelf, clock, end),
+    };
+    commands_are_servable();
+    match open_script(alloc, text.as_slice()) {
+        Ok(opened) => {
+            let Script {
+                mut lines,
+                sessions,
+            } = opened;
+            run_folder(alloc, None, &mut lines, sessions, shelf, clock, out, gate)
+        }
+        Err(end) => untouched(shelf, clock, End::Script(end)),
     }
 }
 
@@ -123,20 +128,20 @@ fn perform<S: Shelf, I: Source, O: Sink, C: Clock, G: Gate>(
         Answers (task_of (map string_bytes words.now)) I.tells (parsed (I.left script.old)) lines →
         RunsTask S.files S.may_leave S.moment S.left_since (C.upcoming clock)
         (C.upcoming result.clock) (S.fault_count shelf) (S.fault_count result.shelf)
-        (task_of (map string_bytes words.now)) lines result.end result.journal O.tells
+        (task_of (map string_bytes words.now)) lines result.end O.tells
         (O.taken out.old) (O.taken out.new) shelf result.shelf }
     ensures rebuilds { task_of (map string_bytes words.now) ≡ Some task.Rebuild → S.tells →
         C.tells → IsSettled S.files S.may_leave shelf → (out.new ≡ out.old)
         × RebuildsFolder S.files S.may_leave S.moment S.left_since (C.upcoming clock)
-        (C.upcoming result.clock) result.end result.journal shelf result.shelf }
+        (C.upcoming result.clock) result.end shelf result.shelf }
     // What is left untouched where they ask for nothing, or the script is refused.
     ensures usage { task_of (map string_bytes words.now) ≡ None → (out.new ≡ out.old)
         × (result.end ≡ how.Usage)
-        × IsUntouched shelf result.shelf clock result.clock result.journal }
+        × IsUntouched shelf result.shelf clock result.clock }
     ensures refused { task_of (map string_bytes words.now) ≡ Some task.Run → I.tells →
         (fault : ScriptFault) → parsed (I.left script.old) ≡ Err fault →
         EndsRefused fault result.end
-        × IsUntouched shelf result.shelf clock result.clock result.journal
+        × IsUntouched shelf result.shelf clock result.clock
         × (out.new ≡ out.old) }
     // What the script and the folder hold is told, and each end has its cause.
     ensures script { task_of (map string_bytes words.now) ≡ Some task.Run → I.tells →
@@ -156,7 +161,7 @@ fn perform<S: Shelf, I: Source, O: Sink, C: Clock, G: Gate>(
         TakesByEnd (C.upcoming clock) (C.upcoming result.clock) result.end }
 {
     let Some(task) = task_of(words) else {
-        return untouched(alloc, shelf, clock, End::Usage);
+        return untouched(shelf, clock, End::Usage);
     };
     match task {
         Task::Run => run_script(alloc, shelf, script, out, clock, gate),
@@ -180,17 +185,17 @@ pub fn run<S: Shelf + Send, I: Source, O: Sink, C: Clock + Send, G: Gate + Sync>
 ) -> Ran<S, C>
     // Over a settled folder whose cache file is true, with the lines of a script or generated ones.
     // Each reply is the session rules' answer over a prefix of the one log that was found, or made,
-    // and that the journal goes on, line by line. The bytes written are these replies, but to
+    // and that the written groups go on, line by line. The bytes written are these replies, but to
     // generated lines, and the last lines. What is left gives that log with its messages and a true
-    // cache, behind the whole journal, or with the group of the last write that the disk failed;
-    // and so does a crash at any moment, behind a front of the journal.
+    // cache, behind all these groups, or with the group of the last write that the disk failed; and
+    // so does a crash at any moment, behind a front of them.
     ensures runs { S.tells → C.tells → IsSettled S.files S.may_leave shelf →
         IsTrueFolder (S.files shelf) → (lines : List NamedLine) →
         Answers (task_of (map string_bytes words.now)) I.tells (parsed (I.left script.old)) lines →
         IsRun S.files S.may_leave S.moment S.left_since (C.upcoming clock) (C.upcoming result.clock)
         (counts_of (S.fault_count shelf) (I.fault_count script.old) (O.fault_count out.old))
         (counts_of (S.fault_count result.shelf) (I.fault_count script.new) (O.fault_count out.new))
-        (task_of (map string_bytes words.now)) lines result.status result.journal O.tells
+        (task_of (map string_bytes words.now)) lines result.status O.tells
         (O.taken out.old) (O.taken out.new) shelf result.shelf }
     // A settled folder is rebuilt, or left as it was; so does a crash at any moment.
     ensures rebuilds { task_of (map string_bytes words.now) ≡ Some task.Rebuild → S.tells →
@@ -199,18 +204,18 @@ pub fn run<S: Shelf + Send, I: Source, O: Sink, C: Clock + Send, G: Gate + Sync>
         (C.upcoming result.clock)
         (counts_of (S.fault_count shelf) (I.fault_count script.old) (O.fault_count out.old))
         (counts_of (S.fault_count result.shelf) (I.fault_count script.new) (O.fault_count out.new))
-        result.status result.journal O.tells (O.taken out.old) (O.taken out.new) shelf
+        result.status O.tells (O.taken out.old) (O.taken out.new) shelf
         result.shelf }
 
     // Words that ask for nothing leave everything untouched, and a script that is refused leaves
     // folder and clock so; what is written then.
     ensures usage { task_of (map string_bytes words.now) ≡ None →
-        IsUntouched shelf result.shelf clock result.clock result.journal
+        IsUntouched shelf result.shelf clock result.clock
         × ((result.status ≡ 1) ⊎ (result.status ≡ 7))
         × (O.tells → Prints 1 usage_text result.status (O.taken out.old) (O.taken out.new)) }
     ensures refused { task_of (map string_bytes words.now) ≡ Some task.Run → I.tells →
         (fault : ScriptFault) → parsed (I.left script.old) ≡ Err fault →
-        IsUntouched shelf result.shelf clock result.clock result.journal × IsRefused fault
+        IsUntouched shelf result.shelf clock result.clock × IsRefused fault
         (counts_of (S.fault_count shelf) (I.fault_count script.old) (O.fault_count out.old))
         (counts_of (S.fault_count result.shelf) (I.fault_count script.new) (O.fault_count out.new))
         result.status O.tells (O.taken out.old) (O.taken out.new) }
@@ -256,17 +261,11 @@ pub fn run<S: Shelf + Send, I: Source, O: Sink, C: Clock + Send, G: Gate + Sync>
     ensures readings { C.tells → IsTimed (task_of (map string_bytes words.now)) I.tells
         (parsed (I.left script.old)) result.status (C.upcoming clock) (C.upcoming result.clock) }
 {
-    let Outcome {
-        end,
-        shelf,
-        clock,
-        journal,
-    } = perform(alloc, words, shelf, script, out, clock, gate);
+    let Outcome { end, shelf, clock } = perform(alloc, words, shelf, script, out, clock, gate);
     let status = conclude(alloc, out, &end);
     Ran {
         status,
         shelf,
         clock,
-        journal,
     }
 }

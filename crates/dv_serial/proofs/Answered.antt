@@ -1,8 +1,7 @@
 -- A commit of the session at a place, by what its store answered.
-use Rattle.std.proofs.Common.{◌≡◌, ℕ, ◌+◌, ◌<◌, ◌≤◌, Bool, true, false, List, [], ◌∷◌, ◌++◌, length, None, Result, Ok, Err, refl, sym, ◌∙◌, ap, subst, arith}
-use Rattle.std.specs.Prelude.{IsOk, IsTrue, if◌then◌else◌, is_ok}
+use Rattle.std.proofs.Common.{◌≡◌, ℕ, ◌+◌, ◌<◌, ◌≤◌, Bool, true, false, List, [], ◌∷◌, length, None, Result, Ok, Err, refl, sym, ◌∙◌, ap, subst, arith}
+use Rattle.std.specs.Prelude.{IsTrue}
 use Rattle.dv_model.specs.declared.types.Command.{Command}
-use Rattle.dv_model.specs.declared.types.Entry.{Entry}
 use Rattle.dv_model.specs.declared.types.Record.{Record}
 use Rattle.dv_model.specs.Journals.{IsU32, Log}
 use Rattle.dv_model.specs.Sessions.{State as SessionState, is_write}
@@ -21,23 +20,17 @@ use Rattle.dv_store.specs.declared.receipt.Receipt.{Receipt}
 use Rattle.dv_store.specs.Commits.{Commits, CommitsQuietly, IsIdle, IsUnwritten, TakesReadings, write_of}
 use Rattle.dv_store.specs.Rest.{IsAtRest}
 use Rattle.dv_store.specs.States.{State}
-use Rattle.dv_serial.specs.Following.{Follows, Leaves}
+use Rattle.dv_serial.specs.Following.{Follows}
 use Rattle.dv_serial.specs.Places.{play_of}
 use Rattle.dv_serial.specs.Serves.{IsServable, seat_at}
 use Rattle.dv_serial.specs.Servings.{Serving}
 use Rattle.dv_serial.specs.Writes.{IsDone}
 use Rattle.dv_serial.specs.Writes as comes
-use Rattle.dv_serial.proofs.Committing.{done_nothing, done_written, failed, leaves_same}
+use Rattle.dv_serial.proofs.Committing.{done_nothing, done_written, failed}
 
 some_there : (rs : List Record) → (rs ≡ [] → ⊥) → 1 ≤ length rs
 some_there [] some = absurd (some refl)
 some_there (r ∷ rs) some = omega arith
-
--- ---- what a push and a test said
-
-pub pushed : {X T E : Type 0} (result : Result T E) (old new more : List X) → new ≡ (if is_ok result then old ++ more else old) → IsOk result → new ≡ old ++ more
-pushed (Ok done) old new more is ok = is
-pushed (Err e) old new more is ok = absurd cc
 
 pub not_both : (b : Bool) → IsTrue b → b ≡ false → ⊥
 not_both b is other = cc
@@ -60,11 +53,6 @@ module _ {S C : Type 0} (files : S → Folder) (may_leave : S → Folder → Typ
   good : IsLine line
   good = (small, servable.command)
 
-  -- no room for the entry
-  pub unready : (journal : List Entry) → journal ≡ old.journal → ((c : Folder) → left_since old.store.shelf (moment old.store.shelf) c → may_leave old.store.shelf c)
-      → Leaves files may_leave moment left_since clock start attempts old (record old { journal = journal })
-  unready = leaves_same files may_leave moment left_since upcoming clock start base faults attempts old follows line x same good write own
-
   -- ---- what the store's call says
 
   module _ (view : View) (seen : view ≡ x.view) (new : State S C) (result : Result Receipt StoreFault) where
@@ -83,24 +71,24 @@ module _ {S C : Type 0} (files : S → Folder) (may_leave : S → Folder → Typ
   module _ (view : View) (seen : view ≡ x.view) (new : State S C) where
     -- an error
     pub fails : (e : StoreFault) → Commits c view old.store new (Err e) → (IsIdle (Err e) → (new.shelf ≡ old.store.shelf) × (new.clock ≡ old.store.clock)) → (IsUnwritten (Err e) → OnlyLooks files may_leave moment left_since old.store.shelf new.shelf)
-        → GivesHere view seen new (Err e) → TakesReadings (readings_of c old.store.owed old.store.chain) (upcoming old.store.clock) (upcoming new.clock) (Err e) → (journal : List Entry) → journal ≡ old.journal
-        → comes.Commits files may_leave moment left_since upcoming clock start attempts line old (Err e) (record old { store = new; journal = journal })
-    fails e value idle looks gives taken journal is =
-        failed files may_leave moment left_since upcoming clock start base faults attempts old follows line x same good write own new journal is e (value_at view seen new (Err e) value) (quiet_at view seen new (Err e) gives)
+        → GivesHere view seen new (Err e) → TakesReadings (readings_of c old.store.owed old.store.chain) (upcoming old.store.clock) (upcoming new.clock) (Err e)
+        → comes.Commits files may_leave moment left_since upcoming clock start attempts line old (Err e) (record old { store = new })
+    fails e value idle looks gives taken =
+        failed files may_leave moment left_since upcoming clock start base faults attempts old follows line x same good write own new e (value_at view seen new (Err e) value) (quiet_at view seen new (Err e) gives)
         (λ none. (looks none).since) (λ none. ap upcoming (idle none).1) taken
 
     module _ (receipt : Receipt) (value : Commits c view old.store new (Ok receipt)) (gives : GivesHere view seen new (Ok receipt)) (taken : TakesReadings (readings_of c old.store.owed old.store.chain) (upcoming old.store.clock) (upcoming new.clock) (Ok receipt))
         (leads : Leads old.store.chain.live.mailbox new.chain.live.mailbox receipt.touched) where
-      -- the group is one entry more
-      pub writes_entry : (receipt.group.records ≡ [] → ⊥) → (journal : List Entry) → journal ≡ old.journal ++ record { author = number; group = receipt.group } ∷ []
-          → IsDone files may_leave moment left_since upcoming clock start attempts line receipt.touched old (record old { store = new; mark = receipt.mark; journal = journal })
-      writes_entry some journal is =
-          done_written files may_leave moment left_since upcoming clock start base faults attempts old follows line x same good write own receipt (record old { store = new; mark = receipt.mark; journal = journal })
+      -- there is one group more
+      pub writes_entry : (receipt.group.records ≡ [] → ⊥) → (groups : ℕ) → groups ≡ old.groups + 1
+          → IsDone files may_leave moment left_since upcoming clock start attempts line receipt.touched old (record old { store = new; mark = receipt.mark; groups = groups })
+      writes_entry some groups is =
+          done_written files may_leave moment left_since upcoming clock start base faults attempts old follows line x same good write own receipt (record old { store = new; mark = receipt.mark; groups = groups })
           (value_at view seen new (Ok receipt) value) (quiet_at view seen new (Ok receipt) gives) taken (some_there receipt.group.records some) refl is receipt.touched leads
 
       -- there is no record
-      pub writes_none : receipt.group.records ≡ [] → (IsUnwritten (Ok receipt) → OnlyLooks files may_leave moment left_since old.store.shelf new.shelf) → (journal : List Entry) → journal ≡ old.journal
-          → IsDone files may_leave moment left_since upcoming clock start attempts line receipt.touched old (record old { store = new; journal = journal })
-      writes_none none looks journal is =
-          done_nothing files may_leave moment left_since upcoming clock start base faults attempts old follows line x same good write own receipt (record old { store = new; journal = journal })
-          (value_at view seen new (Ok receipt) value) (quiet_at view seen new (Ok receipt) gives) taken none (looks none).since refl is receipt.touched leads
+      pub writes_none : receipt.group.records ≡ [] → (IsUnwritten (Ok receipt) → OnlyLooks files may_leave moment left_since old.store.shelf new.shelf)
+          → IsDone files may_leave moment left_since upcoming clock start attempts line receipt.touched old (record old { store = new })
+      writes_none none looks =
+          done_nothing files may_leave moment left_since upcoming clock start base faults attempts old follows line x same good write own receipt (record old { store = new })
+          (value_at view seen new (Ok receipt) value) (quiet_at view seen new (Ok receipt) gives) taken none (looks none).since refl refl receipt.touched leads

@@ -1,8 +1,8 @@
 -- What comes of a write that its session doesn't refuse: its group is written, or it has none, or a
 -- limit refuses it, or memory ends it.
-use Rattle.std.proofs.Common.{◌≡◌, ℕ, ◌≤◌, Bool, true, false, List, [], ◌∷◌, ◌++◌, length, nat_eq, Some, None, Result, Ok, Err, refl, sym, ◌∙◌, ap, subst, arith}
+use Rattle.std.proofs.Common.{◌≡◌, ℕ, ◌+◌, ◌≤◌, Bool, true, false, List, [], ◌∷◌, length, nat_eq, Some, None, Result, Ok, Err, refl, sym, ◌∙◌, ap, subst, arith}
 use Rattle.std.proofs.lemmas.Bool.Decides.{nat_tests}
-use Rattle.dv_model.specs.declared.types.Entry.{Entry}
+use Rattle.std.proofs.lemmas.List.{length_push}
 use Rattle.dv_model.specs.declared.types.Group.{Group}
 use Rattle.dv_model.specs.declared.types.Mark.{Mark}
 use Rattle.dv_model.specs.declared.types.Record.{Record}
@@ -15,7 +15,7 @@ use Rattle.dv_model.specs.Transcripts.{Line}
 use Rattle.dv_shelf.specs.Clocks.{behind}
 use Rattle.dv_shelf.specs.Crashes.{LeavesOnly}
 use Rattle.dv_shelf.specs.Folders.{Folder}
-use Rattle.dv_shelf.proofs.Moments.{started, weaker}
+use Rattle.dv_shelf.proofs.Moments.{weaker}
 use Rattle.dv_groups.specs.Groups.{HasSizes}
 use Rattle.dv_rotation.specs.Texts.{place_of}
 use Rattle.dv_keeping.specs.Debts.{Nothing}
@@ -108,7 +108,7 @@ module _ {S C : Type 0} (files : S → Folder) (may_leave : S → Folder → Typ
     group_is : receipt.group ≡ group_here here line
     group_is = quiet.group sizes ∙ write_here.group
 
-    module _ (more : 1 ≤ length receipt.group.records) (mark : new.mark ≡ receipt.mark) (journal : new.journal ≡ old.journal ++ record { author = line.0; group = receipt.group } ∷ []) where
+    module _ (more : 1 ≤ length receipt.group.records) (mark : new.mark ≡ receipt.mark) (groups : new.groups ≡ old.groups + 1) where
       some : is_empty (group_here here line) ≡ false
       some = subst (λ (g : Group). is_empty g ≡ false) group_is (not_empty receipt.group more)
 
@@ -127,10 +127,10 @@ module _ {S C : Type 0} (files : S → Folder) (may_leave : S → Folder → Typ
       at_written : IsAt after_it new
       at_written = record {
         rotates = ap (λ (p : Play). p.log.rotates) is_then ∙ follows.keeps.at.rotates;
-        journal = ap (λ (p : Play). p.log.entries) is_then
-            ∙ ap (λ (es : List Entry). es ++ record { author = line.0; group = group_here here line } ∷ []) follows.keeps.at.journal
-            ∙ ap (λ (g : Group). old.journal ++ record { author = line.0; group = g } ∷ []) (sym group_is)
-            ∙ sym journal;
+        groups = ap (λ (p : Play). length p.log.entries) is_then
+            ∙ length_push here.log.entries (record { author = line.0; group = group_here here line })
+            ∙ ap (λ (n : ℕ). n + 1) follows.keeps.at.groups
+            ∙ sym groups;
         mailbox = mailbox_met here line x.view old.store meets readings clock follows.readings some new.store.chain.live.mailbox
             (ap (λ (g : Group). applied old.store.chain.live.mailbox g.records) (sym group_is) ∙ value.ok.gives);
         mark = mark_is ∙ sym mark;
@@ -156,7 +156,7 @@ module _ {S C : Type 0} (files : S → Folder) (may_leave : S → Folder → Typ
   -- ---- nothing is written
 
   module _ (result : Result Receipt StoreFault) (new : Serving S C) (value : Commits line.1 x.view old.store new.store result) (quiet : CommitsQuietly files may_leave moment left_since here.log follows.keeps.debt writes old.store new.store result)
-      (none : IsUnwritten result) (since : LeavesOnly moment left_since old.store.shelf new.store.shelf (may_leave old.store.shelf)) (mark : new.mark ≡ old.mark) (journal : new.journal ≡ old.journal) where
+      (none : IsUnwritten result) (since : LeavesOnly moment left_since old.store.shelf new.store.shelf (may_leave old.store.shelf)) (mark : new.mark ≡ old.mark) (groups : new.groups ≡ old.groups) where
     place_is : place_of old.store.chain ≡ place_of new.store.chain
     place_is = let log = (value.unwritten none).chain.log in ap (λ l. record { file_seq = l.file_seq; offset = l.end }) (sym log)
 
@@ -166,7 +166,7 @@ module _ {S C : Type 0} (files : S → Folder) (may_leave : S → Folder → Typ
     at_stays : IsAt here new
     at_stays = record {
       rotates = follows.keeps.at.rotates;
-      journal = follows.keeps.at.journal ∙ sym journal;
+      groups = follows.keeps.at.groups ∙ sym groups;
       mailbox = follows.keeps.at.mailbox ∙ sym (value.unwritten none).chain.mailbox;
       mark = follows.keeps.at.mark ∙ sym mark;
       place = subst (λ o. StandsAt here.begun here.mark (place_of new.store.chain) o) owed_is (subst (λ (k : Mark). StandsAt here.begun here.mark k old.store.owed) place_is follows.keeps.at.place);
@@ -234,20 +234,11 @@ module _ {S C : Type 0} (files : S → Folder) (may_leave : S → Folder → Typ
           leads = leads;
         }
 
-  -- ---- nothing was done
-
-  pub leaves_same : (journal : List Entry) → journal ≡ old.journal → ((c : Folder) → left_since old.store.shelf (moment old.store.shelf) c → may_leave old.store.shelf c)
-      → Leaves files may_leave moment left_since clock start attempts old (record old { journal = journal })
-  leaves_same journal is now = subst (λ (es : List Entry). Leaves files may_leave moment left_since clock start attempts old (record old { journal = es })) (sym is) (record {
-    keeps = follows.keeps;
-    since = looks_may files may_leave clock start attempts old follows.keeps moment left_since old.store.shelf (started moment left_since old.store.shelf (may_leave old.store.shelf) now);
-  })
-
   -- ---- an error
 
   module _ (new : State S C) where
-    abbrev behind_error : List Entry → Serving S C
-    behind_error journal = record old { store = new; journal = journal }
+    abbrev behind_error : Serving S C
+    behind_error = record old { store = new }
 
     disk_failed : (faults : ℕ) → Commits line.1 x.view old.store new (Err (fault.Disk faults)) → CommitsQuietly files may_leave moment left_since here.log follows.keeps.debt writes old.store new (Err (fault.Disk faults))
         → TakesReadings (readings_of line.1 old.store.owed old.store.chain) readings (upcoming new.clock) (Err (fault.Disk faults)) → IsFailedBy files may_leave moment left_since upcoming clock start attempts line faults old (record old { store = new })
@@ -263,24 +254,23 @@ module _ {S C : Type 0} (files : S → Folder) (may_leave : S → Folder → Typ
         → TakesReadings (readings_of line.1 old.store.owed old.store.chain) readings (upcoming new.clock) (Err e)
         → comes.Commits files may_leave moment left_since upcoming clock start attempts line old (Err e) (record old { store = new })
     by_error (fault.Disk faults) value quiet looks idle taken = disk_failed faults value quiet taken
-    by_error fault.UidsUsedUp value quiet looks idle taken = refused_by (Err fault.UidsUsedUp) (behind_error old.journal) value quiet tt (looks tt) refl refl (idle tt) reply.UidsUsedUp (value.limit here.log.guid sizes)
+    by_error fault.UidsUsedUp value quiet looks idle taken = refused_by (Err fault.UidsUsedUp) behind_error value quiet tt (looks tt) refl refl (idle tt) reply.UidsUsedUp (value.limit here.log.guid sizes)
     by_error (fault.TooLong bytes) value quiet looks idle taken =
-        refused_by (Err (fault.TooLong bytes)) (behind_error old.journal) value quiet tt (looks tt) refl refl (idle tt) (reply.TooLong bytes) (value.limit here.log.guid sizes)
-    by_error fault.NoMemory value quiet looks idle taken = leaves_unwritten (Err fault.NoMemory) (behind_error old.journal) value quiet tt (looks tt) refl refl
+        refused_by (Err (fault.TooLong bytes)) behind_error value quiet tt (looks tt) refl refl (idle tt) (reply.TooLong bytes) (value.limit here.log.guid sizes)
+    by_error fault.NoMemory value quiet looks idle taken = leaves_unwritten (Err fault.NoMemory) behind_error value quiet tt (looks tt) refl refl
 
-    pub failed : (journal : List Entry) → journal ≡ old.journal → (e : StoreFault) → Commits line.1 x.view old.store new (Err e) → CommitsQuietly files may_leave moment left_since here.log follows.keeps.debt writes old.store new (Err e)
+    pub failed : (e : StoreFault) → Commits line.1 x.view old.store new (Err e) → CommitsQuietly files may_leave moment left_since here.log follows.keeps.debt writes old.store new (Err e)
         → (IsUnwritten (Err e) → LeavesOnly moment left_since old.store.shelf new.shelf (may_leave old.store.shelf)) → (IsIdle (Err e) → upcoming new.clock ≡ readings)
         → TakesReadings (readings_of line.1 old.store.owed old.store.chain) readings (upcoming new.clock) (Err e)
-        → comes.Commits files may_leave moment left_since upcoming clock start attempts line old (Err e) (behind_error journal)
-    failed journal is e value quiet looks idle taken =
-        subst (λ (es : List Entry). comes.Commits files may_leave moment left_since upcoming clock start attempts line old (Err e) (behind_error es)) (sym is) (by_error e value quiet looks idle taken)
+        → comes.Commits files may_leave moment left_since upcoming clock start attempts line old (Err e) behind_error
+    failed e value quiet looks idle taken = by_error e value quiet looks idle taken
 
   -- ---- Ok without a record
 
   module _ (receipt : Receipt) (new : Serving S C) (value : Commits line.1 x.view old.store new.store (Ok receipt)) (quiet : CommitsQuietly files may_leave moment left_since here.log follows.keeps.debt writes old.store new.store (Ok receipt))
       (taken : TakesReadings (readings_of line.1 old.store.owed old.store.chain) readings (upcoming new.store.clock) (Ok receipt)) where
-    pub done_nothing : receipt.group.records ≡ [] → LeavesOnly moment left_since old.store.shelf new.store.shelf (may_leave old.store.shelf) → new.mark ≡ old.mark → new.journal ≡ old.journal → (touched : List ℕ)
+    pub done_nothing : receipt.group.records ≡ [] → LeavesOnly moment left_since old.store.shelf new.store.shelf (may_leave old.store.shelf) → new.mark ≡ old.mark → new.groups ≡ old.groups → (touched : List ℕ)
         → Leads old.store.chain.live.mailbox new.store.chain.live.mailbox touched → IsDone files may_leave moment left_since upcoming clock start attempts line touched old new
-    done_nothing none since mark journal touched leads =
-        done_idle (Ok receipt) new value quiet none since mark journal (takes_none (readings_of line.1 old.store.owed old.store.chain) readings (upcoming new.store.clock) receipt.group.records none taken)
+    done_nothing none since mark groups touched leads =
+        done_idle (Ok receipt) new value quiet none since mark groups (takes_none (readings_of line.1 old.store.owed old.store.chain) readings (upcoming new.store.clock) receipt.group.records none taken)
         (allowed receipt new value quiet taken) (ap (λ (g : Group). g.records) (sym (group_is receipt new value quiet taken)) ∙ none) touched leads

@@ -254,7 +254,7 @@ module _ {S C : Type 0} (files : S → Folder) (may_leave : S → Folder → Typ
         mailbox = mailbox;
         rotation = left.rotation;
         stands = record {
-          at = record { rotates = at.rotates; journal = at.journal; mailbox = at.mailbox ∙ sym mailbox; mark = at.mark; place = left.place };
+          at = record { rotates = at.rotates; groups = at.groups; mailbox = at.mailbox ∙ sym mailbox; mark = at.mark; place = left.place };
           debt = err.0;
           owed = left.owes;
           rests = err.2;

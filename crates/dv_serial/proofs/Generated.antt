@@ -1,11 +1,10 @@
 -- Each command of a generated script may be served.
-use Rattle.std.proofs.Common.{◌≡◌, ◌⊎◌, inl, inr, ℕ, zero, suc, ◌+◌, ◌%◌, ◌^◌, ◌<◌, ◌≤◌, Bool, true, false, cond, List, [], ◌∷◌, length, All, map, None, codes, decimal, nat_eq, nat_le, refl, sym, ◌∙◌, ap, subst, arith, length-append}
+use Rattle.std.proofs.Common.{◌≡◌, ◌⊎◌, inl, inr, ℕ, zero, suc, ◌+◌, ◌%◌, ◌^◌, ◌<◌, ◌≤◌, Bool, true, false, cond, List, [], ◌∷◌, length, All, map, None, codes, decimal, nat_eq, nat_le, refl, arith, length-append}
 use Rattle.std.specs.List.{range_with_len}
 use Rattle.std.proofs.Math.Nat.{mod-lt}
 use Rattle.std.proofs.Math.Pow.{pow-lt}
 use Rattle.std.proofs.lemmas.Bool.{leb-true}
 use Rattle.std.proofs.lemmas.Fmt.{length-decimal-le}
-use Rattle.std.proofs.lemmas.List.{length-map}
 use Rattle.std.proofs.lemmas.List.Elements.{All-append, All-cons, All-contains, All-from_recursion, All-nil, All-weaker}
 use Rattle.std.proofs.lemmas.List.FromFn.{length-map-range_with_len}
 use Rattle.dv_model.specs.declared.types.Command.{Command}
@@ -14,10 +13,8 @@ use Rattle.dv_model.specs.Names.{IsName, IsNameByte}
 use Rattle.dv_formats.specs.Generators.{append_drawn, command_by, command_drawn, commands_from, drawn, fetch_drawn, generated, how_of, keyword_of, next_state, session_name, store_drawn, uids_from}
 use Rattle.dv_formats.specs.Scripts.{NamedLine}
 use Rattle.dv_formats.proofs.Stops.{IsDigit, are_digits}
-use Rattle.dv_script.specs.declared.types.Line.{Line}
-use Rattle.dv_script.specs.Sources.{all_named, named}
 use Rattle.dv_serial.specs.Serves.{IsServable}
-use Rattle.dv_serial.proofs.Servable.{IsFine, of_named}
+use Rattle.dv_serial.proofs.Servable.{IsFine}
 
 -- ---- keywords
 
@@ -131,14 +128,6 @@ generated_servable seed count sessions =
     All-append IsFine (map selected (range_with_len 1 sessions)) (commands_from sessions 0 count seed)
     (selects_good (range_with_len 1 sessions)) (commands_good sessions 0 count seed)
 
-generated_count : (seed count sessions : ℕ) → length (generated seed count sessions) ≡ sessions + count
+pub generated_count : (seed count sessions : ℕ) → length (generated seed count sessions) ≡ sessions + count
 generated_count seed count sessions =
     omega (arith, length-append (map selected (range_with_len 1 sessions)) (commands_from sessions 0 count seed), length-map-range_with_len selected 1 sessions, command_count sessions 0 count seed)
-
-pub generated_lines_servable : (lines : List Line) (seed count sessions : ℕ)
-    → all_named lines ≡ generated seed count sessions
-    → All (λ (line : Line). IsServable line.command) lines × (length lines ≡ sessions + count)
-generated_lines_servable lines seed count sessions is = (
-  of_named lines (subst (All IsFine) (sym is) (generated_servable seed count sessions)),
-  sym (length-map lines named) ∙ ap length is ∙ generated_count seed count sessions,
-)

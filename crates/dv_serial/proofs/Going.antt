@@ -1,5 +1,5 @@
 -- What goes on over a line that writes no group.
-use Rattle.std.proofs.Common.{◌≡◌, inl, inr, ⊎_elim, ℕ, Bool, true, List, [], ◌∷◌, ◌++◌, Option, Some, refl, sym, ◌∙◌, ap, subst}
+use Rattle.std.proofs.Common.{◌≡◌, inl, inr, ⊎_elim, ℕ, Bool, true, List, [], ◌∷◌, ◌++◌, length, Option, Some, refl, sym, ◌∙◌, ap, subst}
 use Rattle.dv_model.specs.declared.types.Mailbox.{Mailbox}
 use Rattle.dv_model.specs.declared.types.Mark.{Mark}
 use Rattle.dv_model.specs.declared.types.Reply.{Reply}
@@ -52,7 +52,7 @@ module _ {S C : Type 0} where
   pub at_on : (before behind : Play) (serving : Serving S C) → WritesNothing before behind → IsAt before serving → IsAt behind serving
   at_on before behind serving same at = record {
     rotates = ap (λ (log : Log). log.rotates) same.log ∙ at.rotates;
-    journal = ap (λ (log : Log). log.entries) same.log ∙ at.journal;
+    groups = ap (λ (log : Log). length log.entries) same.log ∙ at.groups;
     mailbox = same.mailbox ∙ at.mailbox;
     mark = same.mark ∙ at.mark;
     place = subst (λ (b : Bool). StandsAt b behind.mark (place_of serving.store.chain) serving.store.owed) (sym same.begun)

@@ -19,7 +19,7 @@ use Rattle.dv_serial.specs.Scripts.{number_among, turn_behind}
 -- ---- names
 
 abbrev names_in : List Seen → List (List ℕ)
-names_in seen = map (λ (s : Seen). s.name.now) seen
+names_in seen = map (λ (s : Seen). s.name) seen
 
 turned : (a b : List ℕ) → bytes_eq a b ≡ bytes_eq b a
 turned a b = by_test (bytes_eq a b) (bytes_eq b a) refl refl
@@ -39,42 +39,42 @@ like x y q same = ap (λ t. bytes_eq t q) ((bytes_eq-Decides x y).0 same) ∙ tu
 -- the first of these sessions of this name is there
 abbrev pub First : List Seen → List ℕ → ℕ → Type 0
 First [] name at = ⊥
-First (s ∷ seen) name zero = bytes_eq name s.name.now ≡ true
-First (s ∷ seen) name (suc at) = (bytes_eq name s.name.now ≡ false) × First seen name at
+First (s ∷ seen) name zero = bytes_eq name s.name ≡ true
+First (s ∷ seen) name (suc at) = (bytes_eq name s.name ≡ false) × First seen name at
 
 -- none has this name
 abbrev pub Absent : List Seen → List ℕ → Type 0
 Absent [] name = ⊤
-Absent (s ∷ seen) name = (bytes_eq name s.name.now ≡ false) × Absent seen name
+Absent (s ∷ seen) name = (bytes_eq name s.name ≡ false) × Absent seen name
 
 -- as a search finds it
 first_by : (seen : List Seen) (name : List ℕ) (at : ℕ) (d : Seen) → at < length seen
-    → bytes_eq name (get_or seen at d).name.now ≡ true
-    → ((k : ℕ) → k < at → bytes_eq name (get_or seen k d).name.now ≡ false) → First seen name at
+    → bytes_eq name (get_or seen at d).name ≡ true
+    → ((k : ℕ) → k < at → bytes_eq name (get_or seen k d).name ≡ false) → First seen name at
 first_by [] name at d less is others = absurd (omega (arith, less))
 first_by (s ∷ seen) name zero d less is others = is
 first_by (s ∷ seen) name (suc at) d less is others =
     (others 0 (omega arith), first_by seen name at d (omega (arith, less)) is (λ k below. others (suc k) (omega (arith, below))))
 
 absent_by : (seen : List Seen) (name : List ℕ) (d : Seen)
-    → ((k : ℕ) → k < length seen → bytes_eq name (get_or seen k d).name.now ≡ false)
+    → ((k : ℕ) → k < length seen → bytes_eq name (get_or seen k d).name ≡ false)
     → Absent seen name
 absent_by [] name d none = tt
 absent_by (s ∷ seen) name d none =
     (none 0 (omega arith), absent_by seen name d (λ k below. none (suc k) (omega (arith, below))))
 
 pub found : (seen : List Seen) (name : List ℕ) (at : ℕ) (d : Seen)
-    → position (λ (s : Seen). bytes_eq name s.name.now) seen ≡ Some at → First seen name at
+    → position (λ (s : Seen). bytes_eq name s.name) seen ≡ Some at → First seen name at
 found seen name at d is =
-    let first = position-Some (λ (s : Seen). bytes_eq name s.name.now) seen at d is in
+    let first = position-Some (λ (s : Seen). bytes_eq name s.name) seen at d is in
     first_by seen name at d first.0 first.1 first.2
 
 pub lacking : (seen : List Seen) (name : List ℕ) (d : Seen)
-    → position (λ (s : Seen). bytes_eq name s.name.now) seen ≡ None → Absent seen name
+    → position (λ (s : Seen). bytes_eq name s.name) seen ≡ None → Absent seen name
 lacking seen name d is = by_test (nat_lt (position_or_len test seen) (length seen)) refl is
   where
     test : Seen → Bool
-    test s = bytes_eq name s.name.now
+    test s = bytes_eq name s.name
 
     by_test : (t : Bool) → nat_lt (position_or_len test seen) (length seen) ≡ t
         → cond t (Some (position_or_len test seen)) None ≡ None → Absent seen name
@@ -109,24 +109,24 @@ first_within (s ∷ seen) name (suc at) is = omega (arith, first_within seen nam
 
 -- with one command more
 first_more : (seen : List Seen) (name : List ℕ) (at : ℕ) (d new : Seen) → First seen name at
-    → new.name.now ≡ (get_or seen at d).name.now → new.commands ≡ (get_or seen at d).commands + 1
+    → new.name ≡ (get_or seen at d).name → new.commands ≡ (get_or seen at d).commands + 1
     → (q : List ℕ)
     → commands_in (set seen at new) q ≡ commands_in seen q + cond (bytes_eq name q) 1 0
 first_more [] name at d new is named one q = absurd is
 first_more (s ∷ seen) name zero d new is named one q =
-    by_test (bytes_eq q s.name.now) refl
+    by_test (bytes_eq q s.name) refl
   where
-    by_test : (t : Bool) → bytes_eq q s.name.now ≡ t
+    by_test : (t : Bool) → bytes_eq q s.name ≡ t
         → commands_in (new ∷ seen) q ≡ commands_in (s ∷ seen) q + cond (bytes_eq name q) 1 0
-    by_test true e = rw (named, like name s.name.now q is, e) one
-    by_test false e = rw (named, like name s.name.now q is, e) (omega arith)
+    by_test true e = rw (named, like name s.name q is, e) one
+    by_test false e = rw (named, like name s.name q is, e) (omega arith)
 first_more (s ∷ seen) name (suc at) d new is named one q =
-    by_test (bytes_eq q s.name.now) refl (first_more seen name at d new is.1 named one q)
+    by_test (bytes_eq q s.name) refl (first_more seen name at d new is.1 named one q)
   where
-    other : bytes_eq q s.name.now ≡ true → bytes_eq name q ≡ false
-    other e = ap (bytes_eq name) ((bytes_eq-Decides q s.name.now).0 e) ∙ is.0
+    other : bytes_eq q s.name ≡ true → bytes_eq name q ≡ false
+    other e = ap (bytes_eq name) ((bytes_eq-Decides q s.name).0 e) ∙ is.0
 
-    by_test : (t : Bool) → bytes_eq q s.name.now ≡ t
+    by_test : (t : Bool) → bytes_eq q s.name ≡ t
         → commands_in (set seen at new) q ≡ commands_in seen q + cond (bytes_eq name q) 1 0
         → commands_in (s ∷ set seen at new) q ≡ commands_in (s ∷ seen) q + cond (bytes_eq name q) 1 0
     by_test true e rest = rw (e, other e) (omega arith)
@@ -150,24 +150,24 @@ absent_commands [] name none = refl
 absent_commands (s ∷ seen) name none = rw none.0 (absent_commands seen name none.1)
 
 -- with a session more
-absent_more : (seen : List Seen) (new : Seen) → Absent seen new.name.now → new.commands ≡ 1
+absent_more : (seen : List Seen) (new : Seen) → Absent seen new.name → new.commands ≡ 1
     → (q : List ℕ)
-    → commands_in (seen ++ new ∷ []) q ≡ commands_in seen q + cond (bytes_eq new.name.now q) 1 0
-absent_more [] new none one q = by_test (bytes_eq new.name.now q) refl
+    → commands_in (seen ++ new ∷ []) q ≡ commands_in seen q + cond (bytes_eq new.name q) 1 0
+absent_more [] new none one q = by_test (bytes_eq new.name q) refl
   where
-    by_test : (t : Bool) → bytes_eq new.name.now q ≡ t
-        → commands_in (new ∷ []) q ≡ 0 + cond (bytes_eq new.name.now q) 1 0
-    by_test true e = rw (sym (turned new.name.now q) ∙ e, e) (omega (arith, one))
-    by_test false e = rw (sym (turned new.name.now q) ∙ e, e) (omega arith)
+    by_test : (t : Bool) → bytes_eq new.name q ≡ t
+        → commands_in (new ∷ []) q ≡ 0 + cond (bytes_eq new.name q) 1 0
+    by_test true e = rw (sym (turned new.name q) ∙ e, e) (omega (arith, one))
+    by_test false e = rw (sym (turned new.name q) ∙ e, e) (omega arith)
 absent_more (s ∷ seen) new none one q =
-    by_test (bytes_eq q s.name.now) refl (absent_more seen new none.1 one q)
+    by_test (bytes_eq q s.name) refl (absent_more seen new none.1 one q)
   where
-    other : bytes_eq q s.name.now ≡ true → bytes_eq new.name.now q ≡ false
-    other e = ap (bytes_eq new.name.now) ((bytes_eq-Decides q s.name.now).0 e) ∙ none.0
+    other : bytes_eq q s.name ≡ true → bytes_eq new.name q ≡ false
+    other e = ap (bytes_eq new.name) ((bytes_eq-Decides q s.name).0 e) ∙ none.0
 
-    by_test : (t : Bool) → bytes_eq q s.name.now ≡ t
-        → commands_in (seen ++ new ∷ []) q ≡ commands_in seen q + cond (bytes_eq new.name.now q) 1 0
-        → commands_in (s ∷ seen ++ new ∷ []) q ≡ commands_in (s ∷ seen) q + cond (bytes_eq new.name.now q) 1 0
+    by_test : (t : Bool) → bytes_eq q s.name ≡ t
+        → commands_in (seen ++ new ∷ []) q ≡ commands_in seen q + cond (bytes_eq new.name q) 1 0
+        → commands_in (s ∷ seen ++ new ∷ []) q ≡ commands_in (s ∷ seen) q + cond (bytes_eq new.name q) 1 0
     by_test true e rest = rw (e, other e) (omega arith)
     by_test false e rest = rw e rest
 
@@ -200,10 +200,10 @@ known_turn before seen name c at count d so_far is one =
 
 pub known_seen : (before : List NamedLine) (seen : List Seen) (name : List ℕ) (c : Command) (at : ℕ)
     (d new : Seen) → AreSeen before seen → First seen name at
-    → new.name.now ≡ (get_or seen at d).name.now → new.commands ≡ (get_or seen at d).commands + 1
+    → new.name ≡ (get_or seen at d).name → new.commands ≡ (get_or seen at d).commands + 1
     → AreSeen (before ++ (name, c) ∷ []) (set seen at new)
 known_seen before seen name c at d new so_far is named one = record {
-  names = map-set_same (λ (s : Seen). s.name.now) seen at new d named ∙ so_far.names ∙ sym (known_sessions before seen name c at so_far is);
+  names = map-set_same (λ (s : Seen). s.name) seen at new d named ∙ so_far.names ∙ sym (known_sessions before seen name c at so_far is);
   commands = λ q. first_more seen name at d new is named one q ∙ ap (λ n. n + cond (bytes_eq name q) 1 0) (so_far.commands q) ∙ sym (count_more before (name, c) q);
 }
 
@@ -217,14 +217,14 @@ absent_turn before seen name c count so_far none more =
     same_turn count 1 (number_among (sessions_of before) name) (1 + count_by (λ (l : NamedLine). bytes_eq l.0 name) before) number (omega (arith, same))
 
 pub absent_seen : (before : List NamedLine) (seen : List Seen) (new : Seen) (c : Command)
-    → AreSeen before seen → Absent seen new.name.now → new.commands ≡ 1
-    → AreSeen (before ++ (new.name.now, c) ∷ []) (seen ++ new ∷ [])
+    → AreSeen before seen → Absent seen new.name → new.commands ≡ 1
+    → AreSeen (before ++ (new.name, c) ∷ []) (seen ++ new ∷ [])
 absent_seen before seen new c so_far none one =
-    let unknown : list_any (bytes_eq new.name.now) (sessions_of before) ≡ false = ap (list_any (bytes_eq new.name.now)) (sym so_far.names) ∙ absent_unknown seen new.name.now none in
-    let added : sessions_of (before ++ (new.name.now, c) ∷ []) ≡ sessions_of before ++ new.name.now ∷ [] = fold_push and_session [] before (new.name.now, c) ∙ rw unknown refl in
+    let unknown : list_any (bytes_eq new.name) (sessions_of before) ≡ false = ap (list_any (bytes_eq new.name)) (sym so_far.names) ∙ absent_unknown seen new.name none in
+    let added : sessions_of (before ++ (new.name, c) ∷ []) ≡ sessions_of before ++ new.name ∷ [] = fold_push and_session [] before (new.name, c) ∙ rw unknown refl in
     record {
-      names = map-append (λ (s : Seen). s.name.now) seen (new ∷ []) ∙ ap (λ names. names ++ new.name.now ∷ []) so_far.names ∙ sym added;
-      commands = λ q. absent_more seen new none one q ∙ ap (λ n. n + cond (bytes_eq new.name.now q) 1 0) (so_far.commands q) ∙ sym (count_more before (new.name.now, c) q);
+      names = map-append (λ (s : Seen). s.name) seen (new ∷ []) ∙ ap (λ names. names ++ new.name ∷ []) so_far.names ∙ sym added;
+      commands = λ q. absent_more seen new none one q ∙ ap (λ n. n + cond (bytes_eq new.name q) 1 0) (so_far.commands q) ∙ sym (count_more before (new.name, c) q);
     }
 
 -- what stands there then

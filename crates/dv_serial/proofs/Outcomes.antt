@@ -58,7 +58,7 @@ module _ {S C : Type 0} (files : S → Folder) (may_leave : S → Folder → Typ
   pub stands_seats : (lines : List Attempt) (play : Play) (old mid : Serving S C) (seats : List Follower) → StandsAs files may_leave moment left_since upcoming clock start lines play old mid
       → StandsAs files may_leave moment left_since upcoming clock start lines play old (record mid { seats = seats })
   stands_seats lines play old mid seats is = record {
-    at = record { rotates = is.at.rotates; journal = is.at.journal; mailbox = is.at.mailbox; mark = is.at.mark; place = is.at.place };
+    at = record { rotates = is.at.rotates; groups = is.at.groups; mailbox = is.at.mailbox; mark = is.at.mark; place = is.at.place };
     debt = is.debt;
     owed = is.owed;
     rests = is.rests;
@@ -111,7 +111,7 @@ module _ {S C : Type 0} (files : S → Folder) (may_leave : S → Folder → Typ
           record {
             at = record {
               rotates = keeps.at.rotates;
-              journal = keeps.at.journal ∙ sym looks.journal;
+              groups = keeps.at.groups ∙ sym looks.groups;
               mailbox = keeps.at.mailbox ∙ sym (ap (λ (x : Chain). x.live.mailbox) chain);
               mark = keeps.at.mark ∙ sym looks.mark;
               place = subst (λ (x : Chain). StandsAt here.begun here.mark (place_of x) mid.store.owed) (sym chain)
@@ -228,7 +228,7 @@ module _ {S C : Type 0} (files : S → Folder) (may_leave : S → Folder → Typ
             → StandsAs files may_leave moment left_since upcoming clock start (with_line attempts line Served) (with_group_here clock here line) old mid
             → AreSeated mid.store.chain.live.mailbox here.states mid.seats → IsAbreast mid.store.chain.live.mailbox (seat_at new.seats at)
             → record { replies = replies; next = (seat_at new.seats at).state }
-            ≡ answer (with_group_here clock here line).log.mail (seat_at mid.seats at).state line.1 old.store.chain.live.mailbox (length mid.journal) mid.store.chain.live.mailbox mid.mark
+            ≡ answer (with_group_here clock here line).log.mail (seat_at mid.seats at).state line.1 old.store.chain.live.mailbox mid.groups mid.store.chain.live.mailbox mid.mark
             → with_seat at (seat_at new.seats at) mid ≡ new → IsServed files may_leave moment left_since upcoming clock start base faults attempts line replies old new
         told_serves at mid new replies number less others is seated abreast answered only =
             let play : Play = with_group_here clock here line in
@@ -237,8 +237,8 @@ module _ {S C : Type 0} (files : S → Folder) (may_leave : S → Folder → Typ
             let a : Answer = answer play.log.mail (here.states line.0) line.1 here.mailbox (length play.log.entries) play.mailbox play.mark in
             let steps : step clock here (attempt line Served) ≡ told here line play = served_step clock here line allowed in
             let same : record { replies = replies; next = f.state } ≡ a =
-            answered_so play.log.mail (seat_at mid.seats at).state (here.states line.0) line old.store.chain.live.mailbox m here.mailbox (length mid.journal) play.mailbox (length play.log.entries) mid.mark play.mark (record { replies = replies; next = f.state })
-            (state_at m here.states mid.seats seated at less ∙ ap here.states (sym number)) (sym follows.keeps.at.mailbox) (ap length (sym is.at.journal)) (sym is.at.mailbox) (sym is.at.mark) answered in
+            answered_so play.log.mail (seat_at mid.seats at).state (here.states line.0) line old.store.chain.live.mailbox m here.mailbox mid.groups play.mailbox (length play.log.entries) mid.mark play.mark (record { replies = replies; next = f.state })
+            (state_at m here.states mid.seats seated at less ∙ ap here.states (sym number)) (sym follows.keeps.at.mailbox) (sym is.at.groups) (sym is.at.mailbox) (sym is.at.mark) answered in
             let states_are : with_state here.states (at + 1) f.state ≡ with_state play.states line.0 a.next =
             ap (λ (st : ℕ → SessionState). with_state st (at + 1) f.state) (sym (group_states clock here line))
             ∙ ap (λ (n : ℕ). with_state play.states n f.state) (sym number)

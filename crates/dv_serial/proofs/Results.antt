@@ -102,13 +102,13 @@ module _ {S C : Type 0} (files : S → Folder) (may_leave : S → Folder → Typ
       -- it is answered
       pub read_told : {E : Type 0} (at : ℕ) (new : Serving S C) (result : Result (List Reply) E) → line.0 ≡ at + 1 → at < length mid.seats → IsAbreast mid.store.chain.live.mailbox (seat_at new.seats at)
           → IfOk result (λ replies. record { replies = replies; next = (seat_at new.seats at).state }
-          ≡ answer here.log.mail (seat_at mid.seats at).state line.1 old.store.chain.live.mailbox (length mid.journal) mid.store.chain.live.mailbox mid.mark)
+          ≡ answer here.log.mail (seat_at mid.seats at).state line.1 old.store.chain.live.mailbox mid.groups mid.store.chain.live.mailbox mid.mark)
           → with_seat at (seat_at new.seats at) mid ≡ new → OnErr result (new ≡ mid) → IsResult result new
       read_told at new (Ok replies) number less abreast answered only stays =
           told_serves files may_leave moment left_since upcoming clock start base attempts before faults line old follows good later allowed at mid new replies number less (same_others clock start (files old.store.shelf) (files mid.store.shelf) (with_line attempts line Served) reads.looks.same)
           (stands_on files may_leave moment left_since upcoming clock start base attempts line Served (with_group_here clock here line) old mid (read_stays clock here line read) told_nothing stands)
           (seated_same files may_leave moment left_since upcoming clock start base attempts before faults line old follows good later mid looks.seats same_mailbox) abreast
-          (subst (λ (p : Play). record { replies = replies; next = (seat_at new.seats at).state } ≡ answer p.log.mail (seat_at mid.seats at).state line.1 old.store.chain.live.mailbox (length mid.journal) mid.store.chain.live.mailbox mid.mark)
+          (subst (λ (p : Play). record { replies = replies; next = (seat_at new.seats at).state } ≡ answer p.log.mail (seat_at mid.seats at).state line.1 old.store.chain.live.mailbox mid.groups mid.store.chain.live.mailbox mid.mark)
           (sym (read_stays clock here line read)) answered)
           only
       read_told at new (Err e) number less abreast answered only stays =
@@ -184,7 +184,7 @@ module _ {S C : Type 0} (files : S → Folder) (may_leave : S → Folder → Typ
       pub write_told : {E : Type 0} (at : ℕ) (new : Serving S C) (result : Result (List Reply) E) → line.0 ≡ at + 1 → at < length seats → HasStates old.seats seats → All (IsAbreast mid.store.chain.live.mailbox) seats
           → IsAbreast mid.store.chain.live.mailbox (seat_at new.seats at)
           → IfOk result (λ replies. record { replies = replies; next = (seat_at new.seats at).state }
-          ≡ answer group.log.mail (seat_at seats at).state line.1 old.store.chain.live.mailbox (length mid.journal) mid.store.chain.live.mailbox mid.mark)
+          ≡ answer group.log.mail (seat_at seats at).state line.1 old.store.chain.live.mailbox mid.groups mid.store.chain.live.mailbox mid.mark)
           → with_seat at (seat_at new.seats at) part ≡ new → OnErr result (new ≡ part) → IsResult result new
       write_told at new (Ok replies) number less has all abreast answered only stays =
           told_serves files may_leave moment left_since upcoming clock start base attempts before faults line old follows good later done.allowed at part new replies number less kept part_stands

@@ -253,6 +253,21 @@ module _ {S C : Type 0} (files : S → Folder) (may_leave : S → Folder → Typ
       output = λ tells. none tells ∙ so_far.output tells;
     }
 
+    -- memory ended the run before it was begun
+    pub to_unbegun : before ≤ faults → Runs files may_leave moment left_since upcoming clock start base faults lines (Err line_end.NoMemory) told taken taken_then old mid
+    to_unbegun later = record {
+      answered = answered;
+      left = [];
+      rest = behind_lines;
+      parts = all_lines;
+      may = may_later later;
+      ends = tt;
+      leaves = subst (λ (all : List Attempt). Leaves files may_leave moment left_since clock start all old mid) (sym (append-nil answered)) (record { keeps = so_far.follows.keeps; since = so_far.since });
+      others = subst (λ (all : List Attempt). KeepsOthers clock start all (files old.store.shelf) (files mid.store.shelf)) (sym (append-nil answered)) so_far.others;
+      readings = tt;
+      output = so_far.output;
+    }
+
     -- it was served
     module _ (replies : List Reply) (served : IsServed files may_leave moment left_since upcoming clock start base faults answered (session, line.1) replies mid new) where
       abbrev one : Attempt

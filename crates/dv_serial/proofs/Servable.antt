@@ -1,14 +1,11 @@
 -- Each command of a script may be served.
-use Rattle.std.proofs.Common.{◌≡◌, inl, inr, ℕ, ◌≤◌, List, [], ◌∷◌, ◌++◌, length, All, Ok, Err, IfOk, Result, codes, decimal, sym, ap, subst, arith, length-append}
+use Rattle.std.proofs.Common.{◌≡◌, inl, inr, ℕ, ◌≤◌, List, [], ◌∷◌, ◌++◌, length, All, codes, decimal, sym, ap, subst, arith, length-append}
 use Rattle.std.proofs.lemmas.List.Concat.{flat_map-cons}
 use Rattle.std.proofs.lemmas.List.Elements.{All-append, All-cons, All-head, All-nil, All-tail}
 use Rattle.dv_model.specs.declared.types.Command.{Command}
 use Rattle.dv_model.specs.declared.types.Command.TheVariants as command
 use Rattle.dv_formats.specs.Scripts.{IsCommand, IsLine, IsLiteralStart, IsPiece, IsScript, IsShortLine, IsStore, NamedLine, Piece, how_text, line_limit, pieces_lines, uid_text}
 use Rattle.dv_search.proofs.Depths.{sought_levels}
-use Rattle.dv_script.specs.declared.types.Line.{Line}
-use Rattle.dv_script.specs.declared.types.ScriptEnd.{ScriptEnd}
-use Rattle.dv_script.specs.Sources.{IsOf, all_named, named}
 use Rattle.dv_serial.specs.Serves.{IsServable}
 use Rattle.dv_serial.proofs.Flags.{flags_fit}
 
@@ -87,15 +84,3 @@ pieces_are (piece ∷ pieces) all =
 pub script_servable : (lines : List NamedLine) (b : List ℕ) → IsScript lines b
     → All (λ (line : NamedLine). IsServable line.1) lines
 script_servable lines b is = subst (All IsFine) (sym is.are) (pieces_are is.pieces is.each)
-
--- and so it is with the lines as the program has them
-pub of_named : (lines : List Line) → All IsFine (all_named lines)
-    → All (λ (line : Line). IsServable line.command) lines
-of_named [] all = All-nil (λ (line : Line). IsServable line.command)
-of_named (line ∷ lines) all =
-    All-cons (λ (line : Line). IsServable line.command) line lines (All-head IsFine (named line) (all_named lines) all) (of_named lines (All-tail IsFine (named line) (all_named lines) all))
-
-pub lines_servable : (result : Result (List Line) ScriptEnd) (b : List ℕ) → IsOf result b
-    → IfOk result (λ lines. All (λ (line : Line). IsServable line.command) lines)
-lines_servable (Err e) b is = tt
-lines_servable (Ok lines) b is = of_named lines (script_servable (all_named lines) b is)

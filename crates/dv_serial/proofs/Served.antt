@@ -75,7 +75,7 @@ module _ {S C : Type 0} (files : S → Folder) (may_leave : S → Folder → Typ
     pub seat_told : {E : Type 0} (faults : ℕ) (new : Serving S C) (result : Result (List Reply) E) (facts : List MailFacts) (met : Met) → before ≤ faults → met ≡ met_of c (seat_at mid.seats at).state.view mid.store.chain.live.mailbox
         → AreSupplied here.log.mail c (seat_at old.seats at).state.view old.store.chain.live.mailbox facts
         → ((mail : ℕ → Mail) (m : Mailbox) → met ≡ met_of c (seat_at mid.seats at).state.view m → AreSupplied mail c (seat_at mid.seats at).state.view mid.store.chain.live.mailbox facts
-        → IfOk result (λ replies. record { replies = replies; next = (seat_at new.seats at).state } ≡ answer mail (seat_at mid.seats at).state c m (length mid.journal) mid.store.chain.live.mailbox mid.mark))
+        → IfOk result (λ replies. record { replies = replies; next = (seat_at new.seats at).state } ≡ answer mail (seat_at mid.seats at).state c m mid.groups mid.store.chain.live.mailbox mid.mark))
         → IsAbreast new.store.chain.live.mailbox (seat_at new.seats at) → with_seat at (seat_at new.seats at) mid ≡ new → OnErr result (new ≡ mid)
         → Serves files may_leave moment left_since upcoming clock start base faults attempts line result old new
     seat_told faults new result facts met later is supplied answered abreast only stays =
@@ -102,7 +102,7 @@ module _ {S C : Type 0} (files : S → Folder) (may_leave : S → Folder → Typ
       pub seat_wrote : {E : Type 0} (faults : ℕ) (new : Serving S C) (result : Result (List Reply) E) (facts : List MailFacts) (met : Met) → before ≤ faults → HasStates old.seats seats → All (IsAbreast mid.store.chain.live.mailbox) seats
           → met ≡ met_of c (seat_at old.seats at).state.view old.store.chain.live.mailbox
           → ((mail : ℕ → Mail) (m : Mailbox) → met ≡ met_of c (seat_at seats at).state.view m → AreSupplied mail c (seat_at seats at).state.view mid.store.chain.live.mailbox facts
-          → IfOk result (λ replies. record { replies = replies; next = (seat_at new.seats at).state } ≡ answer mail (seat_at seats at).state c m (length mid.journal) mid.store.chain.live.mailbox mid.mark))
+          → IfOk result (λ replies. record { replies = replies; next = (seat_at new.seats at).state } ≡ answer mail (seat_at seats at).state c m mid.groups mid.store.chain.live.mailbox mid.mark))
           → IsAbreast new.store.chain.live.mailbox (seat_at new.seats at) → with_seat at (seat_at new.seats at) (record mid { seats = seats }) ≡ new → OnErr result (new ≡ record mid { seats = seats })
           → Serves files may_leave moment left_since upcoming clock start base faults attempts line result old new
       seat_wrote faults new result facts met later has all is answered abreast only stays =

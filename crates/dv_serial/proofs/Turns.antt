@@ -1,18 +1,16 @@
--- The turns of a script's lines, one line more at a time, and the sessions that they name.
-use Rattle.std.proofs.Common.{◌≡◌, ℕ, zero, suc, ◌+◌, ◌<◌, ◌≤◌, Bool, true, false, List, [], ◌∷◌, ◌++◌, length, get_or, take, drop, map, fold, refl, sym, ◌∙◌, ap, subst, arith, append_assoc, length-append, length-take}
-use Rattle.std.specs.Prelude.{◌||◌, count_by}
+-- The lines of a script, one more at a time, and the sessions that they name.
+use Rattle.std.proofs.Common.{◌≡◌, ℕ, ◌+◌, ◌-◌, ◌<◌, ◌≤◌, Bool, true, false, List, [], ◌∷◌, ◌++◌, length, get_or, take, drop, map, fold, refl, sym, ◌∙◌, ap, subst, arith, length-append, length-drop, length-take}
+use Rattle.std.specs.Prelude.{◌||◌}
 use Rattle.std.specs.List.{list_any}
 use Rattle.std.specs.Str.{bytes_eq}
-use Rattle.std.proofs.lemmas.List.{append-nil, drop_more, get_or-map, length-map, map-append, map_more, take-append-drop}
+use Rattle.std.proofs.lemmas.List.{drop_more, length-map, map-append, map_more, take-append-drop, take_more}
 use Rattle.std.proofs.lemmas.List.Sums.{count_by-le-length, fold-append}
 use Rattle.std.proofs.lemmas.Slice.Eq.{bytes_eq-Decides}
 use Rattle.dv_formats.specs.Scripts.{NamedLine, and_session, sessions_of}
-use Rattle.dv_script.specs.declared.types.Line.{Line}
-use Rattle.dv_script.specs.Sources.{all_named, named}
 use Rattle.dv_serial.specs.declared.numbers.Seen.{Seen}
 use Rattle.dv_serial.specs.declared.numbers.Turn.{Turn}
 use Rattle.dv_serial.specs.Numbering.{AreSeen, commands_in}
-use Rattle.dv_serial.specs.Scripts.{number_among, numbered, numbered_by, turn_behind, turns_behind, turns_of}
+use Rattle.dv_serial.specs.Scripts.{number_among, numbered, numbered_by, turn_behind}
 
 -- ---- numbers among names
 
@@ -121,65 +119,18 @@ few_sessions (line ∷ lines) names = by_test (list_any (bytes_eq line.0) names)
     by_test true e rest = let less = rw e at rest in rw e (omega (arith, less))
     by_test false e rest = let less = rw e at rest in rw e (omega (arith, less, length-append names (line.0 ∷ [])))
 
--- ---- turns, one line more
-
-turns_push : (names : List (List ℕ)) (before lines : List NamedLine) (line : NamedLine)
-    → turns_behind names before (lines ++ line ∷ []) ≡ turns_behind names before lines ++ turn_behind names (before ++ lines) line ∷ []
-turns_push names before [] line = ap (λ b. turn_behind names b line ∷ []) (sym (append-nil before))
-turns_push names before (first ∷ lines) line =
-    ap (λ ts. turn_behind names before first ∷ ts) (turns_push names (before ++ first ∷ []) lines line
-    ∙ ap (λ b. turns_behind names (before ++ first ∷ []) lines ++ turn_behind names b line ∷ []) (append_assoc before (first ∷ []) lines))
-
-named_more : (lines : List Line) (i : ℕ) (line : Line) → i < length lines → line ≡ get_or lines i line
-    → all_named (take (i + 1) lines) ≡ all_named (take i lines) ++ named line ∷ []
-named_more lines i line less is =
-    map_more named lines i line less ∙ ap (λ l. all_named (take i lines) ++ named l ∷ []) (sym is)
-
-named_parts : (lines : List Line) (i : ℕ) (line : Line) → i < length lines → line ≡ get_or lines i line
-    → all_named lines ≡ all_named (take i lines) ++ named line ∷ all_named (drop (i + 1) lines)
-named_parts lines i line less is =
-    let parts : lines ≡ take i lines ++ line ∷ drop (i + 1) lines = sym (take-append-drop i lines) ∙ ap (λ l. take i lines ++ l) (drop_more lines i line less ∙ ap (λ l. l ∷ drop (i + 1) lines) (sym is)) in
-    ap all_named parts ∙ map-append named (take i lines) (line ∷ drop (i + 1) lines)
-
-pub turns_more : (lines : List Line) (i : ℕ) (line : Line) (turns : List Turn) (turn : Turn)
-    → i < length lines → line ≡ get_or lines i line
-    → turns ≡ turns_behind (sessions_of (all_named lines)) [] (all_named (take i lines))
-    → turn ≡ turn_behind (sessions_of (all_named (take i lines))) (all_named (take i lines)) (named line)
-    → turns ++ turn ∷ [] ≡ turns_behind (sessions_of (all_named lines)) [] (all_named (take (i + 1) lines))
-turns_more lines i line turns turn less is so_far next =
-    let before = all_named (take i lines) in
-    let names = sessions_of (all_named lines) in
-    let stays : number_among names line.session ≡ number_among (sessions_of before) line.session = ap (λ l. number_among (sessions_of l) line.session) (named_parts lines i line less is) ∙ (number_stays before (named line) (all_named (drop (i + 1) lines))).0 in
-    let same : turn ≡ turn_behind names before (named line) = next ∙ sym (ap (λ (n : ℕ). record { session = n; command = 1 + count_by (λ (l : NamedLine). bytes_eq l.0 line.session) before }) stays) in
-    ap (λ ts. ts ++ turn ∷ []) so_far ∙ ap (λ t. turns_behind names [] before ++ t ∷ []) same
-    ∙ sym (turns_push names [] before (named line))
-    ∙ sym (ap (turns_behind names []) (named_more lines i line less is))
-
-pub seen_more : (lines : List Line) (i : ℕ) (line : Line) (seen : List Seen)
-    → i < length lines → line ≡ get_or lines i line
-    → AreSeen (all_named (take i lines) ++ named line ∷ []) seen → AreSeen (all_named (take (i + 1) lines)) seen
-seen_more lines i line seen less is so_far = subst (λ l. AreSeen l seen) (sym (named_more lines i line less is)) so_far
-
 -- ---- counts
 
 pub seen_sessions : (before : List NamedLine) (seen : List Seen) → AreSeen before seen
     → (length seen ≡ length (sessions_of before)) × (length seen ≤ length before)
 seen_sessions before seen so_far =
-    let same = sym (length-map seen (λ (s : Seen). s.name.now)) ∙ ap length so_far.names in
+    let same = sym (length-map seen (λ (s : Seen). s.name)) ∙ ap length so_far.names in
     (same, omega (arith, same, few_sessions before []))
 
 pub seen_commands : (before : List NamedLine) (seen : List Seen) (name : List ℕ) → AreSeen before seen
     → commands_in seen name ≤ length before
 seen_commands before seen name so_far =
     omega (arith, so_far.commands name, count_by-le-length (λ (l : NamedLine). bytes_eq l.0 name) before)
-
--- the first lines of a script
-pub named_length : (lines : List Line) (i : ℕ)
-    → (length (all_named (take i lines)) ≤ i) × (length (all_named (take i lines)) ≤ length lines)
-named_length lines i =
-    let same = length-map (take i lines) named in
-    let long = length-take i lines in
-    (omega (arith, same, long), omega (arith, same, long))
 
 -- ---- a line's turn
 
@@ -188,30 +139,6 @@ pub record IsNext (lines : List NamedLine) (i session : ℕ) (line : NamedLine) 
   pub less : i < length lines
   pub is : line ≡ get_or lines i line
   pub number : session ≡ number_among (sessions_of lines) line.0
-
-turn_at : (names : List (List ℕ)) (before lines : List NamedLine) (i : ℕ) (d : Turn) (line : NamedLine)
-    → i < length lines → (get_or (turns_behind names before lines) i d).session ≡ number_among names (get_or lines i line).0
-turn_at names before [] i d line less = absurd (omega (arith, less))
-turn_at names before (first ∷ lines) zero d line less = refl
-turn_at names before (first ∷ lines) (suc i) d line less = turn_at names (before ++ first ∷ []) lines i d line (omega (arith, less))
-
-pub turns_length : (names : List (List ℕ)) (before lines : List NamedLine) → length (turns_behind names before lines) ≡ length lines
-turns_length names before [] = refl
-turns_length names before (line ∷ lines) = ap suc (turns_length names (before ++ line ∷ []) lines)
-
-pub next_line : (lines : List Line) (turns : List Turn) (i : ℕ) (line : Line) (turn : Turn)
-    → turns ≡ turns_of (all_named lines) → i < length lines → line ≡ get_or lines i line → turn ≡ get_or turns i turn
-    → IsNext (all_named lines) i turn.session (named line)
-next_line lines turns i line turn are less is same =
-    let here : named line ≡ get_or (all_named lines) i (named line) = ap named is ∙ sym (get_or-map named lines i line (named line) less) in
-    let within : i < length (all_named lines) = omega (arith, less, length-map lines named) in
-    record {
-      less = within;
-      is = here;
-      number = ap (λ (t : Turn). t.session) (same ∙ ap (λ ts. get_or ts i turn) are)
-          ∙ turn_at (sessions_of (all_named lines)) [] (all_named lines) i turn (named line) within
-          ∙ sym (ap (λ (l : NamedLine). number_among (sessions_of (all_named lines)) l.0) here);
-    }
 
 parts_at : (lines : List NamedLine) (i : ℕ) (line : NamedLine) → i < length lines → line ≡ get_or lines i line
     → lines ≡ take i lines ++ line ∷ drop (i + 1) lines
@@ -240,3 +167,80 @@ numbers_parts lines i session line next =
     ap (map (numbered_by (sessions_of lines))) (parts_at lines i line next.less next.is)
     ∙ map-append (numbered_by (sessions_of lines)) (take i lines) (line ∷ drop (i + 1) lines)
     ∙ ap (λ (n : ℕ). map (numbered_by (sessions_of lines)) (take i lines) ++ (n, line.1) ∷ map (numbered_by (sessions_of lines)) (drop (i + 1) lines)) (sym next.number)
+
+-- ---- lines that are left
+
+-- how many lines are given, where these are left
+abbrev pub given : List NamedLine → List NamedLine → ℕ
+given all left = length all - length left
+
+-- these are left behind the ones that are given
+abbrev pub AreLeft : List NamedLine → List NamedLine → Type 0
+AreLeft all left = left ≡ drop (given all left) all
+
+-- all are, at first
+pub all_left : (all : List NamedLine) → (given all all ≡ 0) × AreLeft all all
+all_left all =
+    let none : given all all ≡ 0 = omega arith in
+    (none, sym (ap (λ n. drop n all) none))
+
+-- one line more is given
+pub record IsGiven (all left after : List NamedLine) (line : NamedLine) : Type 0 where
+  pub less : given all left < length all
+  pub is : line ≡ get_or all (given all left) line
+  pub one : given all after ≡ given all left + 1
+  pub are : AreLeft all after
+
+pub one_given : (all left after : List NamedLine) (line : NamedLine) → AreLeft all left → left ≡ line ∷ after → IsGiven all left after line
+one_given all left after line are is =
+    let i = given all left in
+    let long : length left ≡ length all - i = ap length are ∙ length-drop i all in
+    let many : length left ≡ length after + 1 = ap length is ∙ omega arith in
+    let less : i < length all = omega (arith, long, many) in
+    let one : given all after ≡ i + 1 = omega (arith, long, many) in
+    let parts : line ∷ after ≡ get_or all i line ∷ drop (i + 1) all = sym is ∙ are ∙ drop_more all i line less in
+    record {
+      less = less;
+      is = ap (λ l. get_or l 0 line) parts;
+      one = one;
+      are = ap (drop 1) parts ∙ sym (ap (λ n. drop n all) one);
+    }
+
+-- the sessions of the lines with it
+pub seen_given : (all left after : List NamedLine) (line : NamedLine) (seen : List Seen) → IsGiven all left after line
+    → AreSeen (take (given all left) all ++ line ∷ []) seen → AreSeen (take (given all after) all) seen
+seen_given all left after line seen next are =
+    subst (λ ls. AreSeen ls seen)
+    (sym (ap (λ n. take n all) next.one ∙ take_more all (given all left) line next.less ∙ ap (λ (l : NamedLine). take (given all left) all ++ l ∷ []) (sym next.is))) are
+
+-- and its own, which is numbered among those before it
+pub turn_given : (all left after : List NamedLine) (line : NamedLine) (turn : Turn) → IsGiven all left after line
+    → turn ≡ turn_behind (sessions_of (take (given all left) all)) (take (given all left) all) line
+    → IsNext all (given all left) turn.session line
+turn_given all left after line turn next turn_is =
+    let i = given all left in
+    let stays = (number_stays (take i all) line (drop (i + 1) all)).0 in
+    record {
+      less = next.less;
+      is = next.is;
+      number = ap (λ (t : Turn). t.session) turn_is ∙ sym stays ∙ ap (λ ls. number_among (sessions_of ls) line.0) (sym (parts_at all i line next.less next.is));
+    }
+
+-- the first of the lines that are left, by its session's number
+pub first_given : (all left after : List NamedLine) (line : NamedLine) → IsGiven all left after line
+    → IsNext all (given all left) (number_among (sessions_of all) line.0) line
+first_given all left after line next = record { less = next.less; is = next.is; number = refl }
+
+-- there are no more sessions than lines that are given
+pub few_given : (all left : List NamedLine) (seen : List Seen) → AreSeen (take (given all left) all) seen
+    → (length seen ≤ given all left) × ((name : List ℕ) → commands_in seen name ≤ given all left)
+few_given all left seen are =
+    let few : length (take (given all left) all) ≤ given all left = omega (arith, length-take (given all left) all) in (
+      omega (arith, (seen_sessions (take (given all left) all) seen are).1, few),
+      λ name. omega (arith, seen_commands (take (given all left) all) seen name are, few),
+    )
+
+-- where some are left, the first is
+pub some_left : (left : List NamedLine) → (left ≡ [] → ⊥) → (line : NamedLine) × (after : List NamedLine) × (left ≡ line ∷ after)
+some_left [] some = absurd (some refl)
+some_left (line ∷ after) some = (line, after, refl)

@@ -47,10 +47,10 @@ IsLeft clock base play line (a ∷ []) = (a.line ≡ line) × MayBeLeft clock ba
 IsLeft clock base play line attempts = ⊥
 
 module _ {S C : Type 0} where
-  -- the journal, the mailbox and the places are where the play stands
+  -- the number of groups, the mailbox and the places are where the play stands
   pub record IsAt (play : Play) (serving : Serving S C) : Type 0 where
     pub rotates : play.log.rotates ≡ true
-    pub journal : play.log.entries ≡ serving.journal
+    pub groups : length play.log.entries ≡ serving.groups
     pub mailbox : play.mailbox ≡ serving.store.chain.live.mailbox
     pub mark : play.mark ≡ serving.mark
     pub place : StandsAt play.begun play.mark (place_of serving.store.chain) serving.store.owed

@@ -1,27 +1,31 @@
 -- From which folders a run may begin, and what is left of them for a next one. The record takes the
 -- members of a shelf's type.
-use Rattle.std.specs.Prelude.{◌≡◌, ℕ}
+use Rattle.std.specs.Prelude.{◌⊎◌, ℕ, List}
 use Rattle.dv_model.specs.declared.types.Mailbox.{Mailbox}
 use Rattle.dv_model.specs.declared.types.Mark.{Mark}
-use Rattle.dv_shelf.specs.declared.shelf.Name.TheVariants as name
+use Rattle.dv_model.specs.Journals.{Log}
+use Rattle.dv_shelf.specs.Crashes.{LeavesOnly}
 use Rattle.dv_shelf.specs.Folders.{Folder}
-use Rattle.dv_logfile.specs.Scans.{Good, GoodLog, IsScanned}
+use Rattle.dv_openings.specs.Numbers.{IsNamed}
 use Rattle.dv_openings.specs.Openings.{Finds, IsFound}
 use Rattle.dv_openings.specs.TrueCaches.{HasTrueCache}
-
--- the folder's log is a good one of this number
-pub record IsNamed (folder : Folder) (indexid : ℕ) : Type 0 where
-  pub log : GoodLog
-  pub scanned : IsScanned (folder name.Log) (Good log)
-  pub is : indexid ≡ log.header.indexid
+use Rattle.dv_playing.specs.Playing.{Attempt}
+use Rattle.dv_serial.specs.Places.{GivesBehind, MayGive}
 
 -- where a mailbox is found, the cache file is true of it
 abbrev pub IsTrueFolder : Folder → Type 0
 IsTrueFolder folder = (indexid : ℕ) (m : Mailbox) (mark : Mark) → IsNamed folder indexid
     → IsFound folder (Finds m mark) → HasTrueCache folder indexid m
 
--- so it is in the files as they are read, and in each folder that a crash now may leave
-pub record LeavesTrue {S : Type 0} (files : S → Folder) (may_leave : S → Folder → Type 0) (shelf : S)
-    : Type 0 where
-  pub seen : IsTrueFolder (files shelf)
-  pub crash : (c : Folder) → may_leave shelf c → IsTrueFolder c
+-- so it is in the files as they are read, in each folder that a crash now may leave, and in each
+-- that one left at any moment since
+pub record LeavesTrue {S : Type 0} (files : S → Folder) (may_leave : S → Folder → Type 0)
+    (moment : S → ℕ) (left_since : S → ℕ → Folder → Type 0) (old new : S) : Type 0 where
+  pub seen : IsTrueFolder (files new)
+  pub after : (c : Folder) → may_leave new c → IsTrueFolder c
+  pub crash : LeavesOnly moment left_since old new IsTrueFolder
+
+-- so it is in each folder that gives the log behind lines, or behind a front of them
+abbrev pub GivesTrue : Type 0
+GivesTrue = (clock : ℕ → ℕ) (start : Log) (attempts : List Attempt) (c : Folder)
+    → GivesBehind clock start attempts c ⊎ MayGive clock start attempts c → IsTrueFolder c

@@ -6,9 +6,9 @@ use Rattle.dv_serial.specs.declared.numbers.Seen.{Seen}
 -- the commands of the session of this name
 abbrev pub commands_in : List Seen → List ℕ → ℕ
 commands_in [] name = 0
-commands_in (s ∷ seen) name = if bytes_eq name s.name.now then s.commands else commands_in seen name
+commands_in (s ∷ seen) name = if bytes_eq name s.name then s.commands else commands_in seen name
 
 -- these sessions gave these lines
 pub record AreSeen (lines : List NamedLine) (seen : List Seen) : Type 0 where
-  pub names : map (λ (s : Seen). s.name.now) seen ≡ sessions_of lines
+  pub names : map (λ (s : Seen). s.name) seen ≡ sessions_of lines
   pub commands : (name : List ℕ) → commands_in seen name ≡ count_by (λ l. bytes_eq l.0 name) lines

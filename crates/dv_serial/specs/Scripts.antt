@@ -27,15 +27,6 @@ turn_behind names before line = record {
   command = 1 + count_by (λ l. bytes_eq l.0 line.0) before;
 }
 
--- the turns of some lines behind others, and of all
-abbrev pub turns_behind : List (List ℕ) → List NamedLine → List NamedLine → List Turn
-turns_behind names before [] = []
-turns_behind names before (line ∷ lines) =
-    turn_behind names before line ∷ turns_behind names (before ++ line ∷ []) lines
-
-abbrev pub turns_of : List NamedLine → List Turn
-turns_of lines = turns_behind (sessions_of lines) [] lines
-
 -- the lines that answer one line of the script
 abbrev pub answer_text : NamedLine → List Reply → List ℕ
 answer_text line replies = flat_map (line_text line.0) replies

@@ -49,7 +49,7 @@ module _ {S C : Type 0} where
     pub store : IsLookedAt old.store new.store
     pub mark : new.mark ≡ old.mark
     pub seats : new.seats ≡ old.seats
-    pub journal : new.journal ≡ old.journal
+    pub groups : new.groups ≡ old.groups
 
   -- each session keeps up with the mailbox
   abbrev pub AreAbreast : Serving S C → Type 0

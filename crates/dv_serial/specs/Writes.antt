@@ -19,8 +19,8 @@ use Rattle.dv_serial.specs.Places.{IsOwedBehind, MayGive, play_of}
 use Rattle.dv_serial.specs.Servings.{Serving}
 
 module _ {S C : Type 0} where
-  -- The store, the journal and the clock are where this play stands, behind these lines, and a
-  -- crash at any moment since leaves the log behind some of them, or with a failed group.
+  -- The store, the number of groups and the clock are where this play stands, behind these lines,
+  -- and a crash at any moment since leaves the log behind some of them, or with a failed group.
   pub record StandsAs (files : S → Folder) (may_leave : S → Folder → Type 0) (moment : S → ℕ)
       (left_since : S → ℕ → Folder → Type 0) (upcoming : C → ℕ → ℕ) (clock : ℕ → ℕ) (start : Log)
       (attempts : List Attempt) (play : Play) (old new : Serving S C) : Type 0 where

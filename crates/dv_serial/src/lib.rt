@@ -13,7 +13,6 @@ mod told;
 
 pub use laws::{commands_are_servable, generated_are_servable, next_runs_begin};
 pub use lines::LineEnd;
-pub use numbers::{Numbered, Turn, number_lines};
 pub use seats::new_seats;
 pub use serial::Serial;
 pub use sinks::NullSink;

@@ -1,14 +1,12 @@
 //! The sessions of a script by number.
 
-ghost use Rattle.std.specs.Prelude.{◌≡◌, ◌++◌, ◌∷◌, [], ◌≤◌, ◌<◌, ◌^◌, ℕ, List, IfOk, bytes_eq, length, position};
+ghost use Rattle.std.specs.Prelude.{◌≡◌, ◌++◌, ◌∷◌, [], ◌<◌, ◌^◌, ℕ, List, IfOk, bytes_eq, length, position};
 ghost use Rattle.dv_model.specs.declared.types.Command.{Command};
 ghost use Rattle.dv_formats.specs.Scripts.{NamedLine, sessions_of};
-ghost use Rattle.dv_script.specs.Sources.{all_named};
-ghost use Rattle.dv_serial.specs.Scripts.{turn_behind, turns_of};
+ghost use Rattle.dv_serial.specs.Scripts.{turn_behind};
 ghost use Rattle.dv_serial.specs.Numbering.{AreSeen, commands_in};
 
-use dv_model::{List, NoMemory};
-use dv_script::Line;
+use dv_model::{Bytes, List, NoMemory};
 use std::alloc::Global;
 
 /// Which session gives a line of a script, and as which of its commands, both counted from 1.
@@ -19,29 +17,22 @@ pub struct Turn {
     pub command: u32,
 }
 
-/// The turns of a script's lines, and how many sessions give them.
-#[derive(Drop)]
-pub struct Numbered {
-    pub turns: List<Turn>,
-    pub sessions: u32,
-}
-
 /// A session's name, and how many commands it gave so far.
 #[derive(Drop)]
-struct Seen<'a> {
-    name: &'a [u8],
+pub struct Seen {
+    name: Bytes,
     commands: u32,
 }
 
 /// The place of the session of this name.
 fn place_of(seen: &[Seen], name: &[u8]) -> Option<usize>
-    ensures { result ≡ position (λ s. bytes_eq name.now s.name.now) seen.now }
+    ensures { result ≡ position (λ s. bytes_eq name.now s.name) seen.now }
 {
-    seen.iter().position(|s| name == s.name)
+    seen.iter().position(|s| name == s.name.as_slice())
 }
 
-/// The turn of the next line, which the session of this name gives.
-fn next_turn<'a>(seen: &mut Vec<Seen<'a>>, name: &'a [u8]) -> Result<Turn, NoMemory>
+/// The turn of the next line, which the session of this name gives. `NoMemory` is the only error.
+pub fn next_turn(alloc: Global, seen: &mut Vec<Seen>, name: &[u8]) -> Result<Turn, NoMemory>
     requires sessions { length seen.old.items < 2 ^ 26 }
     requires commands { commands_in seen.old.items name.now < 2 ^ 26 }
     ensures turn { (before : List NamedLine) (c : Command) → AreSeen before seen.old.items →
@@ -58,6 +49,7 @@ fn next_turn<'a>(seen: &mut Vec<Seen<'a>>, name: &'a [u8]) -> Result<Turn, NoMem
             })
         }
         None => {
+            let name = List::from_slice(alloc, name)?;
             seen.push(Seen { name, commands: 1 })?;
             Ok(Turn {
                 session: seen.len() as u32,
@@ -65,22 +57,4 @@ fn next_turn<'a>(seen: &mut Vec<Seen<'a>>, name: &'a [u8]) -> Result<Turn, NoMem
             })
         }
     }
-}
-
-/// Numbers the lines of a script by their sessions. `NoMemory` is the only error.
-pub fn number_lines(alloc: Global, lines: &[Line]) -> Result<Numbered, NoMemory>
-    requires few { length lines.now ≤ 2 ^ 26 }
-    ensures turns { IfOk result (λ n. n.turns ≡ turns_of (all_named lines.now)) }
-    ensures sessions { IfOk result (λ n. n.sessions
-        ≡ length (sessions_of (all_named lines.now))) }
-{
-    let mut seen: Vec<Seen> = Vec::new(alloc);
-    let mut turns = List::new(alloc);
-    for line in lines {
-        turns.push(next_turn(&mut seen, line.session.as_slice())?)?;
-    }
-    Ok(Numbered {
-        turns,
-        sessions: seen.len() as u32,
-    })
 }

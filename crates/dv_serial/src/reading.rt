@@ -74,14 +74,14 @@ impl<S: Shelf, C> Serial<S, C> {
               replies = replies;
               next = (seat_at self.new.seats at).state;
             } ≡ answer mail (seat_at self.old.seats at).state c.now met_mailbox
-            (length self.old.journal) self.old.store.chain.live.mailbox self.old.mark) }
+            self.old.groups self.old.store.chain.live.mailbox self.old.mark) }
         // The other sessions stay, and all else.
         ensures abreast { IsAbreast self.new.store.chain.live.mailbox (seat_at self.new.seats at) }
         ensures seats { with_seat at (seat_at self.new.seats at) self.old ≡ self.new }
         ensures err { OnErr result (self.new ≡ self.old) }
     {
-        let told = self.journal.len() as u64;
-        self.seats[at].answer(c, self.store.live(), facts, met, self.mark, told)
+        let (mark, groups) = (self.mark, self.groups);
+        self.seats[at].answer(c, self.store.live(), facts, met, mark, groups)
     }
 }
 
@@ -100,6 +100,7 @@ impl<S: Shelf, C: Clock> Serial<S, C> {
             (S.fault_count self.old.store.shelf) attempts self.old →
             Serves S.files S.may_leave S.moment S.left_since C.upcoming clock start base
             (S.fault_count self.new.store.shelf) attempts (at + 1, c.now) result self.old self.new }
+        ensures groups { self.new.groups ≡ self.old.groups }
         // There are as many sessions, which keep up with the mailbox, and the clock isn't read.
         ensures stays { (length self.new.seats ≡ length self.old.seats)
             × (self.new.store.clock ≡ self.old.store.clock) }

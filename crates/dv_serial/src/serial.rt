@@ -2,30 +2,29 @@ ghost use Rattle.std.specs.Prelude.{◌≡◌, length};
 ghost use Rattle.dv_serial.specs.Servings.{serving_over};
 
 use dv_answer::Session;
-use dv_model::{Entry, List, Mark};
+use dv_model::{List, Mark};
 use dv_store::Store;
 use std::alloc::Global;
 use std::marker::Model;
 
 /// The sessions of a script over a mailbox folder, served one command after another. Contracts see
-/// the folder with its mailbox and the clock, the place behind the journal, the sessions, and the
-/// journal.
+/// the folder with its mailbox and the clock, the place behind the log's groups, the sessions, and
+/// how many groups were written. The groups themselves are in the folder alone.
 #[derive(Drop)]
 pub struct Serial<S, C> {
     pub(crate) alloc: Global,
     pub(crate) store: Store<S, C>,
-    /// The place behind the journal's last group.
+    /// The place behind the last group.
     pub(crate) mark: Mark,
     /// Those of the numbers from 1 on.
     pub(crate) seats: Vec<Session>,
-    /// The groups that were written, each with the number of its session.
-    pub(crate) journal: Vec<Entry>,
+    /// How many groups were written.
+    pub(crate) groups: u64,
 }
 
 impl<S, C> Model for Serial<S, C> {
-    ghost use Rattle.std.specs.Coded.{coded_list, coded_option};
+    ghost use Rattle.std.specs.Coded.{coded_list, coded_option, coded_ℕ};
     ghost use Rattle.dv_model.specs.contracts.types.Mark as mark_type;
-    ghost use Rattle.dv_model.specs.contracts.types.Entry as entry_type;
     ghost use Rattle.dv_chain.specs.contracts.chain.Chain as chain_type;
     ghost use Rattle.dv_rotation.specs.contracts.texts.Turn as turn_type;
     ghost use Rattle.dv_lookups.specs.contracts.cache_file.CacheFile as file_type;
@@ -39,13 +38,13 @@ impl<S, C> Model for Serial<S, C> {
         (state_code S.code C.code chain_type.the_row.coded
         (coded_option turn_type.the_row.coded) file_type.the_row.coded)
         mark_type.the_row.coded
-        (coded_list session_type.the_row.coded) (coded_list entry_type.the_row.coded) };
+        (coded_list session_type.the_row.coded) coded_ℕ };
 
     ghost view = { λ s. record {
       store = s.store;
       mark = s.mark;
       seats = s.seats.items;
-      journal = s.journal.items;
+      groups = s.groups;
     } };
 }
 
@@ -60,11 +59,11 @@ impl<S, C> Serial<S, C> {
             store,
             mark,
             seats: seats.into_vec(),
-            journal: Vec::new(alloc),
+            groups: 0,
         }
     }
 
-    /// The place behind the journal's last group, or where the log ended at first.
+    /// The place behind the last group that was written, or where the log ended at first.
     pub fn mark(&self) -> Mark
         ensures { result ≡ self.now.mark }
     {
@@ -72,10 +71,10 @@ impl<S, C> Serial<S, C> {
     }
 
     /// How many groups were written.
-    pub fn count(&self) -> usize
-        ensures { result ≡ length self.now.journal }
+    pub fn count(&self) -> u64
+        ensures { result ≡ self.now.groups }
     {
-        self.journal.len()
+        self.groups
     }
 
     /// How many messages the mailbox has. Takes no memory.
@@ -92,13 +91,11 @@ impl<S, C> Serial<S, C> {
         self.store.live().next_uid()
     }
 
-    /// The folder, the clock, and the groups that were written, each with the number of its
-    /// session.
-    pub fn parts(self) -> (S, C, List<Entry>)
-        ensures { result ≡ (self.store.shelf, self.store.clock, self.journal) }
+    /// The folder and the clock.
+    pub fn parts(self) -> (S, C)
+        ensures { result ≡ (self.store.shelf, self.store.clock) }
     {
-        let Serial { store, journal, .. } = self;
-        let (shelf, clock) = store.parts();
-        (shelf, clock, List::from_vec(journal))
+        let Serial { store, .. } = self;
+        store.parts()
     }
 }

@@ -1,6 +1,6 @@
 //! One line is served.
 
-ghost use Rattle.std.specs.Prelude.{◌≡◌, ◌+◌, ◌<◌, ◌≤◌, ℕ, List, IfOk, None, OnErr, OnOk, length, true, false};
+ghost use Rattle.std.specs.Prelude.{◌≡◌, ◌+◌, ◌^◌, ◌<◌, ◌≤◌, ℕ, List, IfOk, None, OnErr, OnOk, length, true, false};
 ghost use Rattle.dv_model.specs.Journals.{Log};
 ghost use Rattle.dv_model.specs.Sessions.{is_write};
 ghost use Rattle.dv_shelf.specs.Crashes.{LeavesOnly};
@@ -19,7 +19,7 @@ ghost use Rattle.dv_serial.specs.Writes.{Commits};
 use crate::Serial;
 use crate::seats::tell_all;
 use crate::told::{fault_line, one_line};
-use dv_model::{Command, Entry, List, NoMemory, Reply};
+use dv_model::{Command, List, NoMemory, Reply};
 use dv_plans::StoreFault;
 use dv_responses::{is_write, meet};
 use dv_search::Mail;
@@ -29,21 +29,24 @@ use dv_touched::Touched;
 
 impl<S: Shelf, C: Clock> Serial<S, C> {
     /// Writes what the command of a session changes, where it changes anything, and gives the UIDs
-    /// of which the sessions are to be told. The room of the journal is taken before.
-    fn commit(&mut self, at: usize, number: u32, c: &Command) -> Result<Touched, StoreFault>
+    /// of which the sessions are to be told.
+    fn commit(&mut self, at: usize, c: &Command) -> Result<Touched, StoreFault>
         requires at { (at < length self.old.seats) }
         requires line { IsServable c.now }
         requires write { is_write c.now ≡ true }
         requires allowed { own_refusal (seat_at self.old.seats at).state c.now ≡ None }
+        requires room { self.old.groups + 1 < 2 ^ 64 }
         // The group is one entry more, or nothing is written; what is owed then, and what a crash
         // leaves at any moment. Files that the command doesn't write stay.
         ensures commits { S.tells → C.tells → (clock : ℕ → ℕ) (start : Log) (base : ℕ)
-            (attempts : List Attempt) → Follows S.files S.may_leave C.upcoming clock start base
-            (S.fault_count self.old.store.shelf) attempts self.old → number ≡ at + 1 →
+            (attempts : List Attempt) → at + 1 < 2 ^ 32 →
+            Follows S.files S.may_leave C.upcoming clock start base
+            (S.fault_count self.old.store.shelf) attempts self.old →
             Commits S.files S.may_leave S.moment S.left_since C.upcoming clock start attempts
-            (number, c.now) self.old result self.new
+            (at + 1, c.now) self.old result self.new
             × LeavesOthers c.now self.old.store.chain.live.mailbox result
             (S.files self.old.store.shelf) (S.files self.new.store.shelf) }
+        ensures groups { self.new.groups ≤ self.old.groups + 1 }
         // The sessions stay, and are to be told of what changes; a fault of the disk has its cause.
         ensures seats { self.new.seats ≡ self.old.seats }
         ensures leads { IfOk result (Leads self.old.store.chain.live.mailbox
@@ -55,7 +58,6 @@ impl<S: Shelf, C: Clock> Serial<S, C> {
         ensures cause { HasStoreCause (S.fault_count self.old.store.shelf)
             (S.fault_count self.new.store.shelf) result }
     {
-        self.journal.reserve(1)?;
         // A UIDNEXT is known of a valid mailbox alone.
         let _before = self.store.live().next_uid();
         let receipt = self.store.commit_command(c, self.seats[at].view())?;
@@ -68,29 +70,27 @@ impl<S: Shelf, C: Clock> Serial<S, C> {
         let _next = self.store.live().next_uid();
         if !group.records.is_empty() {
             self.mark = mark;
-            self.journal
-                .push(Entry {
-                    author: number,
-                    group,
-                })
-                .unwrap();
+            self.groups += 1;
         }
         Ok(touched)
     }
 
     /// Serves a write that the session doesn't refuse.
-    fn serve_write(&mut self, at: usize, number: u32, c: &Command) -> Result<List<Reply>, NoMemory>
+    fn serve_write(&mut self, at: usize, c: &Command) -> Result<List<Reply>, NoMemory>
         requires at { at < length self.old.seats }
         requires line { IsServable c.now }
         requires write { is_write c.now ≡ true }
         requires allowed { own_refusal (seat_at self.old.seats at).state c.now ≡ None }
         requires abreast { AreAbreast self.old }
+        requires room { self.old.groups + 1 < 2 ^ 64 }
         // It is one line more of the play, with its replies, and what a crash leaves.
         ensures serves { S.tells → C.tells → (clock : ℕ → ℕ) (start : Log) (base : ℕ)
-            (attempts : List Attempt) → Follows S.files S.may_leave C.upcoming clock start base
-            (S.fault_count self.old.store.shelf) attempts self.old → number ≡ at + 1 →
+            (attempts : List Attempt) → at + 1 < 2 ^ 32 →
+            Follows S.files S.may_leave C.upcoming clock start base
+            (S.fault_count self.old.store.shelf) attempts self.old →
             Serves S.files S.may_leave S.moment S.left_since C.upcoming clock start base
-            (S.fault_count self.new.store.shelf) attempts (number, c.now) result self.old self.new }
+            (S.fault_count self.new.store.shelf) attempts (at + 1, c.now) result self.old self.new }
+        ensures groups { self.new.groups ≤ self.old.groups + 1 }
         // The sessions keep up with the mailbox; the disk's failure is told only where it failed.
         ensures seats { length self.new.seats ≡ length self.old.seats }
         ensures abreast { OnOk result (AreAbreast self.new) }
@@ -100,7 +100,7 @@ impl<S: Shelf, C: Clock> Serial<S, C> {
             (S.fault_count self.new.store.shelf) result }
     {
         let met = meet(self.alloc, c, self.seats[at].view(), self.store.live())?;
-        match self.commit(at, number, c) {
+        match self.commit(at, c) {
             Ok(touched) => {
                 tell_all(self.seats.as_mut_slice(), &touched)?;
                 let none = Mail::new(self.alloc);
@@ -111,13 +111,14 @@ impl<S: Shelf, C: Clock> Serial<S, C> {
     }
 
     /// Answers a command of the session of this number by the session rules, at the end of the log:
-    /// refused by one line, answered by the disk's failure, or done. What it wrote is an entry of
-    /// the journal, of which all sessions are told. `NoMemory` is the only error; it ends the run:
-    /// where it comes behind a write, the journal has the entry.
+    /// refused by one line, answered by the disk's failure, or done. What it wrote is one group, of
+    /// which all sessions are told. `NoMemory` is the only error; it ends the run: where it comes
+    /// behind a write, the group is counted.
     pub fn serve(&mut self, number: u32, c: &Command) -> Result<List<Reply>, NoMemory>
         requires seat { IsSeat number self.old.seats }
         requires line { IsServable c.now }
         requires abreast { AreAbreast self.old }
+        requires room { self.old.groups + 1 < 2 ^ 64 }
         // It is one line more of the play, with its replies; a crash at any moment leaves the log
         // behind some of the lines, or with the group of one that the disk failed.
         ensures serves { S.tells → C.tells → (clock : ℕ → ℕ) (start : Log) (base : ℕ)
@@ -125,6 +126,7 @@ impl<S: Shelf, C: Clock> Serial<S, C> {
             (S.fault_count self.old.store.shelf) attempts self.old →
             Serves S.files S.may_leave S.moment S.left_since C.upcoming clock start base
             (S.fault_count self.new.store.shelf) attempts (number, c.now) result self.old self.new }
+        ensures groups { self.new.groups ≤ self.old.groups + 1 }
         // There are as many sessions, which keep up with the mailbox.
         ensures seats { length self.new.seats ≡ length self.old.seats }
         ensures abreast { OnOk result (AreAbreast self.new) }
@@ -142,7 +144,7 @@ impl<S: Shelf, C: Clock> Serial<S, C> {
             return one_line(self.alloc, refusal);
         }
         if is_write(c) {
-            self.serve_write(at, number, c)
+            self.serve_write(at, c)
         } else {
             self.serve_read(at, c)
         }

@@ -101,7 +101,7 @@ fn failed(
 }
 
 /// Each call fails once: the first ones, of the opening, end the run; each other costs one command,
-/// and the folder opens to the journal, but perhaps where no write follows.
+/// and the folder opens to what was written, but perhaps where no write follows.
 fn each_fails(
     rt: &impl Abort,
     alloc: Global,
@@ -123,8 +123,8 @@ fn each_fails(
     Ok(())
 }
 
-/// Whether each image of a folder that stops behind so many calls opens to the journal of the run,
-/// or to that with one group more. Each mark has the number of groups before it.
+/// Whether each image of a folder that stops behind so many calls opens to the groups of the run,
+/// or to these with one more. Each mark has the number of groups before it.
 fn stopped(
     alloc: Global,
     start: &Folder,
@@ -164,7 +164,7 @@ fn each_failed_call_costs_one_command(rt: HostRuntime) -> Result<(), Fail> {
 }
 
 #[test]
-fn each_stop_leaves_the_journal_or_one_group_more(rt: HostRuntime) -> Result<(), Fail> {
+fn each_stop_leaves_the_groups_or_one_more(rt: HostRuntime) -> Result<(), Fail> {
     let alloc = rt.alloc();
     let start = folder_of(alloc, &[])?;
     for stop in 0..calls(alloc, &start, EVERY)? {
@@ -199,7 +199,7 @@ fn each_failed_call_of_a_rotation_costs_one_command(rt: HostRuntime) -> Result<(
 }
 
 #[test]
-fn each_stop_of_a_rotation_leaves_the_journal(rt: HostRuntime) -> Result<(), Fail> {
+fn each_stop_of_a_rotation_leaves_the_groups(rt: HostRuntime) -> Result<(), Fail> {
     let alloc = rt.alloc();
     let start = long_folder(alloc)?;
     for stop in 0..calls(alloc, &start, ROTATED)? {

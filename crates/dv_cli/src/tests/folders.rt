@@ -62,6 +62,33 @@ fn a_check_writes_its_group_and_a_snapshot(rt: HostRuntime) -> Result<(), Fail> 
     Ok(())
 }
 
+/// A file, whose mailbox has another number where it is a snapshot: its bytes from 16 on.
+fn renumbered(alloc: Global, name: Name, bytes: &[u8]) -> Result<Bytes, Fail> {
+    let mut copy = Bytes::new(alloc);
+    for (at, byte) in bytes.iter().enumerate() {
+        let is_number = name == Name::Index && at == 16;
+        copy.push(if is_number { 77 } else { *byte })?;
+    }
+    Ok(copy)
+}
+
+#[test]
+fn a_snapshot_of_another_mailbox_counts_as_none(rt: HostRuntime) -> Result<(), Fail> {
+    let alloc = rt.alloc();
+    let mut left = left_by(alloc, ONE_SEEN, b"a SELECT\na CHECK\n")?;
+    let files = files_of(alloc, &mut left.shelf)?;
+    let mut folder = List::new(alloc);
+    for (name, bytes) in files.as_slice() {
+        folder.push((*name, renumbered(alloc, *name, bytes.as_slice())?))?;
+    }
+    let again = play(alloc, &folder, &[], given(b"c SELECT\n"))?;
+    let wanted = "c * 1 EXISTS\nc * OK [UIDVALIDITY 1000]\nc * OK [UIDNEXT 2]\n\
+        c * 1 FETCH (UID 1 FLAGS (\\Seen))\nc OK [MARK 1:160] SELECT\n\
+        END 0 MARK 1:160 GROUPS 0\n";
+    ends(&rt, &again, 0, wanted);
+    Ok(())
+}
+
 /// The log of one message with `\Seen`, cut to so many bytes.
 fn cut_log(alloc: Global, size: usize) -> Result<Folder, Fail> {
     let mut log = Bytes::new(alloc);

@@ -1,4 +1,4 @@
-use Rattle.std.proofs.Common.{Ok, Err}
+use Rattle.std.proofs.Common.{Ok, Err, arith}
 use Rattle.dv_chain.specs.declared.chain.Chain.{Chain}
 use Rattle.dv_cli.proofs.Created.{outside_none}
 use Rattle.dv_cli.proofs.Created.{begun_made, has_none, unopened_made}
@@ -22,7 +22,7 @@ returns-in-Err-clause-begins g c = λ tells timed settled new.
     let done = c.in-Err.ensures in
     let none = has_none (S.files c.args.shelf) new in
     unopened_made S.files S.may_leave S.moment S.left_since C.upcoming (C.upcoming c.args.clock) c.args.shelf new c.in-Err.e done.err (done.files tells timed) (done.quiet tells timed none settled)
-    (λ t f le left. g.met.S.Shelf.counts_now c.in-Err.e.0 t f le left)
+    (λ t f le left. g.met.S.Shelf.counts_now c.in-Err.e.0 t f le left) (omega (arith, g.met.C.Clock.readings_small c.args.clock 0 timed))
 
 pub returns-in-Ok-clause-clock : goal.returns-in-Ok-clause-clock
 returns-in-Ok-clause-clock g c = λ timed.

@@ -1,5 +1,4 @@
 use Rattle.std.proofs.Common.{◌*◌, length, refl}
-use Rattle.dv_script.specs.Sources.{all_named}
 use Rattle.dv_chain.specs.declared.chain.Chain.{Chain}
 use Rattle.dv_cli.proofs.FoundTold.{served_told}
 use Rattle.dv_cli.proofs.Folders.{end_later, unopened_cause}
@@ -16,7 +15,7 @@ returns-in-Ok-clause-runs g c = λ tells timed settled is_true.
     let O = g.O.Sink in
     let served = c.serve_lines.ensures in
     let behind = c.serve_lines.result in
-    runs_serving S.files S.may_leave S.moment S.left_since (C.upcoming c.args.clock) (C.upcoming behind.clock) (S.fault_count c.args.shelf) (S.fault_count behind.shelf) c.args.load (all_named c.args.lines.now) behind.journal
+    runs_serving S.files S.may_leave S.moment S.left_since (C.upcoming c.args.clock) (C.upcoming behind.clock) (S.fault_count c.args.shelf) (S.fault_count behind.shelf) c.args.load (g.L.Lines.left c.args.lines.now)
     O.tells (O.taken c.args.out.now) (O.taken c.serve_lines.new.out) c.args.shelf behind.shelf behind.end served.ends
     (served.runs tells timed (C.upcoming c.args.clock) c.args.shelf (c.in-Ok.ensures.begins tells timed settled is_true) (S.fault_count c.args.shelf) c.in-Ok.ensures.cause.later)
 
@@ -35,13 +34,13 @@ returns-in-Ok-clause-readings g c = λ timed.
     let old = C.upcoming c.args.clock in
     let mid = C.upcoming c.in-Ok.store.clock in
     let new = C.upcoming behind.clock in
-    run_takes (length c.args.lines.now) old new behind.end c.serve_lines.ensures.ends
-    (takes_both 1 (2 * length c.args.lines.now) old mid new (c.in-Ok.ensures.clock timed) (c.serve_lines.ensures.readings timed))
+    run_takes (length (g.L.Lines.left c.args.lines.now)) old new behind.end c.serve_lines.ensures.ends
+    (takes_both 1 (2 * length (g.L.Lines.left c.args.lines.now)) old mid new (c.in-Ok.ensures.clock timed) (c.serve_lines.ensures.readings timed))
 
 -- ---- the folder isn't opened
 
 pub returns-in-Err-clause-runs : goal.returns-in-Err-clause-runs
-returns-in-Err-clause-runs g c = λ tells timed settled is_true. (c.new.ensures, λ told. refl, c.in-Err.ensures.begins tells timed settled is_true)
+returns-in-Err-clause-runs g c = λ tells timed settled is_true. (λ told. refl, c.in-Err.ensures.begins tells timed settled is_true)
 
 pub returns-in-Err-clause-cause : goal.returns-in-Err-clause-cause
 returns-in-Err-clause-cause g c =

@@ -1,4 +1,4 @@
-use Rattle.std.proofs.Common.{◌≡◌, ◌∙◌, ap, sym, subst, refl, List, map}
+use Rattle.std.proofs.Common.{◌≡◌, ◌∙◌, inr, ap, sym, subst, refl, List, map}
 use Rattle.std.specs.Prelude.{Option, Some, string_bytes}
 use Rattle.dv_formats.specs.Parsing.{parsed}
 use Rattle.dv_formats.specs.Scripts.{NamedLine}
@@ -8,7 +8,7 @@ use Rattle.dv_cli.specs.Tasks.{EndsBy, generated_by}
 use Rattle.dv_cli.specs.Wholes.{RunsTask}
 use Rattle.dv_cli.specs.Words.{task_of}
 use Rattle.dv_cli.proofs.Tasked.{seen}
-use Rattle.dv_cli.proofs.Untold.{untold}
+use Rattle.dv_cli.proofs.Untold.{ran}
 use Rattle.dv_cli.proofs.top_call.perform.Goals as goal
 
 -- a script is run
@@ -22,8 +22,8 @@ returns-in-Run-clause-runs g c = λ tells timed settled is_true lines answers.
     let run : t ≡ Some task.Run = sym c.task_of.ensures.is ∙ c.in-Some.is ∙ ap Some c.in-Run.is in
     let has = seen t g.I.Source.tells (parsed (g.I.Source.left c.args.script.now)) lines (Some task.Run) run answers in
     subst (λ (x : Option Task). RunsTask S.files S.may_leave S.moment S.left_since (C.upcoming c.args.clock) (C.upcoming o.clock) (S.fault_count c.args.shelf) (S.fault_count o.shelf)
-    x lines o.end o.journal O.tells (O.taken c.args.out.now) (O.taken c.run_script.new.out) c.args.shelf o.shelf) (sym run)
-    (record { runs = c.run_script.ensures.runs tells timed has.0 settled is_true lines has.1; silent = λ none. absurd (none tt) })
+    x lines o.end O.tells (O.taken c.args.out.now) (O.taken c.run_script.new.out) c.args.shelf o.shelf) (sym run)
+    (record { runs = c.run_script.ensures.runs tells timed has.0 settled is_true lines has.1; loads = λ none. absurd (none tt); silent = λ none. absurd (none tt) })
 
 -- the folder is rebuilt
 pub returns-in-Rebuild-clause-cause : goal.returns-in-Rebuild-clause-cause
@@ -46,13 +46,11 @@ returns-in-Generate-clause-runs g c = λ tells timed settled is_true lines answe
     let load = c.in-Generate.load in
     let is : t ≡ Some (task.Generate load) = sym c.task_of.ensures.is ∙ c.in-Some.is ∙ ap Some c.in-Generate.is in
     let same : lines ≡ generated_by load = seen t g.I.Source.tells (parsed (g.I.Source.left c.args.script.now)) lines (Some (task.Generate load)) is answers in
+    let run =
+    ran S.files S.may_leave S.moment S.left_since (C.upcoming c.args.clock) (C.upcoming o.clock) (S.fault_count c.args.shelf) (S.fault_count o.shelf) (Some load) (generated_by load) c.args.shelf o.shelf
+    Rattle.std.proofs.Common.[] Rattle.std.proofs.Common.[] taken taken o.end (c.run_load.ensures.runs tells timed settled is_true) in
     subst (λ (x : Option Task). RunsTask S.files S.may_leave S.moment S.left_since (C.upcoming c.args.clock) (C.upcoming o.clock) (S.fault_count c.args.shelf) (S.fault_count o.shelf)
-    x lines o.end o.journal O.tells taken taken c.args.shelf o.shelf) (sym is)
+    x lines o.end O.tells taken taken c.args.shelf o.shelf) (sym is)
     (subst (λ (ls : List NamedLine). RunsTask S.files S.may_leave S.moment S.left_since (C.upcoming c.args.clock) (C.upcoming o.clock) (S.fault_count c.args.shelf) (S.fault_count o.shelf)
-    (Some (task.Generate load)) ls o.end o.journal O.tells taken taken c.args.shelf o.shelf) (sym same)
-    (record {
-      runs =
-          untold S.files S.may_leave S.moment S.left_since (C.upcoming c.args.clock) (C.upcoming o.clock) (S.fault_count c.args.shelf) (S.fault_count o.shelf) (Some load) (generated_by load)
-          o.journal c.args.shelf o.shelf Rattle.std.proofs.Common.[] Rattle.std.proofs.Common.[] taken taken o.end refl (c.run_load.ensures.runs tells timed settled is_true);
-      silent = λ none. refl;
-    }))
+    (Some (task.Generate load)) ls o.end O.tells taken taken c.args.shelf o.shelf) (sym same)
+    (record { runs = inr run; loads = λ none. run; silent = λ none. refl }))

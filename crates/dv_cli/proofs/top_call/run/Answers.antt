@@ -167,7 +167,7 @@ module _ (g : given.Over) (c : goal.After-conclude-status g) (out_tells : g.O.Si
       let S = g.S.Shelf in
       let runs = c.perform-end.ensures.runs tells clock_tells settled true_folder lines answers in
       lines_output S.files S.may_leave S.moment S.left_since (g.C.Clock.upcoming c.args.clock) (g.C.Clock.upcoming c.perform-end.result.clock)
-      (S.fault_count c.args.shelf) (S.fault_count c.perform-end.result.shelf) (t g c) lines c.perform-end.result.journal g.O.Sink.tells old mid new
+      (S.fault_count c.args.shelf) (S.fault_count c.perform-end.result.shelf) (t g c) lines g.O.Sink.tells old mid new
       c.args.shelf c.perform-end.result.shelf (λ rose. still (inl rose)) out_tells opens runs.silent
       e status (before g c) (now g c) (well g c lines answers) still not-four not-seven last runs.runs
 
@@ -199,7 +199,7 @@ returns-clause-output g c = λ tells clock_tells script_tells out_tells settled 
     (not-seven g c out_tells not-four still) still (only g c out_tells not-four still refused.2)))
     (λ is.
     let rebuilds = c.perform-end.ensures.rebuilds is tells clock_tells settled in
-    rebuilt_output S.files S.may_leave S.moment S.left_since clock (g.C.Clock.upcoming c.perform-end.result.clock) c.perform-end.result.end c.perform-end.result.journal
+    rebuilt_output S.files S.may_leave S.moment S.left_since clock (g.C.Clock.upcoming c.perform-end.result.clock) c.perform-end.result.end
     c.args.shelf c.perform-end.result.shelf c.conclude-status.result (before g c) (now g c) old new rebuilds.1 (comes g c) still not-four (not-seven g c out_tells not-four still)
     (only g c out_tells not-four still rebuilds.0))
     (λ load is.

@@ -1,11 +1,12 @@
-use Rattle.std.proofs.Common.{◌≡◌, ◌∙◌, ap, sym, subst, refl, inl, inr, List, ℕ, length, arith}
+use Rattle.std.proofs.Common.{◌≡◌, ◌∙◌, ap, sym, subst, refl, inl, inr, List, length, arith}
+use Rattle.std.specs.Prelude.{None, Some}
 use Rattle.dv_formats.specs.Parsing.{parsed}
 use Rattle.dv_formats.specs.Scripts.{NamedLine}
-use Rattle.dv_script.specs.Sources.{all_named, named}
-use Rattle.std.specs.Prelude.{None, Some}
-use Rattle.std.proofs.lemmas.List.{length-map}
 use Rattle.dv_serial.specs.Serves.{TakesUpTo}
+use Rattle.dv_script.specs.Opened.{lines_left}
+use Rattle.dv_script.specs.Sources.{ScriptFails}
 use Rattle.dv_cli.specs.Causes.{most_readings}
+use Rattle.dv_cli.specs.declared.ending.End.TheVariants as end
 use Rattle.dv_cli.specs.declared.words.Task.TheVariants as task
 use Rattle.dv_cli.specs.Runs.{RunsOver}
 use Rattle.dv_cli.proofs.Parsed.{same_lines}
@@ -15,69 +16,76 @@ use Rattle.dv_cli.proofs.top_call.run_script.Goals as goal
 
 -- ---- lines that are served
 
-pub returns-in-Ok-clause-runs : goal.returns-in-Ok-clause-runs
-returns-in-Ok-clause-runs g c = λ tells clock_tells script_tells settled true_folder lines is.
+pub run_folder-requires-clause-servable : goal.run_folder-requires-clause-servable
+run_folder-requires-clause-servable g c = c.commands_are_servable.ensures (lines_left c.in-Ok-open_script.opened.lines) c.as_slice.result.now c.in-Ok-open_script.ensures.found
+
+pub run_folder-requires-clause-few : goal.run_folder-requires-clause-few
+run_folder-requires-clause-few g c = omega (arith, c.in-Ok-open_script.ensures.few, c.in-Ok-open_script.ensures.found.size)
+
+pub returns-in-Ok-open_script-clause-runs : goal.returns-in-Ok-open_script-clause-runs
+returns-in-Ok-open_script-clause-runs g c = λ tells clock_tells script_tells settled true_folder lines is.
     let S = g.S.Shelf in
     let C = g.C.Clock in
     let O = g.O.Sink in
     let o = c.run_folder.result in
-    let same : all_named c.as_slice.result.now ≡ lines =
-    ap all_named c.as_slice.ensures ∙ same_lines (parsed (g.I.Source.left c.args.script.now)) _ lines (c.in-Ok.ensures.lines script_tells) is in
+    let read = parsed (g.I.Source.left c.args.script.now) in
+    let says = sym (c.in-Ok.ensures.text script_tells) ∙ sym (ap parsed c.as_slice.ensures) ∙ c.in-Ok-open_script.ensures.lines in
     inr (subst (λ (ls : List NamedLine). RunsOver S.files S.may_leave S.moment S.left_since
-    (C.upcoming c.args.clock) (C.upcoming o.clock) (S.fault_count c.args.shelf) (S.fault_count o.shelf) None ls o.end o.journal O.tells (O.taken c.args.out.now)
-    (O.taken c.run_folder.new.out) c.args.shelf o.shelf) same (c.run_folder.ensures.runs tells clock_tells settled true_folder))
+    (C.upcoming c.args.clock) (C.upcoming o.clock) (S.fault_count c.args.shelf) (S.fault_count o.shelf) None ls o.end O.tells (O.taken c.args.out.now)
+    (O.taken c.run_folder.new.out) c.args.shelf o.shelf) (same_lines read _ lines says is) (c.run_folder.ensures.runs tells clock_tells settled true_folder))
 
-pub returns-in-Ok-clause-refused : goal.returns-in-Ok-clause-refused
-returns-in-Ok-clause-refused g c = λ script_tells fault bad.
-    absurd (not_refused (parsed (g.I.Source.left c.args.script.now)) _ fault (c.in-Ok.ensures.lines script_tells) bad)
+pub returns-in-Ok-open_script-clause-refused : goal.returns-in-Ok-open_script-clause-refused
+returns-in-Ok-open_script-clause-refused g c = λ script_tells fault bad.
+    let says = sym (c.in-Ok.ensures.text script_tells) ∙ sym (ap parsed c.as_slice.ensures) ∙ c.in-Ok-open_script.ensures.lines in
+    absurd (not_refused (parsed (g.I.Source.left c.args.script.now)) _ fault says bad)
 
-pub returns-in-Ok-clause-script : goal.returns-in-Ok-clause-script
-returns-in-Ok-clause-script g c = λ script_tells.
-    folder_script _ _ _ _ (parsed (g.I.Source.left c.args.script.now)) _ c.run_folder.result.end c.run_folder.ensures.cause.cause (c.in-Ok.ensures.lines script_tells)
+pub returns-in-Ok-open_script-clause-script : goal.returns-in-Ok-open_script-clause-script
+returns-in-Ok-open_script-clause-script g c = λ script_tells.
+    let says = sym (c.in-Ok.ensures.text script_tells) ∙ sym (ap parsed c.as_slice.ensures) ∙ c.in-Ok-open_script.ensures.lines in
+    folder_script _ _ _ _ (parsed (g.I.Source.left c.args.script.now)) _ c.run_folder.result.end c.run_folder.ensures.cause.cause says
 
-pub returns-in-Ok-clause-cause : goal.returns-in-Ok-clause-cause
-returns-in-Ok-clause-cause g c =
+pub returns-in-Ok-open_script-clause-cause : goal.returns-in-Ok-open_script-clause-cause
+returns-in-Ok-open_script-clause-cause g c =
     let later = c.run_folder.ensures.cause.later in
     record {
       later = (later.0, c.in-Ok.ensures.later, later.1);
       cause = folder_comes _ _ _ _ _ _ c.run_folder.result.end c.run_folder.ensures.cause.cause;
     }
 
-pub returns-in-Ok-clause-ends : goal.returns-in-Ok-clause-ends
-returns-in-Ok-clause-ends g c =
+pub returns-in-Ok-open_script-clause-ends : goal.returns-in-Ok-open_script-clause-ends
+returns-in-Ok-open_script-clause-ends g c =
     folder_ends (Some task.Run) _ _ _ _ c.run_folder.result.end tt refl (λ rose. refl) c.run_folder.ensures.cause.cause
 
-pub returns-in-Ok-clause-readings : goal.returns-in-Ok-clause-readings
-returns-in-Ok-clause-readings g c = λ clock_tells script_tells lines is.
+pub returns-in-Ok-open_script-clause-readings : goal.returns-in-Ok-open_script-clause-readings
+returns-in-Ok-open_script-clause-readings g c = λ clock_tells script_tells lines is.
     let C = g.C.Clock in
-    let same : all_named c.as_slice.result.now ≡ lines =
-    ap all_named c.as_slice.ensures ∙ same_lines (parsed (g.I.Source.left c.args.script.now)) _ lines (c.in-Ok.ensures.lines script_tells) is in
-    let many : length c.as_slice.result.now ≡ length lines =
-    sym (length-map c.as_slice.result.now named) ∙ ap (λ (ls : List NamedLine). length ls) same in
-    subst (λ (n : ℕ). TakesUpTo (most_readings n) (C.upcoming c.args.clock) (C.upcoming c.run_folder.result.clock)) many
-    (run_takes (length c.as_slice.result.now) (C.upcoming c.args.clock) (C.upcoming c.run_folder.result.clock) c.run_folder.result.end (c.run_folder.ensures.readings clock_tells))
+    let all = lines_left c.in-Ok-open_script.opened.lines in
+    let says = sym (c.in-Ok.ensures.text script_tells) ∙ sym (ap parsed c.as_slice.ensures) ∙ c.in-Ok-open_script.ensures.lines in
+    let same : all ≡ lines = same_lines (parsed (g.I.Source.left c.args.script.now)) all lines says is in
+    subst (λ (ls : List NamedLine). TakesUpTo (most_readings (length ls)) (C.upcoming c.args.clock) (C.upcoming c.run_folder.result.clock)) same
+    (run_takes (length all) (C.upcoming c.args.clock) (C.upcoming c.run_folder.result.clock) c.run_folder.result.end (c.run_folder.ensures.readings clock_tells))
 
-pub returns-in-Ok-clause-unread : goal.returns-in-Ok-clause-unread
-returns-in-Ok-clause-unread g c = λ clock_tells.
+pub returns-in-Ok-open_script-clause-unread : goal.returns-in-Ok-open_script-clause-unread
+returns-in-Ok-open_script-clause-unread g c = λ clock_tells.
     folder_takes _ _ _ _ _ _ _ c.run_folder.result.end c.run_folder.ensures.cause.cause (c.run_folder.ensures.readings clock_tells)
 
--- ---- a script that isn't served
+-- ---- a text that isn't read
 
 pub returns-in-Err-clause-runs : goal.returns-in-Err-clause-runs
 returns-in-Err-clause-runs g c = λ tells clock_tells script_tells settled true_folder lines is.
-    let good = reads_well (parsed (g.I.Source.left c.args.script.now)) lines c.in-Err.end (c.in-Err.ensures.lines script_tells) is in
-    inl (rw c.untouched.ensures.end good, c.untouched.ensures.journal, refl, c.untouched.ensures.shelf)
+    let good = reads_well (parsed (g.I.Source.left c.args.script.now)) lines c.in-Err.end (c.in-Err.ensures.unread (parsed (g.I.Source.left c.args.script.now))) is in
+    inl (rw c.untouched.ensures.end good, refl, c.untouched.ensures.shelf)
 
 pub returns-in-Err-clause-refused : goal.returns-in-Err-clause-refused
 returns-in-Err-clause-refused g c = λ script_tells fault bad. (
-  record { shelf = c.untouched.ensures.shelf; clock = c.untouched.ensures.clock; journal = c.untouched.ensures.journal },
-  rw c.untouched.ensures.end (reads_refused (parsed (g.I.Source.left c.args.script.now)) fault c.in-Err.end (c.in-Err.ensures.lines script_tells) bad),
+  record { shelf = c.untouched.ensures.shelf; clock = c.untouched.ensures.clock },
+  rw c.untouched.ensures.end (reads_refused (parsed (g.I.Source.left c.args.script.now)) fault c.in-Err.end (c.in-Err.ensures.unread (parsed (g.I.Source.left c.args.script.now))) bad),
   refl,
 )
 
 pub returns-in-Err-clause-script : goal.returns-in-Err-clause-script
 returns-in-Err-clause-script g c = λ script_tells.
-    rw c.untouched.ensures.end (read_script (parsed (g.I.Source.left c.args.script.now)) c.in-Err.end (c.in-Err.ensures.lines script_tells))
+    rw c.untouched.ensures.end (read_script (parsed (g.I.Source.left c.args.script.now)) c.in-Err.end (c.in-Err.ensures.unread (parsed (g.I.Source.left c.args.script.now))))
 
 pub returns-in-Err-clause-found : goal.returns-in-Err-clause-found
 returns-in-Err-clause-found g c = λ tells.
@@ -100,3 +108,47 @@ returns-in-Err-clause-readings g c = λ clock_tells script_tells lines is.
 pub returns-in-Err-clause-unread : goal.returns-in-Err-clause-unread
 returns-in-Err-clause-unread g c = λ clock_tells.
     rw c.untouched.ensures.end (read_takes_none _ _ _ _ c.in-Err.end c.in-Err.ensures.cause (ap g.C.Clock.upcoming c.untouched.ensures.clock))
+
+-- ---- a script that is refused
+
+pub returns-clause-runs : goal.returns-clause-runs
+returns-clause-runs g c = λ tells clock_tells script_tells settled true_folder lines is.
+    let read = parsed (g.I.Source.left c.args.script.now) in
+    let fails = subst (ScriptFails c.in-Err-open_script.end) (ap parsed c.as_slice.ensures ∙ c.in-Ok.ensures.text script_tells) c.in-Err-open_script.ensures.lines in
+    inl (rw c.untouched-in-Err-open_script.ensures.end (reads_well read lines (end.Script c.in-Err-open_script.end) fails is), refl, c.untouched-in-Err-open_script.ensures.shelf)
+
+pub returns-clause-refused : goal.returns-clause-refused
+returns-clause-refused g c = λ script_tells fault bad.
+    let read = parsed (g.I.Source.left c.args.script.now) in
+    let fails = subst (ScriptFails c.in-Err-open_script.end) (ap parsed c.as_slice.ensures ∙ c.in-Ok.ensures.text script_tells) c.in-Err-open_script.ensures.lines in (
+      record { shelf = c.untouched-in-Err-open_script.ensures.shelf; clock = c.untouched-in-Err-open_script.ensures.clock },
+      rw c.untouched-in-Err-open_script.ensures.end (reads_refused read fault (end.Script c.in-Err-open_script.end) fails bad),
+      refl,
+    )
+
+pub returns-clause-script : goal.returns-clause-script
+returns-clause-script g c = λ script_tells.
+    let read = parsed (g.I.Source.left c.args.script.now) in
+    let fails = subst (ScriptFails c.in-Err-open_script.end) (ap parsed c.as_slice.ensures ∙ c.in-Ok.ensures.text script_tells) c.in-Err-open_script.ensures.lines in
+    rw c.untouched-in-Err-open_script.ensures.end fails
+
+pub returns-clause-found : goal.returns-clause-found
+returns-clause-found g c = λ tells. rw c.untouched-in-Err-open_script.ensures.end tt
+
+pub returns-clause-cause : goal.returns-clause-cause
+returns-clause-cause g c =
+    rw (c.untouched-in-Err-open_script.ensures.end, c.untouched-in-Err-open_script.ensures.shelf) (record {
+      later = (omega arith, c.in-Ok.ensures.later, omega arith);
+      cause = tt;
+    })
+
+pub returns-clause-ends : goal.returns-clause-ends
+returns-clause-ends g c = rw c.untouched-in-Err-open_script.ensures.end refl
+
+pub returns-clause-readings : goal.returns-clause-readings
+returns-clause-readings g c = λ clock_tells script_tells lines is.
+    takes_none _ _ _ (ap g.C.Clock.upcoming c.untouched-in-Err-open_script.ensures.clock)
+
+pub returns-clause-unread : goal.returns-clause-unread
+returns-clause-unread g c = λ clock_tells.
+    rw c.untouched-in-Err-open_script.ensures.end (ap g.C.Clock.upcoming c.untouched-in-Err-open_script.ensures.clock)

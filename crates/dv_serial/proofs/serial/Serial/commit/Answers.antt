@@ -1,39 +1,26 @@
-use Rattle.std.proofs.Common.{ℕ, List, [], ◌∷◌, ◌++◌, Err, Ok, refl, ◌∙◌, ap, arith}
+use Rattle.std.proofs.Common.{◌+◌, ℕ, List, Err, Ok, refl, ◌∙◌, ap}
 use Rattle.std.proofs.lemmas.List.{get_or_read}
 use Rattle.std.proofs.lemmas.Result.{err_from_is_err_and}
-use Rattle.dv_model.specs.declared.types.Entry.{Entry}
 use Rattle.dv_answer.specs.Following.{Follower, new_follower}
 use Rattle.dv_serial.specs.Places.{play_of}
-use Rattle.dv_serial.proofs.Answered.{fails, not_both, pushed, unready, writes_entry, writes_none}
+use Rattle.dv_serial.proofs.Answered.{fails, not_both, writes_entry, writes_none}
 use Rattle.dv_serial.proofs.Untouched.{error_others}
 use Rattle.dv_serial.proofs.Led.{few_taken, receipt_leads}
 use Rattle.dv_serial.proofs.serial.Serial.commit.Goals.{then-not-is_empty, else-not-is_empty}
 use Rattle.dv_serial.proofs.serial.Serial.commit.Goals as goal
 
-pub returns-in_err-reserve-clause-commits : goal.returns-in_err-reserve-clause-commits
-returns-in_err-reserve-clause-commits g c =
+pub returns-in_err-receipt-clause-commits : goal.returns-in_err-receipt-clause-commits
+returns-in_err-receipt-clause-commits g c =
     let p = err_from_is_err_and c.from_residual.result c.from_residual.ensures.1 in
     let less = rw (← c.self.view_is) at c.requires.at in
     let own = rw (← c.self.view_is) at c.requires.allowed in
-    rw (← c.self.view_is, p.1, p.2) (λ tells reads clock start base attempts follows number_is.
-    let S = g.S.Shelf in (
-      unready S.files S.may_leave S.moment S.left_since g.C.Clock.upcoming clock start base _ attempts _ follows c.args.at c.args.number c.args.c.now number_is less (omega (arith, c.ranges.number.fits)) c.requires.line c.requires.write own
-          c.reserve.new.self.items c.reserve.ensures.items (λ f left. g.met.S.Shelf.only_now c.self.inside.store.shelf f tells left),
-      refl,
-    ))
-
-pub returns-in_err-receipt-clause-commits : goal.returns-in_err-receipt-clause-commits
-returns-in_err-receipt-clause-commits g c =
-    let p = err_from_is_err_and c.from_residual-in_err-receipt.result c.from_residual-in_err-receipt.ensures.1 in
-    let less = rw (← c.self.view_is) at c.requires.at in
-    let own = rw (← c.self.view_is) at c.requires.allowed in
     let seen = c.view.ensures ∙ ap (λ (f : Follower). f.state.view) (get_or_read c.self.inside.seats.items c.args.at _ less c.index.ensures new_follower) in
-    rw (← c.self.view_is, p.1, p.2) (λ tells reads clock start base attempts follows number_is.
+    rw (← c.self.view_is, p.1, p.2) (λ tells reads clock start base attempts small follows.
     let S = g.S.Shelf in
     let did = c.in_err-receipt.ensures in
-    let quiet = did.gives tells reads (play_of clock start attempts).log follows.keeps.debt c.args.number follows.keeps.rests in (
-      fails S.files S.may_leave S.moment S.left_since g.C.Clock.upcoming clock start base _ attempts _ follows c.args.at c.args.number c.args.c.now number_is less (omega (arith, c.ranges.number.fits)) c.requires.line c.requires.write own
-          c.view.result.now seen c.commit_command.new.self c.in_err-receipt.field-0.0 did.value did.idle (did.looks tells) (did.gives tells reads) (did.clock reads) c.reserve.new.self.items c.reserve.ensures.items,
+    let quiet = did.gives tells reads (play_of clock start attempts).log follows.keeps.debt (c.args.at + 1) follows.keeps.rests in (
+      fails S.files S.may_leave S.moment S.left_since g.C.Clock.upcoming clock start base _ attempts _ follows c.args.at (c.args.at + 1) c.args.c.now refl less small c.requires.line c.requires.write own
+          c.view.result.now seen c.commit_command.new.self c.in_err-receipt.field-0.0 did.value did.idle (did.looks tells) (did.gives tells reads) (did.clock reads),
       error_others (List ℕ) c.in_err-receipt.field-0.0 c.args.c.now c.self.inside.store.chain.live.mailbox (S.files c.self.inside.store.shelf) (S.files c.commit_command.new.self.shelf) quiet.others (λ none. (did.looks tells none).same),
     ))
 
@@ -53,21 +40,19 @@ returns-clause-commits g c =
     let receipt = c.in_ok-receipt.receipt in
     let new = c.commit_command.new.self in
     let leads = receipt_leads c.args.c.now c.view.result.now c.self.inside.store.owed c.self.inside.store.chain new.chain receipt valid now_valid did.value.ok in
-    rw (← c.self.view_is) (λ tells reads clock start base attempts follows number_is.
+    rw (← c.self.view_is) (λ tells reads clock start base attempts small follows.
     let S = g.S.Shelf in
     let upcoming = g.C.Clock.upcoming in
-    let quiet = did.gives tells reads (play_of clock start attempts).log follows.keeps.debt c.args.number follows.keeps.rests in
+    let quiet = did.gives tells reads (play_of clock start attempts).log follows.keeps.debt (c.args.at + 1) follows.keeps.rests in
     elim c.if-not-is_empty.branch [
-      | then-not-is_empty w ↦ rw w.self-is (
-          let room = w.push.ensures.succeeds (omega (arith, c.in_ok-reserve.ensures.ok)) in (
-            writes_entry S.files S.may_leave S.moment S.left_since upcoming clock start base _ attempts _ follows c.args.at c.args.number c.args.c.now number_is less (omega (arith, c.ranges.number.fits)) c.requires.line c.requires.write own
-                c.view.result.now seen new receipt did.value (did.gives tells reads) (did.clock reads) leads (λ none. not_both c.is_empty.result (c.is_empty.ensures.1 none) w.if-not-is_empty.true) w.push.new.self.items
-                (pushed w.push.result c.reserve.new.self.items w.push.new.self.items _ w.push.ensures.items room ∙ ap (λ (es : List Entry). es ++ record { author = c.args.number; group = receipt.group } ∷ []) c.reserve.ensures.items),
-            quiet.others,
-          ))
+      | then-not-is_empty w ↦ rw w.self-is ((
+        writes_entry S.files S.may_leave S.moment S.left_since upcoming clock start base _ attempts _ follows c.args.at (c.args.at + 1) c.args.c.now refl less small c.requires.line c.requires.write own
+            c.view.result.now seen new receipt did.value (did.gives tells reads) (did.clock reads) leads (λ none. not_both c.is_empty.result (c.is_empty.ensures.1 none) w.if-not-is_empty.true) (c.self.inside.groups + 1) refl,
+        quiet.others,
+      ))
       | else-not-is_empty w ↦ rw w.self-is ((
-        writes_none S.files S.may_leave S.moment S.left_since upcoming clock start base _ attempts _ follows c.args.at c.args.number c.args.c.now number_is less (omega (arith, c.ranges.number.fits)) c.requires.line c.requires.write own
-            c.view.result.now seen new receipt did.value (did.gives tells reads) (did.clock reads) leads (c.is_empty.ensures.0 w.if-not-is_empty.false) (did.looks tells) c.reserve.new.self.items c.reserve.ensures.items,
+        writes_none S.files S.may_leave S.moment S.left_since upcoming clock start base _ attempts _ follows c.args.at (c.args.at + 1) c.args.c.now refl less small c.requires.line c.requires.write own
+            c.view.result.now seen new receipt did.value (did.gives tells reads) (did.clock reads) leads (c.is_empty.ensures.0 w.if-not-is_empty.false) (did.looks tells),
         quiet.others,
       ))
     ])

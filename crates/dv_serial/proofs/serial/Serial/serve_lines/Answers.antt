@@ -1,100 +1,183 @@
 -- Each line is one step more of the run.
-use Rattle.std.proofs.Common.{◌*◌, [], length, refl, sym, subst, ◌∙◌, ap, arith}
-use Rattle.std.proofs.lemmas.List.{length-map, length_push}
-use Rattle.std.specs.Iterator.Adapters.{zip_first, zip_second}
-use Rattle.std.specs.Slice.Iter.{iter_rest}
-use Rattle.std.specs.declared.iter.Zip.{Zip}
-use Rattle.std.specs.declared.slice.Iter.{Iter}
-use Rattle.std.proofs.lemmas.Slice.Zip.{zip_end, zip_turn}
-use Rattle.dv_formats.specs.Scripts.{sessions_of}
+use Rattle.std.proofs.Common.{◌≡◌, ℕ, ◌*◌, List, [], ◌∷◌, Option, Some, None, length, take, refl, sym, subst, ◌∙◌, ap, arith}
+use Rattle.std.specs.Prelude.{All}
+use Rattle.std.proofs.lemmas.List.Elements.{All-head, All-tail}
+use Rattle.dv_formats.specs.Scripts.{NamedLine}
+use Rattle.dv_script.specs.Sources.{IsNext, named}
 use Rattle.dv_script.specs.declared.types.Line.{Line}
-use Rattle.dv_script.specs.Sources.{all_named, named}
-use Rattle.dv_serial.specs.declared.numbers.Turn.{Turn}
+use Rattle.dv_serial.specs.declared.numbers.Seen.{Seen}
 use Rattle.dv_serial.proofs.Crashing.{stays_may}
+use Rattle.dv_serial.specs.declared.lines.LineEnd.TheVariants as line_end
+use Rattle.dv_serial.specs.Numbering.{AreSeen}
 use Rattle.dv_serial.specs.Runs.{Runs}
-use Rattle.dv_serial.proofs.Running.{RunsTo, goes_on, of_error, stops, takes_more, takes_none, to_done, to_none}
-use Rattle.dv_serial.proofs.Turns.{next_line, next_seat, turns_length}
+use Rattle.dv_serial.specs.Serves.{IsServable, TakesUpTo}
+use Rattle.dv_serial.proofs.Running.{RunsTo, goes_on, of_error, stops, takes_more, takes_none, to_done, to_none, to_unbegun}
+use Rattle.dv_serial.proofs.Turns.{all_left, few_given, first_given, given, next_seat, one_given, seen_given, some_left, turn_given}
 use Rattle.dv_serial.proofs.serial.Serial.serve_lines.Goals as goal
 
-pub loop-line-init : goal.loop-line-init
-loop-line-init g c =
+is_next : (old new : List NamedLine) (o : Option Line) (line : Line) → o ≡ Some line → IsNext old o new → old ≡ named line ∷ new
+is_next old new o line is next = subst (λ (x : Option Line). IsNext old x new) is next
+
+is_none : (old new : List NamedLine) (o : Option Line) → o ≡ None → IsNext old o new → old ≡ []
+is_none old new o is next = (subst (λ (x : Option Line). IsNext old x new) is next).0
+
+pub loop-seen-init : goal.loop-seen-init
+loop-seen-init g c =
     let S = g.S.Shelf in
     let serving = c.args.self.now in
+    let all = g.L.Lines.left c.args.lines.now in
+    let none = all_left all in
     record {
+      left = none.1;
+      servable = c.requires.servable;
+      seen = subst (λ (items : List Seen). AreSeen (take (given all all) all) items) (sym c.new-seen.ensures.items) (subst (λ (n : ℕ). AreSeen (take n all) []) (sym none.0) (record { names = refl; commands = λ name. refl }));
       abreast = c.requires.abreast;
+      groups = omega arith;
       seats = refl;
       later = (omega arith, omega arith);
-      readings = λ clocks. takes_none (g.C.Clock.upcoming serving.store.clock);
+      readings = λ clocks. subst (λ (n : ℕ). TakesUpTo (2 * n) (g.C.Clock.upcoming serving.store.clock) (g.C.Clock.upcoming serving.store.clock)) (sym none.0) (takes_none (g.C.Clock.upcoming serving.store.clock));
       runs = λ tells clocks clock start base follows.
-          to_none S.files S.may_leave S.moment S.left_since g.C.Clock.upcoming clock start base (all_named c.args.lines.now) g.O.Sink.tells (g.O.Sink.taken c.args.out.now) serving
+          subst (λ (n : ℕ). RunsTo S.files S.may_leave S.moment S.left_since g.C.Clock.upcoming clock start base all g.O.Sink.tells (g.O.Sink.taken c.args.out.now) serving
+          (S.fault_count serving.store.shelf) n (g.O.Sink.taken c.args.out.now) serving) (sym none.0)
+          (to_none S.files S.may_leave S.moment S.left_since g.C.Clock.upcoming clock start base all g.O.Sink.tells (g.O.Sink.taken c.args.out.now) serving
           (S.fault_count serving.store.shelf) follows
-          (stays_may S.files S.may_leave clock start _ serving follows.keeps S.moment S.left_since (λ f left. g.met.S.Shelf.only_now serving.store.shelf f tells left));
+          (stays_may S.files S.may_leave clock start _ serving follows.keeps S.moment S.left_since (λ f left. g.met.S.Shelf.only_now serving.store.shelf f tells left)));
     }
+
+pub next_turn-requires-clause-sessions : goal.next_turn-requires-clause-sessions
+next_turn-requires-clause-sessions g c =
+    let all = g.L.Lines.left c.args.lines.now in
+    let left = g.L.Lines.left c.loop-seen.lines in
+    let one = one_given all left (g.L.Lines.left c.next.new.self) (named c.in-Some.line) c.loop-seen.invariant.left (is_next left (g.L.Lines.left c.next.new.self) c.in_ok-line.field-0 c.in-Some.line c.in-Some.is c.in_ok-line.ensures.next) in
+    omega (arith, (few_given all left c.loop-seen.seen.items c.loop-seen.invariant.seen).0, one.less, c.requires.few)
+
+pub next_turn-requires-clause-commands : goal.next_turn-requires-clause-commands
+next_turn-requires-clause-commands g c =
+    let all = g.L.Lines.left c.args.lines.now in
+    let left = g.L.Lines.left c.loop-seen.lines in
+    let one = one_given all left (g.L.Lines.left c.next.new.self) (named c.in-Some.line) c.loop-seen.invariant.left (is_next left (g.L.Lines.left c.next.new.self) c.in_ok-line.field-0 c.in-Some.line c.in-Some.is c.in_ok-line.ensures.next) in
+    omega (arith, (few_given all left c.loop-seen.seen.items c.loop-seen.invariant.seen).1 c.as_slice.result.now, one.less, c.requires.few)
 
 pub serve_line-requires-clause-seat : goal.serve_line-requires-clause-seat
 serve_line-requires-clause-seat g c =
-    let turn = zip_turn c.args.lines.now c.args.turns.now c.loop-line.yielded c.into_iter-line-iterator.result c.loop-line.line-iterator c.next.new.self c.next.result
-    (ap (λ (z : Zip (Iter Line) (Iter Turn)). iter_rest (zip_first z)) c.into_iter-line-iterator.ensures.into_iter_gives ∙ ap iter_rest c.zip-line-items.ensures.first ∙ c.iter.ensures.rest)
-    (ap (λ (z : Zip (Iter Line) (Iter Turn)). iter_rest (zip_second z)) c.into_iter-line-iterator.ensures.into_iter_gives ∙ c.zip-line-items.ensures.second.0) c.loop-line.yielded_by (c.in-Some.line, c.in-Some.turn) c.in-Some.is c.next.ensures.steps in
-    let next = next_line c.args.lines.now c.args.turns.now (length c.loop-line.yielded) c.in-Some.line.now c.in-Some.turn.now c.requires.turns turn.0 (turn.2 c.in-Some.line.now) (turn.3 c.in-Some.turn.now) in
-    let seat = next_seat (all_named c.args.lines.now) (length c.loop-line.yielded) c.in-Some.turn.now.session (named c.in-Some.line.now) next in
-    (seat.0, omega (arith, seat.1, c.loop-line.invariant.seats, c.requires.seats))
+    let all = g.L.Lines.left c.args.lines.now in
+    let left = g.L.Lines.left c.loop-seen.lines in
+    let line = named c.in-Some.line in
+    let one = one_given all left (g.L.Lines.left c.next.new.self) line c.loop-seen.invariant.left (is_next left (g.L.Lines.left c.next.new.self) c.in_ok-line.field-0 c.in-Some.line c.in-Some.is c.in_ok-line.ensures.next) in
+    let turn = rw c.as_slice.ensures at (c.in_ok-turn.ensures.turn (take (given all left) all) c.in-Some.line.command c.loop-seen.invariant.seen) in
+    let seat = next_seat all (given all left) c.in_ok-turn.turn.session line (turn_given all left (g.L.Lines.left c.next.new.self) line c.in_ok-turn.turn one turn) in
+    (seat.0, omega (arith, seat.1, c.loop-seen.invariant.seats, c.requires.seats))
 
-pub loop-line-preserved : goal.loop-line-preserved
-loop-line-preserved g c =
+pub serve_line-requires-clause-line : goal.serve_line-requires-clause-line
+serve_line-requires-clause-line g c =
+    let left = g.L.Lines.left c.loop-seen.lines in
+    All-head (λ (line : NamedLine). IsServable line.1) (named c.in-Some.line) (g.L.Lines.left c.next.new.self)
+    (subst (All (λ (line : NamedLine). IsServable line.1)) (is_next left (g.L.Lines.left c.next.new.self) c.in_ok-line.field-0 c.in-Some.line c.in-Some.is c.in_ok-line.ensures.next) c.loop-seen.invariant.servable)
+
+pub serve_line-requires-clause-room : goal.serve_line-requires-clause-room
+serve_line-requires-clause-room g c =
+    let all = g.L.Lines.left c.args.lines.now in
+    let left = g.L.Lines.left c.loop-seen.lines in
+    let one = one_given all left (g.L.Lines.left c.next.new.self) (named c.in-Some.line) c.loop-seen.invariant.left (is_next left (g.L.Lines.left c.next.new.self) c.in_ok-line.field-0 c.in-Some.line c.in-Some.is c.in_ok-line.ensures.next) in
+    omega (arith, one.less, c.loop-seen.invariant.groups, c.requires.room)
+
+pub loop-seen-preserved : goal.loop-seen-preserved
+loop-seen-preserved g c =
     let S = g.S.Shelf in
-    let inv = c.loop-line.invariant in
+    let inv = c.loop-seen.invariant in
     let ensured = c.in_ok-serve_line.ensures in
-    let count = length c.loop-line.yielded in
-    let turn = zip_turn c.args.lines.now c.args.turns.now c.loop-line.yielded c.into_iter-line-iterator.result c.loop-line.line-iterator c.next.new.self c.next.result
-    (ap (λ (z : Zip (Iter Line) (Iter Turn)). iter_rest (zip_first z)) c.into_iter-line-iterator.ensures.into_iter_gives ∙ ap iter_rest c.zip-line-items.ensures.first ∙ c.iter.ensures.rest)
-    (ap (λ (z : Zip (Iter Line) (Iter Turn)). iter_rest (zip_second z)) c.into_iter-line-iterator.ensures.into_iter_gives ∙ c.zip-line-items.ensures.second.0) c.loop-line.yielded_by (c.in-Some.line, c.in-Some.turn) c.in-Some.is c.next.ensures.steps in
-    let next = next_line c.args.lines.now c.args.turns.now (length c.loop-line.yielded) c.in-Some.line.now c.in-Some.turn.now c.requires.turns turn.0 (turn.2 c.in-Some.line.now) (turn.3 c.in-Some.turn.now) in
-    let more = length_push c.loop-line.yielded (c.in-Some.line, c.in-Some.turn) in
+    let all = g.L.Lines.left c.args.lines.now in
+    let left = g.L.Lines.left c.loop-seen.lines in
+    let after = g.L.Lines.left c.next.new.self in
+    let line = named c.in-Some.line in
+    let one = one_given all left after line inv.left (is_next left (g.L.Lines.left c.next.new.self) c.in_ok-line.field-0 c.in-Some.line c.in-Some.is c.in_ok-line.ensures.next) in
+    let turn = rw c.as_slice.ensures at (c.in_ok-turn.ensures.turn (take (given all left) all) c.in-Some.line.command inv.seen) in
+    let seen = rw c.as_slice.ensures at (c.in_ok-turn.ensures.seen (take (given all left) all) c.in-Some.line.command inv.seen) in
+    let next = turn_given all left after line c.in_ok-turn.turn one turn in
     record {
+      left = one.are;
+      servable = All-tail (λ (l : NamedLine). IsServable l.1) line after (subst (All (λ (l : NamedLine). IsServable l.1)) (is_next left (g.L.Lines.left c.next.new.self) c.in_ok-line.field-0 c.in-Some.line c.in-Some.is c.in_ok-line.ensures.next) inv.servable);
+      seen = seen_given all left after line c.next_turn.new.seen.items one seen;
       abreast = ensured.abreast;
+      groups = omega (arith, inv.groups, ensured.groups, one.one);
       seats = ensured.seats ∙ inv.seats;
       later = (omega (arith, inv.later.0, ensured.later.0), omega (arith, inv.later.1, ensured.later.1));
-      readings = λ clocks. takes_more (2 * count) 2 _ (g.C.Clock.upcoming c.args.self.now.store.clock) (g.C.Clock.upcoming c.loop-line.self.store.clock) (g.C.Clock.upcoming c.serve_line.new.self.store.clock) (inv.readings clocks) (ensured.readings clocks) (omega (arith, more));
+      readings = λ clocks. takes_more (2 * given all left) 2 _ (g.C.Clock.upcoming c.args.self.now.store.clock) (g.C.Clock.upcoming c.loop-seen.self.store.clock) (g.C.Clock.upcoming c.serve_line.new.self.store.clock) (inv.readings clocks) (ensured.readings clocks) (omega (arith, one.one));
       runs = λ tells clocks clock start base follows.
           let so_far = inv.runs tells clocks clock start base follows in
-          let one = ensured.runs tells clocks clock start base so_far.answered so_far.follows in
-          subst (λ n. RunsTo S.files S.may_leave S.moment S.left_since g.C.Clock.upcoming clock start base (all_named c.args.lines.now) g.O.Sink.tells (g.O.Sink.taken c.args.out.now) c.args.self.now
-          (S.fault_count c.serve_line.new.self.store.shelf) n (g.O.Sink.taken c.serve_line.new.out) c.serve_line.new.self) (sym more)
-          (goes_on S.files S.may_leave S.moment S.left_since g.C.Clock.upcoming clock start base (all_named c.args.lines.now) g.O.Sink.tells (g.O.Sink.taken c.args.out.now) c.args.self.now
-          (S.fault_count c.loop-line.self.store.shelf) (S.fault_count c.serve_line.new.self.store.shelf) (length c.loop-line.yielded) c.in-Some.turn.now.session (named c.in-Some.line.now) (g.O.Sink.taken c.loop-line.out) (g.O.Sink.taken c.serve_line.new.out)
-          c.loop-line.self c.serve_line.new.self next so_far c.serve_line.ensures.later.0 c.in_ok-serve_line.field-0 one);
+          let told = ensured.runs tells clocks clock start base so_far.answered so_far.follows in
+          subst (λ n. RunsTo S.files S.may_leave S.moment S.left_since g.C.Clock.upcoming clock start base all g.O.Sink.tells (g.O.Sink.taken c.args.out.now) c.args.self.now
+          (S.fault_count c.serve_line.new.self.store.shelf) n (g.O.Sink.taken c.serve_line.new.out) c.serve_line.new.self) (sym one.one)
+          (goes_on S.files S.may_leave S.moment S.left_since g.C.Clock.upcoming clock start base all g.O.Sink.tells (g.O.Sink.taken c.args.out.now) c.args.self.now
+          (S.fault_count c.loop-seen.self.store.shelf) (S.fault_count c.serve_line.new.self.store.shelf) (given all left) c.in_ok-turn.turn.session line (g.O.Sink.taken c.loop-seen.out) (g.O.Sink.taken c.serve_line.new.out)
+          c.loop-seen.self c.serve_line.new.self next so_far c.serve_line.ensures.later.0 c.in_ok-serve_line.field-0 told);
     }
+
+-- ---- memory ends it before a line is begun
+
+pub returns-in_err-line-clause-runs : goal.returns-in_err-line-clause-runs
+returns-in_err-line-clause-runs g c = λ tells clocks clock start base follows.
+    let S = g.S.Shelf in
+    let all = g.L.Lines.left c.args.lines.now in
+    let left = g.L.Lines.left c.loop-seen.lines in
+    let some = some_left left c.in_err-line.ensures.some in
+    let one = one_given all left some.1 some.0 c.loop-seen.invariant.left some.2 in
+    of_error (λ r. Runs S.files S.may_leave S.moment S.left_since g.C.Clock.upcoming clock start base (S.fault_count c.loop-seen.self.store.shelf) all r g.O.Sink.tells (g.O.Sink.taken c.args.out.now) (g.O.Sink.taken c.loop-seen.out) c.args.self.now c.loop-seen.self)
+    c.from_residual.result line_end.NoMemory c.from_residual.ensures.0 c.from_residual.ensures.1
+    (to_unbegun S.files S.may_leave S.moment S.left_since g.C.Clock.upcoming clock start base all g.O.Sink.tells (g.O.Sink.taken c.args.out.now) c.args.self.now
+    (S.fault_count c.loop-seen.self.store.shelf) (S.fault_count c.loop-seen.self.store.shelf) (given all left) _ some.0 (g.O.Sink.taken c.loop-seen.out) (g.O.Sink.taken c.loop-seen.out)
+    c.loop-seen.self c.loop-seen.self (first_given all left some.1 some.0 one) (c.loop-seen.invariant.runs tells clocks clock start base follows) (omega arith))
+
+pub returns-in_err-turn-clause-runs : goal.returns-in_err-turn-clause-runs
+returns-in_err-turn-clause-runs g c = λ tells clocks clock start base follows.
+    let S = g.S.Shelf in
+    let all = g.L.Lines.left c.args.lines.now in
+    let left = g.L.Lines.left c.loop-seen.lines in
+    let after = g.L.Lines.left c.next.new.self in
+    let line = named c.in-Some.line in
+    let one = one_given all left after line c.loop-seen.invariant.left (is_next left (g.L.Lines.left c.next.new.self) c.in_ok-line.field-0 c.in-Some.line c.in-Some.is c.in_ok-line.ensures.next) in
+    of_error (λ r. Runs S.files S.may_leave S.moment S.left_since g.C.Clock.upcoming clock start base (S.fault_count c.loop-seen.self.store.shelf) all r g.O.Sink.tells (g.O.Sink.taken c.args.out.now) (g.O.Sink.taken c.loop-seen.out) c.args.self.now c.loop-seen.self)
+    c.from_residual-in_err-turn.result line_end.NoMemory c.from_residual-in_err-turn.ensures.0 c.from_residual-in_err-turn.ensures.1
+    (to_unbegun S.files S.may_leave S.moment S.left_since g.C.Clock.upcoming clock start base all g.O.Sink.tells (g.O.Sink.taken c.args.out.now) c.args.self.now
+    (S.fault_count c.loop-seen.self.store.shelf) (S.fault_count c.loop-seen.self.store.shelf) (given all left) _ line (g.O.Sink.taken c.loop-seen.out) (g.O.Sink.taken c.loop-seen.out)
+    c.loop-seen.self c.loop-seen.self (first_given all left after line one) (c.loop-seen.invariant.runs tells clocks clock start base follows) (omega arith))
+
+-- ---- a line ends it
 
 pub returns-in_err-serve_line-clause-runs : goal.returns-in_err-serve_line-clause-runs
 returns-in_err-serve_line-clause-runs g c = λ tells clocks clock start base follows.
     let S = g.S.Shelf in
-    let turn = zip_turn c.args.lines.now c.args.turns.now c.loop-line.yielded c.into_iter-line-iterator.result c.loop-line.line-iterator c.next.new.self c.next.result
-    (ap (λ (z : Zip (Iter Line) (Iter Turn)). iter_rest (zip_first z)) c.into_iter-line-iterator.ensures.into_iter_gives ∙ ap iter_rest c.zip-line-items.ensures.first ∙ c.iter.ensures.rest)
-    (ap (λ (z : Zip (Iter Line) (Iter Turn)). iter_rest (zip_second z)) c.into_iter-line-iterator.ensures.into_iter_gives ∙ c.zip-line-items.ensures.second.0) c.loop-line.yielded_by (c.in-Some.line, c.in-Some.turn) c.in-Some.is c.next.ensures.steps in
-    let next = next_line c.args.lines.now c.args.turns.now (length c.loop-line.yielded) c.in-Some.line.now c.in-Some.turn.now c.requires.turns turn.0 (turn.2 c.in-Some.line.now) (turn.3 c.in-Some.turn.now) in
-    let so_far = c.loop-line.invariant.runs tells clocks clock start base follows in
-    let one = c.in_err-serve_line.ensures.runs tells clocks clock start base so_far.answered so_far.follows in
-    of_error (λ r. Runs S.files S.may_leave S.moment S.left_since g.C.Clock.upcoming clock start base (S.fault_count c.serve_line.new.self.store.shelf) (all_named c.args.lines.now) r g.O.Sink.tells (g.O.Sink.taken c.args.out.now) (g.O.Sink.taken c.serve_line.new.out) c.args.self.now c.serve_line.new.self)
-    c.from_residual.result c.in_err-serve_line.field-0.0 c.from_residual.ensures.0 c.from_residual.ensures.1
-    (stops S.files S.may_leave S.moment S.left_since g.C.Clock.upcoming clock start base (all_named c.args.lines.now) g.O.Sink.tells (g.O.Sink.taken c.args.out.now) c.args.self.now
-    (S.fault_count c.loop-line.self.store.shelf) (S.fault_count c.serve_line.new.self.store.shelf) (length c.loop-line.yielded) c.in-Some.turn.now.session (named c.in-Some.line.now) (g.O.Sink.taken c.loop-line.out) (g.O.Sink.taken c.serve_line.new.out)
-    c.loop-line.self c.serve_line.new.self next so_far c.serve_line.ensures.later.0 c.in_err-serve_line.field-0.0 one)
+    let inv = c.loop-seen.invariant in
+    let all = g.L.Lines.left c.args.lines.now in
+    let left = g.L.Lines.left c.loop-seen.lines in
+    let after = g.L.Lines.left c.next.new.self in
+    let line = named c.in-Some.line in
+    let one = one_given all left after line inv.left (is_next left (g.L.Lines.left c.next.new.self) c.in_ok-line.field-0 c.in-Some.line c.in-Some.is c.in_ok-line.ensures.next) in
+    let turn = rw c.as_slice.ensures at (c.in_ok-turn.ensures.turn (take (given all left) all) c.in-Some.line.command inv.seen) in
+    let next = turn_given all left after line c.in_ok-turn.turn one turn in
+    let so_far = inv.runs tells clocks clock start base follows in
+    let told = c.in_err-serve_line.ensures.runs tells clocks clock start base so_far.answered so_far.follows in
+    of_error (λ r. Runs S.files S.may_leave S.moment S.left_since g.C.Clock.upcoming clock start base (S.fault_count c.serve_line.new.self.store.shelf) all r g.O.Sink.tells (g.O.Sink.taken c.args.out.now) (g.O.Sink.taken c.serve_line.new.out) c.args.self.now c.serve_line.new.self)
+    c.from_residual-in_err-serve_line.result c.in_err-serve_line.field-0.0 c.from_residual-in_err-serve_line.ensures.0 c.from_residual-in_err-serve_line.ensures.1
+    (stops S.files S.may_leave S.moment S.left_since g.C.Clock.upcoming clock start base all g.O.Sink.tells (g.O.Sink.taken c.args.out.now) c.args.self.now
+    (S.fault_count c.loop-seen.self.store.shelf) (S.fault_count c.serve_line.new.self.store.shelf) (given all left) c.in_ok-turn.turn.session line (g.O.Sink.taken c.loop-seen.out) (g.O.Sink.taken c.serve_line.new.out)
+    c.loop-seen.self c.serve_line.new.self next so_far c.serve_line.ensures.later.0 c.in_err-serve_line.field-0.0 told)
 
 pub returns-in_err-serve_line-clause-readings : goal.returns-in_err-serve_line-clause-readings
 returns-in_err-serve_line-clause-readings g c = λ clocks.
-    let turn = zip_turn c.args.lines.now c.args.turns.now c.loop-line.yielded c.into_iter-line-iterator.result c.loop-line.line-iterator c.next.new.self c.next.result
-    (ap (λ (z : Zip (Iter Line) (Iter Turn)). iter_rest (zip_first z)) c.into_iter-line-iterator.ensures.into_iter_gives ∙ ap iter_rest c.zip-line-items.ensures.first ∙ c.iter.ensures.rest)
-    (ap (λ (z : Zip (Iter Line) (Iter Turn)). iter_rest (zip_second z)) c.into_iter-line-iterator.ensures.into_iter_gives ∙ c.zip-line-items.ensures.second.0) c.loop-line.yielded_by (c.in-Some.line, c.in-Some.turn) c.in-Some.is c.next.ensures.steps in
-    takes_more (2 * length c.loop-line.yielded) 2 (2 * length c.args.lines.now) (g.C.Clock.upcoming c.args.self.now.store.clock) (g.C.Clock.upcoming c.loop-line.self.store.clock) (g.C.Clock.upcoming c.serve_line.new.self.store.clock) (c.loop-line.invariant.readings clocks) (c.serve_line.ensures.readings clocks) (omega (arith, turn.0))
+    let all = g.L.Lines.left c.args.lines.now in
+    let left = g.L.Lines.left c.loop-seen.lines in
+    let one = one_given all left (g.L.Lines.left c.next.new.self) (named c.in-Some.line) c.loop-seen.invariant.left (is_next left (g.L.Lines.left c.next.new.self) c.in_ok-line.field-0 c.in-Some.line c.in-Some.is c.in_ok-line.ensures.next) in
+    takes_more (2 * given all left) 2 (2 * length all) (g.C.Clock.upcoming c.args.self.now.store.clock) (g.C.Clock.upcoming c.loop-seen.self.store.clock) (g.C.Clock.upcoming c.serve_line.new.self.store.clock) (c.loop-seen.invariant.readings clocks) (c.serve_line.ensures.readings clocks) (omega (arith, one.less))
+
+-- ---- all are served
 
 pub returns-clause-runs : goal.returns-clause-runs
 returns-clause-runs g c = λ tells clocks clock start base follows.
     let S = g.S.Shelf in
-    let end = zip_end c.args.lines.now c.args.turns.now c.loop-line.yielded c.into_iter-line-iterator.result c.loop-line.line-iterator c.next.new.self c.next.result
-    (ap (λ (z : Zip (Iter Line) (Iter Turn)). iter_rest (zip_first z)) c.into_iter-line-iterator.ensures.into_iter_gives ∙ ap iter_rest c.zip-line-items.ensures.first ∙ c.iter.ensures.rest)
-    (ap (λ (z : Zip (Iter Line) (Iter Turn)). iter_rest (zip_second z)) c.into_iter-line-iterator.ensures.into_iter_gives ∙ c.zip-line-items.ensures.second.0) c.loop-line.yielded_by c.in-None.is c.next.ensures.steps in
-    let turns = ap length c.requires.turns ∙ turns_length (sessions_of (all_named c.args.lines.now)) [] (all_named c.args.lines.now) in
-    to_done S.files S.may_leave S.moment S.left_since g.C.Clock.upcoming clock start base (all_named c.args.lines.now) g.O.Sink.tells (g.O.Sink.taken c.args.out.now) c.args.self.now
-    (S.fault_count c.loop-line.self.store.shelf) (length c.loop-line.yielded) (g.O.Sink.taken c.loop-line.out) c.loop-line.self tt
-    (omega (arith, end, turns, length-map c.args.lines.now named)) (c.loop-line.invariant.runs tells clocks clock start base follows)
+    let all = g.L.Lines.left c.args.lines.now in
+    let left = g.L.Lines.left c.loop-seen.lines in
+    let none = ap (λ (ls : List NamedLine). length ls) (is_none left (g.L.Lines.left c.next.new.self) c.in_ok-line.field-0 c.in_default.is c.in_ok-line.ensures.next) in
+    to_done S.files S.may_leave S.moment S.left_since g.C.Clock.upcoming clock start base all g.O.Sink.tells (g.O.Sink.taken c.args.out.now) c.args.self.now
+    (S.fault_count c.loop-seen.self.store.shelf) (given all left) (g.O.Sink.taken c.loop-seen.out) c.loop-seen.self tt
+    (omega (arith, none)) (c.loop-seen.invariant.runs tells clocks clock start base follows)

@@ -52,7 +52,7 @@ returns-in_ok-met-in-Ok-clause-cause g c =
     let met_is = (rw (seen, c.live.ensures) at c.in_ok-met-in-Ok.ensures) ∙ ap (λ (s : Serving g.row.S.Denot g.row.C.Denot). met_of c.args.c.now (seat_at s.seats at).state.view s.store.chain.live.mailbox) c.self.view_is in
     let later = subst (λ (s : Serving g.row.S.Denot g.row.C.Denot). S.fault_count c.args.self.now.store.shelf ≤ S.fault_count s.store.shelf) c.answer.ensures.seats did.cause.later in
     λ tells log debt rest.
-    told_failures (S.fault_count c.args.self.now.store.shelf) (S.fault_count new.store.shelf) c.answer.result (seat_at new.seats at).state log.mail (seat_at mid.seats at).state c.args.c.now m (length mid.journal) m mid.mark later
+    told_failures (S.fault_count c.args.self.now.store.shelf) (S.fault_count new.store.shelf) c.answer.result (seat_at new.seats at).state log.mail (seat_at mid.seats at).state c.args.c.now m mid.groups m mid.mark later
     (c.answer.ensures.answer log.mail m met_is (looked_supplied c.args.self.now mid did.looks log.mail c.args.c.now at c.in-Ok.facts (did.found tells log debt rest)))
 
 pub returns-in-Err-clause-serves : goal.returns-in-Err-clause-serves

@@ -1,4 +1,4 @@
-use Rattle.std.proofs.Common.{ℕ, ◌<◌, ◌≤◌, ◌++◌, List, length, take, drop, Ok, sym, ◌∙◌, ap, subst, arith}
+use Rattle.std.proofs.Common.{ℕ, ◌+◌, ◌<◌, ◌≤◌, ◌++◌, List, length, take, drop, Ok, refl, sym, ◌∙◌, ap, subst}
 use Rattle.std.proofs.lemmas.List.{get_or_read}
 use Rattle.std.proofs.lemmas.Result.{err_from_is_err_and}
 use Rattle.dv_model.specs.Journals.{Damaged, Mail}
@@ -20,9 +20,9 @@ returns-in_err-met-clause-serves g c =
     let S = g.S.Shelf in
     let p = err_from_is_err_and c.from_residual.result c.from_residual.ensures.1 in
     let old = c.args.self.now in
-    λ tells reads clock start base attempts follows number_is.
-    rw p.1 (seat_still S.files S.may_leave S.moment S.left_since g.C.Clock.upcoming clock start base attempts (S.fault_count old.store.shelf) old follows c.args.at c.args.number number_is c.args.c.now c.requires.at
-    (omega (arith, c.ranges.number.fits)) c.requires.line.command (λ f left. g.met.S.Shelf.only_now old.store.shelf f tells left))
+    λ tells reads clock start base attempts small follows.
+    rw p.1 (seat_still S.files S.may_leave S.moment S.left_since g.C.Clock.upcoming clock start base attempts (S.fault_count old.store.shelf) old follows c.args.at (c.args.at + 1) refl c.args.c.now c.requires.at
+    small c.requires.line.command (λ f left. g.met.S.Shelf.only_now old.store.shelf f tells left))
 
 pub returns-in_err-tell_all-in-Ok-clause-serves : goal.returns-in_err-tell_all-in-Ok-clause-serves
 returns-in_err-tell_all-in-Ok-clause-serves g c =
@@ -30,15 +30,15 @@ returns-in_err-tell_all-in-Ok-clause-serves g c =
     let p = err_from_is_err_and c.from_residual-in_err-tell_all-in-Ok.result c.from_residual-in_err-tell_all-in-Ok.ensures.1 in
     let old = c.args.self.now in
     let inside = c.self-in-Ok.inside in
-    let mid : Serving g.row.S.Denot g.row.C.Denot = record { store = inside.store; mark = inside.mark; seats = inside.seats.items; journal = inside.journal.items } in
+    let mid : Serving g.row.S.Denot g.row.C.Denot = record { store = inside.store; mark = inside.mark; seats = inside.seats.items; groups = inside.groups } in
     let told = c.tell_all.new.seats in
-    λ tells reads clock start base attempts follows number_is.
-    let both = c.in-Ok.ensures.commits tells reads clock start base attempts follows number_is in
+    λ tells reads clock start base attempts small follows.
+    let both = c.in-Ok.ensures.commits tells reads clock start base attempts small follows in
     let others = subst (λ (s : Serving g.row.S.Denot g.row.C.Denot). LeavesOthers {A = List ℕ} c.args.c.now old.store.chain.live.mailbox (Ok c.in-Ok.touched) (S.files old.store.shelf) (S.files s.store.shelf)) (sym c.self-in-Ok.view_is) both.1 in
-    let done = subst (λ (s : Serving g.row.S.Denot g.row.C.Denot). IsDone S.files S.may_leave S.moment S.left_since g.C.Clock.upcoming clock start attempts (c.args.number, c.args.c.now) c.in-Ok.touched old s) (sym c.self-in-Ok.view_is)
+    let done = subst (λ (s : Serving g.row.S.Denot g.row.C.Denot). IsDone S.files S.may_leave S.moment S.left_since g.C.Clock.upcoming clock start attempts (c.args.at + 1, c.args.c.now) c.in-Ok.touched old s) (sym c.self-in-Ok.view_is)
     both.0 in
-    rw p.1 (seat_untold S.files S.may_leave S.moment S.left_since g.C.Clock.upcoming clock start base attempts (S.fault_count old.store.shelf) old follows c.args.at c.args.number number_is c.args.c.now c.requires.at
-    (omega (arith, c.ranges.number.fits)) c.requires.line.command c.requires.write mid c.in-Ok.touched done others (take inside.seats.len (told ++ drop (length told) inside.seats.items)))
+    rw p.1 (seat_untold S.files S.may_leave S.moment S.left_since g.C.Clock.upcoming clock start base attempts (S.fault_count old.store.shelf) old follows c.args.at (c.args.at + 1) refl c.args.c.now c.requires.at
+    small c.requires.line.command c.requires.write mid c.in-Ok.touched done others (take inside.seats.len (told ++ drop (length told) inside.seats.items)))
 
 pub answer-requires-clause-abreast : goal.answer-requires-clause-abreast
 answer-requires-clause-abreast g c =
@@ -62,7 +62,7 @@ returns-in_ok-tell_all-in-Ok-clause-serves g c =
     let old = c.args.self.now in
     let inside = c.self-in-Ok.inside in
     let m = inside.store.chain.live.mailbox in
-    let mid : Serving g.row.S.Denot g.row.C.Denot = record { store = inside.store; mark = inside.mark; seats = inside.seats.items; journal = inside.journal.items } in
+    let mid : Serving g.row.S.Denot g.row.C.Denot = record { store = inside.store; mark = inside.mark; seats = inside.seats.items; groups = inside.groups } in
     let slice = c.as_mut_slice in
     let did = c.in_ok-tell_all-in-Ok.ensures in
     let told = c.tell_all.new.seats in
@@ -76,13 +76,13 @@ returns-in_ok-tell_all-in-Ok-clause-serves g c =
     let met_is = (rw (seen, c.live.ensures) at c.in_ok-met.ensures) ∙ ap (λ (s : Serving g.row.S.Denot g.row.C.Denot). met_of c.args.c.now (seat_at s.seats at).state.view s.store.chain.live.mailbox) c.self.view_is in
     let later = subst (λ (s : Serving g.row.S.Denot g.row.C.Denot). S.fault_count old.store.shelf ≤ S.fault_count s.store.shelf) c.answer.ensures.seats
     (subst (λ (s : Serving g.row.S.Denot g.row.C.Denot). S.fault_count old.store.shelf ≤ S.fault_count s.store.shelf) (sym c.self-in-Ok.view_is) c.in-Ok.ensures.cause.later) in
-    λ tells reads clock start base attempts follows number_is.
-    let both = c.in-Ok.ensures.commits tells reads clock start base attempts follows number_is in
+    λ tells reads clock start base attempts small follows.
+    let both = c.in-Ok.ensures.commits tells reads clock start base attempts small follows in
     let others = subst (λ (s : Serving g.row.S.Denot g.row.C.Denot). LeavesOthers {A = List ℕ} c.args.c.now old.store.chain.live.mailbox (Ok c.in-Ok.touched) (S.files old.store.shelf) (S.files s.store.shelf)) (sym c.self-in-Ok.view_is) both.1 in
-    let done = subst (λ (s : Serving g.row.S.Denot g.row.C.Denot). IsDone S.files S.may_leave S.moment S.left_since g.C.Clock.upcoming clock start attempts (c.args.number, c.args.c.now) c.in-Ok.touched old s) (sym c.self-in-Ok.view_is)
+    let done = subst (λ (s : Serving g.row.S.Denot g.row.C.Denot). IsDone S.files S.may_leave S.moment S.left_since g.C.Clock.upcoming clock start attempts (c.args.at + 1, c.args.c.now) c.in-Ok.touched old s) (sym c.self-in-Ok.view_is)
     both.0 in
-    seat_wrote S.files S.may_leave S.moment S.left_since g.C.Clock.upcoming clock start base attempts (S.fault_count old.store.shelf) old follows at c.args.number number_is c.args.c.now c.requires.at
-    (omega (arith, c.ranges.number.fits)) c.requires.line.command c.requires.write mid c.in-Ok.touched done others seats (S.fault_count c.answer.new.self.store.shelf) c.answer.new.self c.answer.result c.new-none.result c.in_ok-met.met later has all met_is
+    seat_wrote S.files S.may_leave S.moment S.left_since g.C.Clock.upcoming clock start base attempts (S.fault_count old.store.shelf) old follows at (c.args.at + 1) refl c.args.c.now c.requires.at
+    small c.requires.line.command c.requires.write mid c.in-Ok.touched done others seats (S.fault_count c.answer.new.self.store.shelf) c.answer.new.self c.answer.result c.new-none.result c.in_ok-met.met later has all met_is
     c.answer.ensures.answer c.answer.ensures.abreast c.answer.ensures.seats c.answer.ensures.err
 
 pub returns-in_ok-tell_all-in-Ok-clause-abreast : goal.returns-in_ok-tell_all-in-Ok-clause-abreast
@@ -94,7 +94,7 @@ returns-in_ok-tell_all-in-Ok-clause-abreast g c =
     let did = c.in_ok-tell_all-in-Ok.ensures in
     let told = c.tell_all.new.seats in
     let seats = take inside.seats.len (told ++ drop (length told) inside.seats.items) in
-    let part : Serving g.row.S.Denot g.row.C.Denot = record { store = inside.store; mark = inside.mark; seats = seats; journal = inside.journal.items } in
+    let part : Serving g.row.S.Denot g.row.C.Denot = record { store = inside.store; mark = inside.mark; seats = seats; groups = inside.groups } in
     let same = slice.ensures.value ∙ ap (λ (s : Serving g.row.S.Denot g.row.C.Denot). s.seats) c.self-in-Ok.view_is ∙ c.in-Ok.ensures.seats in
     let leads = subst (λ (s : Serving g.row.S.Denot g.row.C.Denot). Leads old.store.chain.live.mailbox s.store.chain.live.mailbox c.in-Ok.touched) (sym c.self-in-Ok.view_is) c.in-Ok.ensures.leads in
     let all = told_abreast old.seats inside.seats.items slice.result.now told inside.seats.len same slice.ensures.len did.states old.store.chain.live.mailbox m c.requires.abreast (λ before. did.abreast old.store.chain.live.mailbox m before leads) in
@@ -120,7 +120,7 @@ returns-in_ok-tell_all-in-Ok-clause-cause g c =
     let later = subst (λ (s : Serving g.row.S.Denot g.row.C.Denot). S.fault_count old.store.shelf ≤ S.fault_count s.store.shelf) c.answer.ensures.seats
     (subst (λ (s : Serving g.row.S.Denot g.row.C.Denot). S.fault_count old.store.shelf ≤ S.fault_count s.store.shelf) (sym c.self-in-Ok.view_is) c.in-Ok.ensures.cause.later) in
     let mail : ℕ → Mail = λ uid. Damaged in
-    told_failures (S.fault_count old.store.shelf) (S.fault_count new.store.shelf) c.answer.result (seat_at new.seats at).state mail (seat_at seats at).state c.args.c.now old.store.chain.live.mailbox (length inside.journal.items) m inside.mark later
+    told_failures (S.fault_count old.store.shelf) (S.fault_count new.store.shelf) c.answer.result (seat_at new.seats at).state mail (seat_at seats at).state c.args.c.now old.store.chain.live.mailbox inside.groups m inside.mark later
     (c.answer.ensures.answer mail old.store.chain.live.mailbox met_told (unread_supplied mail c.args.c.now (seat_at seats at).state m c.new-none.result (writes_unread c.args.c.now c.requires.write)))
 
 pub returns-in-Err-clause-serves : goal.returns-in-Err-clause-serves
@@ -128,8 +128,8 @@ returns-in-Err-clause-serves g c =
     let S = g.S.Shelf in
     let old = c.args.self.now in
     let did = c.in-Err.ensures in
-    λ tells reads clock start base attempts follows number_is.
-    let both = did.commits tells reads clock start base attempts follows number_is in
-    seat_unwritten S.files S.may_leave S.moment S.left_since g.C.Clock.upcoming clock start base attempts (S.fault_count old.store.shelf) old follows c.args.at c.args.number number_is c.args.c.now c.requires.at
-    (omega (arith, c.ranges.number.fits)) c.requires.line.command c.requires.write c.commit.new.self (S.fault_count c.commit.new.self.store.shelf) c.in-Err.fault c.fault_line.result both.0 did.cause
+    λ tells reads clock start base attempts small follows.
+    let both = did.commits tells reads clock start base attempts small follows in
+    seat_unwritten S.files S.may_leave S.moment S.left_since g.C.Clock.upcoming clock start base attempts (S.fault_count old.store.shelf) old follows c.args.at (c.args.at + 1) refl c.args.c.now c.requires.at
+    small c.requires.line.command c.requires.write c.commit.new.self (S.fault_count c.commit.new.self.store.shelf) c.in-Err.fault c.fault_line.result both.0 did.cause
     did.seats both.1 c.fault_line.ensures
