@@ -15,7 +15,7 @@ fn zeros(alloc: Global, size: u16) -> Result<Bytes, NoMemory>
 pub fn blank(alloc: Global, extensions: &[Extension]) -> Result<List<Bytes>, NoMemory>
     ensures { IfOk result (λ made. made ≡ blank_parts extensions.now) }
 {
-    let mut parts = List::new(alloc);
+    let mut parts = List::from_vec(Vec::with_capacity(alloc, extensions.len())?);
     for extension in extensions {
         parts.push(zeros(alloc, extension.record_size)?)?;
     }

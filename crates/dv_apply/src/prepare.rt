@@ -46,7 +46,7 @@ fn all_uids(alloc: Global, uids: &[u32], rows: &[Row]) -> Result<Vec<u32>, NoMem
     ensures is { IfOk result (λ all. (uid : ℕ) →
         Contains all.items uid ↔ (Contains uids.now uid ⊎ HasUid rows.now uid)) }
 {
-    let mut all = Vec::new(alloc);
+    let mut all = Vec::with_capacity(alloc, uids.len().saturating_add(rows.len()))?;
     for uid in uids {
         all.push(*uid)?;
     }

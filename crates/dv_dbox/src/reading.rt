@@ -12,9 +12,6 @@ use crate::{BoxEnd, BoxFault, Message};
 use dv_model::{Bytes, List};
 use std::alloc::{AllocError, Global};
 
-/// The bytes that a reply has beside a message, or more.
-const ROOM_BEHIND: usize = 1024;
-
 /// Whether the value of `M` is the size of the message header, 30 in hexadecimal digits.
 fn is_header_size(value: Option<&[u8]>) -> bool
     ensures { result ≡ is_header_size (option_copied value.entry) }
@@ -194,17 +191,6 @@ fn others_of(alloc: Global, entries: &[&[u8]]) -> Result<List<Bytes>, BoxEnd>
     Ok(others)
 }
 
-/// A copy of a message with room behind it: once it is freed, the text that answers a FETCH of the
-/// message fits in its place.
-fn copy_of(alloc: Global, message: &[u8]) -> Result<Bytes, AllocError>
-    ensures { IfOk result (λ made. made ≡ message.now) }
-{
-    let mut bytes = Vec::new(alloc);
-    bytes.reserve_exact(message.len().saturating_add(ROOM_BEHIND))?;
-    bytes.extend_from_slice(message)?;
-    Ok(List::from_vec(bytes))
-}
-
 /// The message of these bytes and these lines of metadata.
 fn message_from(
     alloc: Global,
@@ -218,7 +204,7 @@ fn message_from(
     let received = number_at(value_of(entries, b'R'))?;
     let physical = number_at(value_of(entries, b'Z'))?;
     let virtual_size = number_at(value_of(entries, b'V'))?;
-    let bytes = copy_of(alloc, bytes)?;
+    let bytes = Bytes::from_slice(alloc, bytes)?;
     let others = others_of(alloc, entries)?;
     Ok(Message {
         stamp,

@@ -42,8 +42,14 @@ pub fn write(
     let size = physical(message);
     let head = head_of(alloc, stamp, size)?;
     let tail = tail_of(alloc, guid, received, size, virtual_size(message))?;
-    let mut text = Bytes::from_slice(alloc, head.as_bytes())?;
+    let (head, tail) = (head.as_bytes(), tail.as_bytes());
+    let room = head
+        .len()
+        .saturating_add(message.len())
+        .saturating_add(tail.len());
+    let mut text = Bytes::from_vec(Vec::with_capacity(alloc, room)?);
+    text.extend(head)?;
     text.extend(message)?;
-    text.extend(tail.as_bytes())?;
+    text.extend(tail)?;
     Ok(text)
 }

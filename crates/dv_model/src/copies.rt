@@ -51,7 +51,7 @@ impl Duplicate for Span {
 
 impl<T: Duplicate> Duplicate for List<T> {
     fn duplicate(&self, alloc: Global) -> Result<List<T>, NoMemory> {
-        let mut made = List::new(alloc);
+        let mut made = List::from_vec(Vec::with_capacity(alloc, self.len())?);
         for item in self.as_slice() {
             made.push(item.duplicate(alloc)?)?;
         }

@@ -17,7 +17,7 @@ pub fn copies(alloc: Global, rows: &[Row], uids: &[u32]) -> Result<Vec<Row>, NoM
     ensures { IfOk result (λ made. made.items
         ≡ filter (λ row. is_among uids.now row.uid) rows.now) }
 {
-    let mut made = Vec::new(alloc);
+    let mut made = Vec::with_capacity(alloc, uids.len())?;
     for uid in uids {
         if let Some(at) = place_of(rows, *uid) {
             made.push(rows[at].duplicate(alloc)?)?;

@@ -51,7 +51,7 @@ fn fitted_part(alloc: Global, parts: &[Bytes], at: usize, size: u16) -> Result<B
 fn fitted(alloc: Global, parts: &[Bytes], extensions: &[Extension]) -> Result<List<Bytes>, NoMemory>
     ensures { IfOk result (λ made. made ≡ fitted (sizes_of extensions.now) parts.now) }
 {
-    let mut made = List::new(alloc);
+    let mut made = List::from_vec(Vec::with_capacity(alloc, extensions.len())?);
     for at in 0..extensions.len() {
         let part = fitted_part(alloc, parts, at, extensions[at].record_size)?;
         made.push(part)?;

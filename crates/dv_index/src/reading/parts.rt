@@ -14,7 +14,7 @@ pub fn read_parts(alloc: Global, es: &[Extension], b: &[u8]) -> Result<List<Byte
     ensures found { IfOk result (λ parts. AreParts es.now parts b.now) }
     ensures check { OnCheck result 6 ((parts : List (List ℕ)) → AreParts es.now parts b.now → ⊥) }
 {
-    let mut parts = List::new(alloc);
+    let mut parts = List::from_vec(Vec::with_capacity(alloc, es.len())?);
     let mut rest = b;
     for e in es {
         let Some((part, behind)) = split_filled(usize::from(e.record_size), rest) else {

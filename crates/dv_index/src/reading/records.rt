@@ -71,9 +71,10 @@ pub fn read_records(alloc: Global, b: &[u8], head: &Mailbox) -> Result<List<Row>
 {
     let version = b[1];
     let size = u32_at(b, 8) as usize;
-    let mut rows = List::new(alloc);
+    let count = u32_at(b, 32);
+    let mut rows = List::from_vec(Vec::with_capacity(alloc, count as usize)?);
     let mut at = u32_at(b, 4) as usize;
-    for _ in 0..u32_at(b, 32) {
+    for _ in 0..count {
         let (_, behind) = b.split_at(at);
         let (record, _) = behind.split_at(size);
         rows.push(read_record(alloc, version, head, record)?)?;

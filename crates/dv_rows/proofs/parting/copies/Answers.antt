@@ -6,7 +6,7 @@ use Rattle.dv_rows.proofs.parting.copies.Goals.{in-Some+in_ok-duplicate+in_ok-pu
 use Rattle.dv_rows.proofs.parting.copies.Goals as goal
 
 pub loop-uid-init : goal.loop-uid-init
-loop-uid-init c = c.new-made.ensures.items ∙ sym (none_yet c.args.rows.now)
+loop-uid-init c = c.in_ok-made.ensures.items ∙ sym (none_yet c.args.rows.now)
 
 pub loop-uid-preserved : goal.loop-uid-preserved
 loop-uid-preserved c =

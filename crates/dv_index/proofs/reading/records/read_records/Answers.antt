@@ -9,20 +9,20 @@ use Rattle.dv_index.proofs.reading.records.read_records.Goals as goal
 
 pub split_at-requires : goal.split_at-requires
 split_at-requires c =
-    let below : c.loop.counter < word_at 32 c.args.b.now = omega (arith, c.u32_at-end.ensures, c.loop-test.true) in
+    let below : c.loop.counter < word_at 32 c.args.b.now = omega (arith, c.u32_at-count.ensures, c.loop-test.true) in
     let inside = room (word_at 8 c.args.b.now) c.loop.counter (word_at 32 c.args.b.now) below in
     omega (arith, inside, c.loop.invariant.place, c.requires.long)
 
 pub split_at-requires-in-loop : goal.split_at-requires-in-loop
 split_at-requires-in-loop c =
-    let below : c.loop.counter < word_at 32 c.args.b.now = omega (arith, c.u32_at-end.ensures, c.loop-test.true) in
+    let below : c.loop.counter < word_at 32 c.args.b.now = omega (arith, c.u32_at-count.ensures, c.loop-test.true) in
     let inside = room (word_at 8 c.args.b.now) c.loop.counter (word_at 32 c.args.b.now) below in
     omega (arith, inside, c.loop.invariant.place, c.requires.long, ap length c.split_at.ensures.back, length-drop c.loop.at c.args.b.now, c.u32_at-size.ensures)
 
 pub returns-in_err-read_record-clause-check : goal.returns-in_err-read_record-clause-check
 returns-in_err-read_record-clause-check c =
-    let p = err_from_is_err_and c.from_residual.result c.from_residual.ensures.1 in
-    let below : c.loop.counter < word_at 32 c.args.b.now = omega (arith, c.u32_at-end.ensures, c.loop-test.true) in
+    let p = err_from_is_err_and c.from_residual-in_err-read_record.result c.from_residual-in_err-read_record.ensures.1 in
+    let below : c.loop.counter < word_at 32 c.args.b.now = omega (arith, c.u32_at-count.ensures, c.loop-test.true) in
     let here = record_is c.loop.counter c.loop.at c.u32_at-size.result c.args.b.now c.split_at.result.1.now c.split_at-in-loop.result.0.now c.loop.invariant.place c.u32_at-size.ensures c.split_at.ensures.back c.split_at-in-loop.ensures.front in
     rw (p.1, p.2)
     (check_weaker c.in_err-read_record.field-0.0 6 _ _
