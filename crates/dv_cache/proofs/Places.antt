@@ -1,12 +1,13 @@
 -- The entries and the fields of rows, one row after another.
 use Rattle.std.proofs.Common.{◌≡◌, ℕ, ◌+◌, ◌≤◌, Bool, true, false, List, [], ◌∷◌, ◌++◌, length, All, Option, Some, None, refl, sym, ◌∙◌, ap, subst, arith, length-append, append_assoc}
-use Rattle.std.specs.Prelude.{nat_le, ◌&&◌, sum_by, if◌then◌else◌}
+use Rattle.std.specs.Prelude.{OnOk, Result, Ok, Err, nat_le, ◌&&◌, sum_by, if◌then◌else◌}
 use Rattle.std.proofs.lemmas.Bool.{le-leb, leb-true}
 use Rattle.std.proofs.lemmas.List.{append-nil}
 use Rattle.std.proofs.Math.Bool.{and-eq-true_iff}
 use Rattle.dv_cache.specs.declared.row.CacheRow.{CacheRow}
 use Rattle.dv_cache.specs.declared.row.Known.{Known}
-use Rattle.dv_cache.specs.Caches.{entries_from, field_size, fields_text, fits, IsShort, kept, known_text, place_behind, row_entry, texts_from}
+use Rattle.dv_cache.specs.Begun.{Begun, begun}
+use Rattle.dv_cache.specs.Caches.{cache_text, entries_from, field_size, fields_text, first_place, fits, header_text, IsShort, kept, known_text, place_behind, row_entry, texts_from}
 use Rattle.dv_cache.proofs.FieldTexts.{all_short, text_size}
 
 -- ---- what is kept
@@ -101,35 +102,64 @@ entries_append at (row ∷ xs) ys =
     let next = at + length (known_text (kept at row.known)) in
     ap (λ t. entry ++ t) (entries_append next xs ys) ∙ sym (append_assoc entry (entries_from next xs) (entries_from (place_behind next xs) ys))
 
--- ---- as a loop does
+-- ---- one row more
 
-pub record IsWrittenTo (first : ℕ) (rows : List CacheRow) (entries texts : List ℕ) : Type 0 where
-  pub listed : entries ≡ entries_from first rows
-  pub spelled : texts ≡ texts_from first rows
-  pub place : first + length texts ≡ place_behind first rows
-  pub small : first + length texts ≤ 1073741824
-
-pub starts : (first : ℕ) → first ≤ 1073741824 → IsWrittenTo first [] [] []
-starts first small = record { listed = refl; spelled = refl; place = omega arith; small = omega (arith, small) }
-
-pub one_row_more : (first : ℕ) (rows : List CacheRow)
-    (entries texts more_entries more_texts : List ℕ) (row : CacheRow) (at : ℕ)
-    → IsWrittenTo first rows entries texts → at ≡ first + length texts
-    → more_entries ≡ entries ++ row_entry at row.uid (kept at row.known)
-    → more_texts ≡ texts ++ known_text (kept at row.known)
-    → IsWrittenTo first (rows ++ row ∷ []) more_entries more_texts
-one_row_more first rows entries texts more_entries more_texts row at is e p q =
-    let here : at ≡ place_behind first rows = e ∙ is.place in
+pub one_row_more : (first : ℕ) (rows : List CacheRow) (row : CacheRow) (at : ℕ)
+    (entries texts : List ℕ) → at ≡ first + length (texts_from first rows)
+    → entries ≡ entries_from first rows ++ row_entry at row.uid (kept at row.known)
+    → texts ≡ texts_from first rows ++ known_text (kept at row.known)
+    → record { first = first; entries = entries; texts = texts } ≡ begun first (rows ++ row ∷ [])
+one_row_more first rows row at entries texts e p q =
+    let here : at ≡ place_behind first rows = e ∙ texts_length first rows in
     let entry : row_entry at row.uid (kept at row.known) ≡ entries_from (place_behind first rows) (row ∷ []) = ap (λ k. row_entry k row.uid (kept k row.known)) here ∙ sym (append-nil _) in
     let text : known_text (kept at row.known) ≡ texts_from (place_behind first rows) (row ∷ []) = ap (λ k. known_text (kept k row.known)) here ∙ sym (append-nil _) in
-    let all : more_texts ≡ texts_from first (rows ++ row ∷ []) = q ∙ ap (λ t. t ++ known_text (kept at row.known)) is.spelled ∙ ap (λ t. texts_from first rows ++ t) text ∙ sym (texts_append first rows (row ∷ [])) in
-    let sum : length more_texts ≡ length texts + length (known_text (kept at row.known)) = ap length q ∙ length-append texts (known_text (kept at row.known)) in
-    record {
-      listed = p ∙ ap (λ t. t ++ row_entry at row.uid (kept at row.known)) is.listed ∙ ap (λ t. entries_from first rows ++ t) entry ∙ sym (entries_append first rows (row ∷ []));
-      spelled = all;
-      place = ap (λ t. first + length t) all ∙ texts_length first (rows ++ row ∷ []);
-      small = omega (arith, sum, e, kept_ends at row.known (omega (arith, e, is.small)));
-    }
+    let listed : entries ≡ entries_from first (rows ++ row ∷ []) = p ∙ ap (λ t. entries_from first rows ++ t) entry ∙ sym (entries_append first rows (row ∷ [])) in
+    let spelled : texts ≡ texts_from first (rows ++ row ∷ []) = q ∙ ap (λ t. texts_from first rows ++ t) text ∙ sym (texts_append first rows (row ∷ [])) in
+    rw (listed, spelled) refl
+
+-- so a call that adds a row adds it to those that were added
+pub adds_row : {E : Type 0} (was : Begun) (first : ℕ) (entries texts : List ℕ) (row : CacheRow)
+    (at : ℕ) (more_entries more_texts : List ℕ) (result : Result Unit E)
+    → record { first = first; entries = entries; texts = texts } ≡ was
+    → at ≡ first + length texts
+    → OnOk result (more_entries ≡ entries ++ row_entry at row.uid (kept at row.known))
+    → OnOk result (more_texts ≡ texts ++ known_text (kept at row.known))
+    → OnOk result ((place : ℕ) (rows : List CacheRow) → was ≡ begun place rows
+    → record { first = first; entries = more_entries; texts = more_texts } ≡ begun place (rows ++ row ∷ []))
+adds_row was first entries texts row at more_entries more_texts (Ok u) is e p q = λ place rows begins.
+    let same : record { first = first; entries = entries; texts = texts } ≡ begun place rows = is ∙ begins in
+    let f : first ≡ place = ap (λ (b : Begun). b.first) same in
+    let listed : entries ≡ entries_from place rows = ap (λ (b : Begun). b.entries) same in
+    let spelled : texts ≡ texts_from place rows = ap (λ (b : Begun). b.texts) same in
+    ap (λ (k : ℕ). record { first = k; entries = more_entries; texts = more_texts }) f
+    ∙ one_row_more place rows row at more_entries more_texts
+    (e ∙ ap (λ (k : ℕ). k + length texts) f ∙ ap (λ (t : List ℕ). place + length t) spelled)
+    (p ∙ ap (λ (t : List ℕ). t ++ row_entry at row.uid (kept at row.known)) listed)
+    (q ∙ ap (λ (t : List ℕ). t ++ known_text (kept at row.known)) spelled)
+adds_row was first entries texts row at more_entries more_texts (Err u) is e p q = tt
+
+-- ---- the whole file
+
+pub whole_text : (indexid seq : ℕ) (first count size : ℕ) (entries texts text : List ℕ) (rows : List CacheRow)
+    → record { first = first; entries = entries; texts = texts } ≡ begun (first_place rows) rows
+    → count ≡ length rows → size ≡ first + length texts
+    → text ≡ (header_text indexid seq count size ++ entries) ++ texts
+    → text ≡ cache_text indexid seq rows
+whole_text indexid seq first count size entries texts text rows same n s is =
+    let f : first ≡ first_place rows = ap (λ (b : Begun). b.first) same in
+    let listed : entries ≡ entries_from (first_place rows) rows = ap (λ (b : Begun). b.entries) same in
+    let spelled : texts ≡ texts_from (first_place rows) rows = ap (λ (b : Begun). b.texts) same in
+    let place : size ≡ place_behind (first_place rows) rows = s ∙ ap (λ (k : ℕ). k + length texts) f ∙ ap (λ (t : List ℕ). first_place rows + length t) spelled ∙ texts_length (first_place rows) rows in
+    is ∙ append_assoc (header_text indexid seq count size) entries texts
+    ∙ ap (λ (k : ℕ). header_text indexid seq k size ++ entries ++ texts) n
+    ∙ ap (λ (k : ℕ). header_text indexid seq (length rows) k ++ entries ++ texts) place
+    ∙ ap (λ (t : List ℕ). header_text indexid seq (length rows) (place_behind (first_place rows) rows) ++ t ++ texts) listed
+    ∙ ap (λ (t : List ℕ). header_text indexid seq (length rows) (place_behind (first_place rows) rows) ++ entries_from (first_place rows) rows ++ t) spelled
+
+-- two pieces in turn
+pub two_more : (head e t made a b one two : List ℕ) → made ≡ head → a ≡ e → b ≡ t → one ≡ made ++ a
+    → two ≡ one ++ b → two ≡ (head ++ e) ++ t
+two_more head e t made a b one two h p q r s = s ∙ rw (r, h, p, q) refl
 
 -- four pieces in turn
 pub four_more : (out a b c d one two three four : List ℕ) (e f g h : List ℕ) → a ≡ e → b ≡ f → c ≡ g

@@ -1,3 +1,4 @@
+pub mod Begun
 pub mod Caches
 pub mod Finding
 pub mod Written

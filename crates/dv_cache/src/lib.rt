@@ -11,4 +11,4 @@ mod writing;
 pub use finding::find;
 pub use law::{found_is_written, one_row, written_is_found};
 pub use row::{CacheRow, Known};
-pub use writing::write;
+pub use writing::{CacheText, write};

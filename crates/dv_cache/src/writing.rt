@@ -1,12 +1,14 @@
-ghost use Rattle.std.specs.Prelude.{◌≡◌, ◌+◌, ◌++◌, ◌<◌, ◌≤◌, ◌^◌, All, List, ℕ, OnOk, IfOk, length};
+ghost use Rattle.std.specs.Prelude.{◌≡◌, ◌+◌, ◌*◌, ◌++◌, ◌<◌, ◌≤◌, ◌^◌, [], ◌∷◌, All, List, ℕ, OnOk, IfOk, length};
 ghost use Rattle.std.specs.Option.{option_map};
 ghost use Rattle.dv_cache.specs.declared.row.CacheRow.{CacheRow};
-ghost use Rattle.dv_cache.specs.Caches.{cache_text, entry_text, fits, header_text, HasFive, kept, known_text, row_entry};
+ghost use Rattle.dv_cache.specs.Begun.{begun};
+ghost use Rattle.dv_cache.specs.Caches.{cache_text, entry_text, first_place, fits, header_text, HasFive, kept, known_text, row_entry};
 
 use crate::fields::{size_of, write_fields};
 use crate::{CacheRow, Known};
 use dv_model::{Bytes, List, NoMemory};
 use std::alloc::Global;
+use std::marker::Model;
 
 // The largest size of a message that is kept.
 const LARGEST_SIZE: u32 = 1 << 31;
@@ -94,6 +96,78 @@ fn header(alloc: Global, indexid: u32, seq: u32, count: u32, size: u32) -> Resul
     Ok(made)
 }
 
+/// The text of a cache file while its rows are added, one after another.
+#[derive(Drop)]
+pub struct CacheText {
+    alloc: Global,
+    first: usize,
+    entries: Bytes,
+    texts: Bytes,
+}
+
+impl Model for CacheText {
+    ghost use Rattle.std.specs.Prelude.{◌+◌, ◌≤◌, length};
+    ghost use Rattle.dv_cache.specs.Begun.{Begun};
+
+    ghost Value = { Begun };
+
+    ghost view = { λ t. record { first = t.first; entries = t.entries; texts = t.texts } };
+
+    ghost invariant = { λ t. (32 ≤ t.first) × (t.first + length t.texts ≤ 1073741824) };
+}
+
+impl CacheText {
+    /// The text of a file that gets so many rows, of which none is added yet. It takes no memory.
+    pub fn begin(alloc: Global, count: u32) -> CacheText
+        requires few { count ≤ 8388608 }
+        ensures { result ≡ begun (32 + 16 * count) [] }
+    {
+        CacheText {
+            alloc,
+            first: 32 + 16 * count as usize,
+            entries: Bytes::new(alloc),
+            texts: Bytes::new(alloc),
+        }
+    }
+
+    /// Adds a row. Its fields are five, where its message is known. After `NoMemory` the text is
+    /// not to be used.
+    pub fn add(&mut self, row: &CacheRow) -> Result<(), NoMemory>
+        requires five { HasFive row.now.known }
+        ensures { OnOk result ((first : ℕ) (rows : List CacheRow) →
+            self.old ≡ begun first rows → self.new ≡ begun first (rows ++ row.now ∷ [])) }
+    {
+        let at = self.first + self.texts.len();
+        let written = write_row(at, row, &mut self.entries, &mut self.texts);
+        if written.is_err() {
+            // A part of the row's fields may stand there.
+            self.texts = Bytes::new(self.alloc);
+        }
+        written
+    }
+
+    /// The whole file, of the rows that were added, under the indexid of the mailbox and a
+    /// sequence. `NoMemory` is the only error.
+    pub fn finish(self, indexid: u32, seq: u32) -> Result<Bytes, NoMemory>
+        ensures { (rows : List CacheRow) → self ≡ begun (first_place rows) rows →
+            length rows ≤ 8388608 → IfOk result (λ text. text ≡ cache_text indexid seq rows) }
+    {
+        let CacheText {
+            alloc,
+            first,
+            entries,
+            texts,
+        } = self;
+        let count = (first - 32) / 16;
+        let size = first + texts.len();
+        let mut text = header(alloc, indexid, seq, count as u32, size as u32)?;
+        text.extend(entries.as_slice())?;
+        drop(entries);
+        text.extend(texts.as_slice())?;
+        Ok(text)
+    }
+}
+
 /// The cache file of these rows, under the indexid of the mailbox and a sequence. The fields of
 /// each row are five. `NoMemory` is the only error.
 pub fn write(
@@ -106,15 +180,9 @@ pub fn write(
     requires few { length rows.now ≤ 8388608 }
     ensures { IfOk result (λ text. text ≡ cache_text indexid seq rows.now) }
 {
-    let first = 32 + 16 * rows.len();
-    let mut entries = Bytes::new(alloc);
-    let mut texts = Bytes::new(alloc);
+    let mut text = CacheText::begin(alloc, rows.len() as u32);
     for row in rows.as_slice() {
-        write_row(first + texts.len(), row, &mut entries, &mut texts)?;
+        text.add(row)?;
     }
-    let size = first + texts.len();
-    let mut text = header(alloc, indexid, seq, rows.len() as u32, size as u32)?;
-    text.extend(entries.as_slice())?;
-    text.extend(texts.as_slice())?;
-    Ok(text)
+    text.finish(indexid, seq)
 }

@@ -1,10 +1,11 @@
 -- The cache file of the mailbox's messages, and its rows as they are held until it is written.
-use Rattle.std.specs.Prelude.{◌≡◌, ◌^◌, ◌<◌, ℕ, Bool, ◌&&◌, nat_le, List, map, Option, Some, None, if◌then◌else◌}
+use Rattle.std.specs.Prelude.{◌≡◌, ◌+◌, ◌*◌, ◌^◌, ◌<◌, ℕ, Bool, ◌&&◌, nat_le, List, map, Option, Some, None, if◌then◌else◌}
 use Rattle.dv_model.specs.declared.types.Mailbox.{Mailbox}
 use Rattle.dv_model.specs.declared.types.Row.{Row}
 use Rattle.dv_model.specs.Journals.{Mail, Held, Damaged}
 use Rattle.dv_cache.specs.declared.row.CacheRow.{CacheRow}
 use Rattle.dv_cache.specs.declared.row.Known.{Known}
+use Rattle.dv_cache.specs.Begun.{Begun, begun}
 use Rattle.dv_cache.specs.Caches.{cache_text}
 use Rattle.dv_cache.specs.Written.{AreWritable}
 use Rattle.dv_openings.specs.TrueCaches.{cached_rows, known_in}
@@ -28,6 +29,10 @@ held_row mail uid = record { uid = uid; known = held_of (mail uid) }
 -- those of the mailbox's rows
 abbrev pub held_rows : (ℕ → Mail) → List Row → List CacheRow
 held_rows mail rows = map (λ row. held_row mail row.uid) rows
+
+-- the text of a file of so many rows, of which the rows of these messages were added
+abbrev pub held_text : (ℕ → Mail) → ℕ → List Row → Begun
+held_text mail count rows = begun (32 + 16 * count) (held_rows mail rows)
 
 -- ---- the file
 

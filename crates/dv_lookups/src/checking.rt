@@ -1,21 +1,22 @@
 //! The cache file that a CHECK writes.
 
-ghost use Rattle.std.specs.Prelude.{◌≡◌, ◌^◌, ◌<◌, ◌≤◌, ℕ, All, IfOk, length, map};
+ghost use Rattle.std.specs.Prelude.{◌≡◌, ◌^◌, ◌<◌, ◌≤◌, ℕ, List, IfOk, length, map};
 ghost use Rattle.dv_model.specs.Fields.{field_of};
 ghost use Rattle.dv_model.specs.Journals.{Held, Mail};
 ghost use Rattle.dv_cache.specs.declared.row.CacheRow.{CacheRow};
-ghost use Rattle.dv_cache.specs.Caches.{HasFive, cache_text};
+ghost use Rattle.dv_cache.specs.Begun.{begun};
+ghost use Rattle.dv_cache.specs.Caches.{HasFive, cache_text, first_place};
 ghost use Rattle.dv_shelf.specs.Causes.{HasCauseOf};
 ghost use Rattle.dv_shelf.specs.Folders.{counted};
 ghost use Rattle.dv_chain.specs.Openings.{OnlyLooks};
 ghost use Rattle.dv_mails.specs.Reading.{ReadsMails, mail_at};
 ghost use Rattle.dv_openings.specs.TrueCaches.{kept_names};
-ghost use Rattle.dv_lookups.specs.Checks.{IsCacheText, held_of, held_row, held_rows};
+ghost use Rattle.dv_lookups.specs.Checks.{IsCacheText, held_of, held_row, held_text};
 ghost use Rattle.dv_lookups.specs.Founds.{AreMessages};
 
 use crate::memory::in_memory;
 use dv_apply::Live;
-use dv_cache::{CacheRow, Known, write};
+use dv_cache::{CacheRow, CacheText, Known};
 use dv_chain::Chain;
 use dv_fields::{field_of, physical, virtual_size};
 use dv_mails::{MailFile, read_mail};
@@ -74,16 +75,12 @@ fn cache_row<S: Shelf>(alloc: Global, shelf: &mut S, uid: u32) -> Result<CacheRo
     Ok(CacheRow { uid, known })
 }
 
-// The rows of a cache file of the mailbox.
-fn cache_rows<S: Shelf>(
-    alloc: Global,
-    shelf: &mut S,
-    live: &Live,
-) -> Result<List<CacheRow>, ShelfFault>
-    ensures rows { S.tells → IfOk result (λ rows.
-        rows ≡ held_rows (mail_at (S.files shelf.old)) live.now.mailbox.rows) }
-    ensures five { IfOk result (All (λ (row : CacheRow). HasFive row.known)) }
-    ensures count { IfOk result (λ rows. length rows ≡ length live.now.mailbox.rows) }
+// The text of a cache file to which the rows of the mailbox were added, one by one.
+fn rows_added<S: Shelf>(alloc: Global, shelf: &mut S, live: &Live) -> Result<CacheText, ShelfFault>
+    requires few { length live.now.mailbox.rows ≤ 8388608 }
+    ensures rows { S.tells → IfOk result (λ text.
+        text ≡ held_text (mail_at (S.files shelf.old)) (length live.now.mailbox.rows)
+        live.now.mailbox.rows) }
     // Nothing is changed.
     ensures looks { S.tells →
         OnlyLooks S.files S.may_leave S.moment S.left_since shelf.old shelf.new }
@@ -93,25 +90,24 @@ fn cache_rows<S: Shelf>(
     ensures cause { HasCauseOf ShelfFault.Failed
         (S.fault_count shelf.old) (S.fault_count shelf.new) result }
 {
-    let mut rows = List::new(alloc);
+    let mut text = CacheText::begin(alloc, live.count());
     for k in 0..live.count() {
         let row = cache_row(alloc, shelf, live.row(k).uid)?;
-        match rows.push(row) {
+        match text.add(&row) {
             Ok(()) => (),
             Err(_) => return Err(ShelfFault::NoMemory),
         }
     }
-    Ok(rows)
+    Ok(text)
 }
 
-// The text of these rows.
-fn text_of(alloc: Global, indexid: u32, seq: u32, rows: &List<CacheRow>) -> Result<Bytes, NoMemory>
-    requires five { All (λ (row : CacheRow). HasFive row.known) rows.now }
-    requires few { length rows.now ≤ 8388608 }
-    ensures text { IfOk result (λ text. text ≡ cache_text indexid seq rows.now) }
+// The whole text, where all rows were added.
+fn text_of(text: CacheText, indexid: u32, seq: u32) -> Result<Bytes, NoMemory>
+    ensures text { (rows : List CacheRow) → text ≡ begun (first_place rows) rows →
+        length rows ≤ 8388608 → IfOk result (λ made. made ≡ cache_text indexid seq rows) }
     ensures wide { (indexid < 2 ^ 32) × (seq < 2 ^ 32) }
 {
-    write(alloc, indexid, seq, rows)
+    text.finish(indexid, seq)
 }
 
 /// The cache file of the mailbox under a sequence: the sizes and five fields of each row's message,
@@ -139,6 +135,6 @@ pub fn cache_of_messages<S: Shelf>(
 {
     // The mailbox is valid.
     let _next_uid = chain.live.next_uid();
-    let rows = cache_rows(alloc, shelf, &chain.live)?;
-    in_memory(text_of(alloc, chain.indexid, seq, &rows))
+    let text = rows_added(alloc, shelf, &chain.live)?;
+    in_memory(text_of(text, chain.indexid, seq))
 }

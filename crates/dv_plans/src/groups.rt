@@ -59,8 +59,8 @@ pub fn write_group(
     ensures ready { IfOk result (IsGroupReady live.new) }
 {
     let group = group_from(alloc, c, live, uids, guids)?;
-    let text = group_text(alloc, &group)?;
     let prepared = prepare(live, &group)?;
+    let text = group_text(alloc, &group)?;
     Ok(Written {
         group,
         text,

@@ -13,7 +13,6 @@ mod making;
 mod places;
 mod plan;
 mod renewals;
-mod snapshots;
 mod times;
 mod turns;
 
@@ -23,4 +22,3 @@ pub use guids::message_guid;
 pub use limits::{is_empty, limit_met};
 pub use making::make_ready;
 pub use plan::Plan;
-pub use snapshots::snapshot_at;

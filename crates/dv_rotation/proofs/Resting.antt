@@ -7,7 +7,7 @@ use Rattle.dv_shelf.proofs.FolderLemmas.{with_same}
 use Rattle.dv_shelf.proofs.Moments.{weaker}
 use Rattle.dv_logfile.proofs.Patches.{written_again}
 use Rattle.dv_openings.specs.Numbers.{OpensAs}
-use Rattle.dv_openings.specs.Openings.{Finds, IsFound}
+use Rattle.dv_openings.specs.Openings.{Finds}
 use Rattle.dv_chain.specs.declared.chain.Chain.{Chain}
 use Rattle.dv_chain.specs.Openings.{HasBounds, OnlyLooks}
 use Rattle.dv_chain.specs.Rest.{HoldsAlone, IsResting, Last, Nothing, Owed, Rests, next_mark}

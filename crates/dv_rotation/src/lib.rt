@@ -14,6 +14,6 @@ mod turning;
 pub use checkpoints::checkpoint;
 pub use fault::{ChainFault, TurnEnd};
 pub use rotation::{finish, rotate};
-pub use snapshots::snapshot;
+pub use snapshots::{snapshot, snapshot_at};
 pub use texts::Turn;
 pub use turning::turn;

@@ -23,8 +23,8 @@ use dv_chain::Chain;
 use dv_keeping::repair;
 use dv_model::{Bytes, List, Mark};
 use dv_phases::clear;
-use dv_plans::{StoreFault, snapshot_at};
-use dv_rotation::{Turn, checkpoint};
+use dv_plans::StoreFault;
+use dv_rotation::{Turn, checkpoint, snapshot_at};
 use dv_shelf::{Failed, Shelf};
 
 /// Where the first record of a new log stands.

@@ -8,12 +8,11 @@ use Rattle.dv_model.specs.declared.types.Row.{Row}
 use Rattle.dv_formats.specs.Snapshots.{AreBytes, Fits, header_text, row_text, tables_text}
 use Rattle.dv_index.specs.Fronts.{with_rows}
 use Rattle.dv_index.proofs.Texts.{snapshot_written, text_more}
-use Rattle.dv_rotation.specs.Texts.{place_of}
-use Rattle.dv_rotation.proofs.snapshots.snapshot.Goals as goal
+use Rattle.dv_rotation.proofs.snapshots.snapshot_at.Goals as goal
 
 pub loop-k-preserved : goal.loop-k-preserved
 loop-k-preserved c =
-    let rows : List Row = c.args.chain.now.live.mailbox.rows in
+    let rows : List Row = c.args.live.now.mailbox.rows in
     let k = c.loop-k.k in
     let row : Row = c.row.result.now in
     let less : k < length rows = omega (arith, c.loop-k-test.true, c.count-k-end.ensures) in
@@ -26,22 +25,21 @@ loop-k-preserved c =
 
 pub returns : goal.returns
 returns c =
-    let chain = c.args.chain.now in
-    let m = chain.live.mailbox in
+    let m = c.args.live.now.mailbox in
+    let indexid = c.args.indexid in
+    let mark = c.args.mark in
     let rows : List Row = m.rows in
     let k = c.loop-k.k in
     let front = c.in_ok-text.text in
     let is : c.in_ok-head.head ≡ with_rows [] m = c.in_ok-head.ensures.is in
     let past : length rows ≤ k = omega (arith, c.loop-k-test.false, c.count-k-end.ensures) in
     let all : take k rows ≡ rows = take_all k rows past in
-    let begun : front ≡ header_text 2 m chain.indexid (place_of chain) ++ tables_text m =
-    subst (λ (h : Mailbox). front ≡ header_text 2 (with_rows rows h) chain.indexid (place_of chain) ++ tables_text h) is (c.in_ok-text.ensures.text rows c.tally_of.ensures) in
+    let begun : front ≡ header_text 2 m indexid mark ++ tables_text m =
+    subst (λ (h : Mailbox). front ≡ header_text 2 (with_rows rows h) indexid mark ++ tables_text h) is (c.in_ok-text.ensures.text rows c.tally_of.ensures) in
     let written : c.loop-k.text ≡ front ++ flat_map (row_text 2 m) (take k rows) =
     subst (λ (h : Mailbox). c.loop-k.text ≡ front ++ flat_map (row_text 2 h) (take k rows)) is c.loop-k.invariant.text in
-    record {
-      text = snapshot_written m chain.indexid (place_of chain) front c.loop-k.text c.head_of.ensures.valid
-          (subst (λ (h : Mailbox). Fits (with_rows [] h) chain.indexid (place_of chain)) is c.in_ok-text.ensures.fits)
-          (subst (λ (rs : List Row). All (λ (r : Row). r.flags < 256) rs) all c.loop-k.invariant.flags)
-          (subst (λ (rs : List Row). All (λ (r : Row). All AreBytes r.parts) rs) all c.loop-k.invariant.parts)
-          begun (written ∙ ap (λ (rs : List Row). front ++ flat_map (row_text 2 m) rs) all);
-    }
+    snapshot_written m indexid mark front c.loop-k.text c.head_of.ensures.valid
+    (subst (λ (h : Mailbox). Fits (with_rows [] h) indexid mark) is c.in_ok-text.ensures.fits)
+    (subst (λ (rs : List Row). All (λ (r : Row). r.flags < 256) rs) all c.loop-k.invariant.flags)
+    (subst (λ (rs : List Row). All (λ (r : Row). All AreBytes r.parts) rs) all c.loop-k.invariant.parts)
+    begun (written ∙ ap (λ (rs : List Row). front ++ flat_map (row_text 2 m) rs) all)

@@ -1,34 +1,30 @@
-use Rattle.std.proofs.Common.{rules, ◌≡◌, ◌∙◌, ◌+◌, ◌<◌, List, [], ◌∷◌, ◌++◌, All, length, take, ap, subst, sym, arith, length-append}
-use Rattle.std.proofs.lemmas.List.Elements.{All-append, All-cons, All-nil}
+use Rattle.std.proofs.Common.{rules, ◌≡◌, ◌∙◌, ◌+◌, ◌*◌, ◌<◌, List, [], ◌∷◌, ◌++◌, length, take, ap, arith}
 use Rattle.std.proofs.lemmas.Result.{err_from_is_err_and}
 use Rattle.dv_cache.specs.declared.row.CacheRow.{CacheRow}
-use Rattle.dv_cache.specs.Caches.{HasFive}
+use Rattle.dv_cache.specs.Begun.{begun}
 use Rattle.dv_mails.proofs.Looking.{reads_more}
 use Rattle.dv_mails.specs.Reading.{mail_at}
 use Rattle.dv_shelf.specs.Folders.{Folder}
 use Rattle.dv_lookups.specs.Checks.{held_row, held_rows}
 use Rattle.dv_lookups.proofs.Holding.{rows_more}
-use Rattle.dv_lookups.proofs.checking.cache_rows.Goals as goal
+use Rattle.dv_lookups.proofs.checking.rows_added.Goals as goal
 
 pub loop-k-preserved : goal.loop-k-preserved
 loop-k-preserved g c =
     let folder = g.S.Shelf.files c.args.shelf.now in
     let rows = c.args.live.now.mailbox.rows in
+    let first = 32 + 16 * length rows in
     let k = c.loop-k.k in
     let inv = c.loop-k.invariant in
     let row = c.in_ok-row.row in
-    let five : CacheRow → Type 0 = λ r. HasFive r.known in
     let less : k < length rows = omega (arith, c.loop-k-test.true, c.count-k-end.ensures) in
-    let pushed : c.push.new.self ≡ c.loop-k.rows ++ row ∷ [] = c.in-Ok.ensures.ok in
     record {
       rows = λ told.
           let held : row ≡ held_row (mail_at folder) c.row.result.now.uid =
           c.in_ok-row.ensures.row told ∙ ap (λ (f : Folder). held_row (mail_at f) c.row.result.now.uid) (inv.looks told).same in
-          pushed ∙ ap (λ (xs : List CacheRow). xs ++ row ∷ []) (inv.rows told)
-          ∙ ap (λ (r : CacheRow). held_rows (mail_at folder) (take k rows) ++ r ∷ []) held
-          ∙ rows_more (mail_at folder) rows k c.row.result.now less c.row.ensures;
-      five = subst (All five) (sym pushed) (All-append five c.loop-k.rows (row ∷ []) inv.five (All-cons five row [] c.in_ok-row.ensures.five (All-nil five)));
-      count = omega (arith, ap length pushed, length-append c.loop-k.rows (row ∷ []), inv.count);
+          c.in-Ok.ensures first (held_rows (mail_at folder) (take k rows)) (inv.rows told)
+          ∙ ap (λ (r : CacheRow). begun first (held_rows (mail_at folder) (take k rows) ++ r ∷ [])) held
+          ∙ ap (λ (all : List CacheRow). begun first all) (rows_more (mail_at folder) rows k c.row.result.now less c.row.ensures);
       looks = search rules;
       mail_reads = search rules;
       faults = search rules;

@@ -1,16 +1,12 @@
-use Rattle.std.proofs.Common.{◌≡◌, All, length, take}
-use Rattle.dv_cache.specs.declared.row.CacheRow.{CacheRow}
-use Rattle.dv_cache.specs.Caches.{HasFive}
+use Rattle.std.proofs.Common.{◌≡◌, length, take}
 use Rattle.dv_chain.specs.Openings.{OnlyLooks}
 use Rattle.dv_mails.specs.Reading.{after_reads, mail_at}
-use Rattle.dv_lookups.specs.Checks.{held_rows}
-use Rattle.dv_lookups.proofs.checking.cache_rows.Given as goal
+use Rattle.dv_lookups.specs.Checks.{held_text}
+use Rattle.dv_lookups.proofs.checking.rows_added.Given as goal
 
 abbrev pub invariant-loop-k : goal.invariant-loop-k
 invariant-loop-k g l = record {
-  rows : g.S.Shelf.tells → l.rows ≡ held_rows (mail_at (g.S.Shelf.files l.initial.shelf)) (take l.k l.live.mailbox.rows);
-  five : All (λ (row : CacheRow). HasFive row.known) l.rows;
-  count : length l.rows ≡ l.k;
+  rows : g.S.Shelf.tells → l.text ≡ held_text (mail_at (g.S.Shelf.files l.initial.shelf)) (length l.live.mailbox.rows) (take l.k l.live.mailbox.rows);
   looks : g.S.Shelf.tells → OnlyLooks g.S.Shelf.files g.S.Shelf.may_leave g.S.Shelf.moment g.S.Shelf.left_since l.initial.shelf l.shelf;
   mail_reads : g.S.Shelf.mail_reads l.shelf ≡ after_reads (g.S.Shelf.mail_reads l.initial.shelf) l.k;
   faults : g.S.Shelf.fault_count l.shelf ≡ g.S.Shelf.fault_count l.initial.shelf;
