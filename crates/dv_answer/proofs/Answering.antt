@@ -1,6 +1,6 @@
 -- An answer is put together from its parts.
 use Rattle.std.proofs.Common.{◌≡◌, ℕ, true, false, List, [], ◌∷◌, ◌++◌, refl, sym, ◌∙◌, ap}
-use Rattle.std.specs.Prelude.{IfOk, OnOk, Result, Ok, Err}
+use Rattle.std.specs.Prelude.{OnOk, Result, Ok, Err}
 use Rattle.dv_model.specs.declared.types.Command.{Command}
 use Rattle.dv_model.specs.declared.types.Command.TheVariants as command
 use Rattle.dv_model.specs.declared.types.Mailbox.{Mailbox}
@@ -104,6 +104,10 @@ other_answer mail x c e met m q mark step given lines last next by known are is 
 
 -- ---- a result and what is behind it
 
-pub with_both : {X E : Type 0} (r : Result X E) (P : X → Type 0) (Q : Type 0) (R : X → Type 0) → IfOk r P → OnOk r Q → ((x : X) → P x → Q → R x) → IfOk r R
-with_both (Ok x) P Q R p q both = both x p q
-with_both (Err e) P Q R p q both = tt
+pub with_both : {X E P Q R : Type 0} (r : Result X E) → OnOk r P → OnOk r Q → (P → Q → R) → OnOk r R
+with_both (Ok x) p q both = both p q
+with_both (Err e) p q both = tt
+
+-- SELECT has no data
+pub select_data : (mail : ℕ → Mail) (c : Command) → is_select c ≡ true → (v : View) (m : Mailbox) → data_of mail c v m ≡ []
+select_data mail c e v m = let is = select_is c e in rw is refl

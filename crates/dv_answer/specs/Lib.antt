@@ -1,3 +1,4 @@
+pub mod Answers
 pub mod Following
 pub mod Laws
 pub mod Refusing

@@ -22,7 +22,7 @@ fn shown_of(alloc: Global, live: &Live, uid: u32) -> Result<Option<Shown>, NoMem
 pub fn fresh_of(alloc: Global, live: &Live, uids: &[u32]) -> Result<List<Fresh>, NoMemory>
     ensures { IfOk result (λ fresh. fresh ≡ fresh_of live.now.mailbox uids.now) }
 {
-    let mut fresh = List::new(alloc);
+    let mut fresh = List::from_vec(Vec::with_capacity(alloc, uids.len())?);
     for uid in uids {
         let uid = *uid;
         let row = shown_of(alloc, live, uid)?;

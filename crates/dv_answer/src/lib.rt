@@ -4,7 +4,6 @@
 
 mod fresh;
 mod laws;
-mod lines;
 mod numbers;
 mod sends;
 mod session;

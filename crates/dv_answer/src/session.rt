@@ -1,4 +1,4 @@
-ghost use Rattle.std.specs.Prelude.{◌≡◌, ◌↔◌, ◌⊎◌, ◌∷◌, ◌++◌, [], ℕ, Contains, IfOk, None, Ok, OnErr, OnOk, false, true};
+ghost use Rattle.std.specs.Prelude.{◌≡◌, ◌↔◌, ◌⊎◌, ◌∷◌, ◌++◌, [], ℕ, Contains, None, Ok, OnErr, OnOk, false, true};
 ghost use Rattle.dv_model.specs.declared.types.Mailbox.{Mailbox};
 ghost use Rattle.dv_model.specs.declared.types.Command.TheVariants as command;
 ghost use Rattle.dv_model.specs.declared.types.Step.TheVariants.{Full};
@@ -8,18 +8,21 @@ ghost use Rattle.dv_model.specs.Views.{empty_view, moved, said};
 ghost use Rattle.dv_responses.specs.Depth.{IsShallow};
 ghost use Rattle.dv_responses.specs.Met.{met_of};
 ghost use Rattle.dv_responses.specs.Supplied.{AreSupplied};
+ghost use Rattle.dv_answer.specs.Answers.{IsAnswered};
 ghost use Rattle.dv_answer.specs.Following.{IsAbreast, Leads, Tracks, new_follower, untold};
 ghost use Rattle.dv_answer.specs.Refusing.{own_refusal};
 
 use crate::fresh::{fresh_of, retain_untold};
-use crate::lines::joined;
 use crate::numbers::missing_number;
 use dv_apply::Live;
-use dv_model::{Command, List, Mark, NoMemory, Reply, Step};
-use dv_responses::{Met, data_lines, ending, is_select, select_lines, step_of, uids_looked_at};
+use dv_model::{Command, Mark, NoMemory, Reply, Step};
+use dv_responses::{
+    Met, Responses, add_data_lines, add_select_lines, data_room, ending, is_select, step_of,
+    uids_looked_at,
+};
 use dv_search::Mail;
 use dv_touched::Touched;
-use dv_view::View;
+use dv_view::{Replies, View};
 use std::alloc::Global;
 use std::marker::Model;
 use std::mem;
@@ -117,51 +120,68 @@ impl Session {
         }
     }
 
-    /// Shows the whole mailbox anew, behind so many entries of the log, and gives the lines of that
+    // About how many lines the answer to a command has that looks at these UIDs.
+    fn lines_of(&self, c: &Command, live: &Live, looked_at: &[u32]) -> usize {
+        let told = self.touched.uids().len();
+        match c {
+            Command::Select => live.count() as usize,
+            Command::Fetch { .. } => told.saturating_add(looked_at.len()),
+            _ => told,
+        }
+    }
+
+    /// Shows the whole mailbox anew, behind so many entries of the log, and adds the lines of that
     /// (RFC 3501, section 6.3.1) and then this last one. After `NoMemory`, which is the only error,
     /// the session is as before. The time is in proportion to the rows.
-    pub fn select(&mut self, live: &Live, told: u64, last: Reply) -> Result<List<Reply>, NoMemory>
+    pub fn select<R: Replies>(
+        &mut self,
+        live: &Live,
+        told: u64,
+        last: Reply,
+        replies: &mut R,
+    ) -> Result<(), NoMemory>
         ensures state { OnOk result (self.new.state ≡ record {
           selected = true;
           view = moved Full empty_view live.now.mailbox;
           told = told;
         }) }
-        ensures said { IfOk result (λ replies. replies ≡ told_of command.Select live.now.mailbox
-            empty_view (moved Full empty_view live.now.mailbox) ++ last ∷ []) }
+        ensures said { OnOk result (replies.new ≡ R.with replies.old
+            (told_of command.Select live.now.mailbox empty_view
+            (moved Full empty_view live.now.mailbox) ++ last ∷ [])) }
         ensures touched { OnOk result (self.new.touched ≡ []) }
         ensures abreast { OnOk result (IsAbreast live.now.mailbox self.new) }
         ensures err { OnErr result (self.new ≡ self.old) }
     {
         let view = View::of(self.alloc, live)?;
-        let lines = select_lines(self.alloc, live, &view)?;
-        let replies = joined(List::new(self.alloc), lines, last)?;
+        add_select_lines(self.alloc, live, &view, replies)?;
+        replies.take(last)?;
         self.touched.clear();
         self.view = view;
         self.selected = true;
         self.told = told;
-        Ok(replies)
+        Ok(())
     }
 
-    /// Moves the view on to the mailbox, behind so many entries of the log, and gives these lines,
-    /// then what is told of the move, and then this last line. After `NoMemory`, which is the only
-    /// error, the session is as before. The time is that of the touched UIDs and of the lines; only
-    /// where rows leave are all gone through.
-    pub fn move_on(
+    /// Moves the view on to the mailbox, behind so many entries of the log, and adds what is told of
+    /// the move, and then this last line. After `NoMemory`, which is the only error, the session is
+    /// as before. The time is that of the touched UIDs and of the lines; only where rows leave are
+    /// all gone through.
+    pub fn move_on<R: Replies>(
         &mut self,
         live: &Live,
         step: Step,
         told: u64,
-        before: List<Reply>,
         last: Reply,
-    ) -> Result<List<Reply>, NoMemory>
+        replies: &mut R,
+    ) -> Result<(), NoMemory>
         requires { Tracks live.now.mailbox self.old.state.view self.old.touched }
         ensures state { OnOk result (self.new.state ≡ record {
           selected = true;
           view = moved step self.old.state.view live.now.mailbox;
           told = told;
         }) }
-        ensures said { IfOk result (λ replies. replies ≡ before ++ said live.now.mailbox
-            self.old.state.view (moved step self.old.state.view live.now.mailbox) ++ last ∷ []) }
+        ensures said { OnOk result (replies.new ≡ R.with replies.old (said live.now.mailbox
+            self.old.state.view (moved step self.old.state.view live.now.mailbox) ++ last ∷ [])) }
         // Rows that have left and aren't told stay touched, and no others.
         ensures touched { OnOk result (self.new.touched
             ≡ untold live.now.mailbox self.new.state.view self.old.touched) }
@@ -170,24 +190,25 @@ impl Session {
     {
         let fresh = fresh_of(self.alloc, live, self.touched.uids())?;
         let next_uid = live.next_uid();
-        let said = self.view.said_by(next_uid, &fresh, live.names(), step)?;
-        let replies = joined(before, said, last)?;
-        self.view.follow(next_uid, &fresh, step)?;
+        self.view
+            .add_said_by(next_uid, &fresh, live.names(), step, replies)?;
+        replies.take(last)?;
+        self.view.follow(next_uid, fresh, step)?;
         let mut uids = mem::replace(&mut self.touched, Touched::empty(self.alloc)).into_uids();
         retain_untold(&mut uids, &self.view, live);
         self.touched = Touched::of(uids);
         self.selected = true;
         self.told = told;
-        Ok(replies)
+        Ok(())
     }
 
     /// Answers a command that isn't refused, behind so many entries of the log and at this place of
-    /// it: the data lines, what is told of the move to the mailbox, and the last line (RFC 3501,
-    /// sections 6 and 7). The facts are those of the messages that the command reads. After
+    /// it: adds the data lines, what is told of the move to the mailbox, and the last line (RFC
+    /// 3501, sections 6 and 7). The facts are those of the messages that the command reads. After
     /// `NoMemory`, which is the only error, the session is as before. The time is that of the
     /// touched UIDs, of the rows that a set names, and of the lines; SELECT and SEARCH go through
     /// all rows, and so does a move behind which rows have left.
-    pub fn answer(
+    pub fn answer<R: Responses>(
         &mut self,
         c: &Command,
         live: &Live,
@@ -195,7 +216,8 @@ impl Session {
         met: Met,
         mark: Mark,
         told: u64,
-    ) -> Result<List<Reply>, NoMemory>
+        replies: &mut R,
+    ) -> Result<(), NoMemory>
         requires shallow { IsShallow c.now }
         requires allowed { own_refusal self.old.state c.now ≡ None }
         requires abreast { IsAbreast live.now.mailbox self.old }
@@ -204,18 +226,20 @@ impl Session {
         ensures answer { (mail : ℕ → Message) (met_mailbox : Mailbox)
             → met ≡ met_of c.now self.old.state.view met_mailbox
             → AreSupplied mail c.now self.old.state.view live.now.mailbox facts.now
-            → IfOk result (λ replies. record { replies = replies; next = self.new.state }
-            ≡ answer mail self.old.state c.now met_mailbox told live.now.mailbox mark) }
+            → OnOk result (IsAnswered R.with replies.old replies.new self.new.state
+            (answer mail self.old.state c.now met_mailbox told live.now.mailbox mark)) }
         ensures abreast { OnOk result (IsAbreast live.now.mailbox self.new) }
         ensures err { OnErr result (self.new ≡ self.old) }
     {
-        let data = data_lines(self.alloc, c, &self.view, live, facts)?;
         let looked_at = uids_looked_at(self.alloc, c, &self.view)?;
         let last = ending(c, &looked_at, facts, live, met, mark);
+        let lines = self.lines_of(c, live, looked_at.as_slice());
+        replies.expect(lines, data_room(looked_at.as_slice(), facts))?;
+        add_data_lines(self.alloc, c, &self.view, live, facts, replies)?;
         if is_select(c) {
-            self.select(live, told, last)
+            self.select(live, told, last, replies)
         } else {
-            self.move_on(live, step_of(c), told, data, last)
+            self.move_on(live, step_of(c), told, last, replies)
         }
     }
 }

@@ -40,7 +40,7 @@ fn selected(alloc: Global, live: &Live) -> Result<Session, Fault>
         appended: None,
         modified: List::new(alloc),
     };
-    let _lines = session.select(live, 0, last)?;
+    session.select(live, 0, last, &mut List::new(alloc))?;
     Ok(session)
 }
 
@@ -102,7 +102,8 @@ fn answer(alloc: Global, live: &Live, session: &mut Session) -> Result<usize, Fa
         appended: None,
         modified: List::new(alloc),
     };
-    let lines = session.answer(&Command::Noop, live, &facts, met, MARK, 0)?;
+    let mut lines = List::new(alloc);
+    session.answer(&Command::Noop, live, &facts, met, MARK, 0, &mut lines)?;
     Ok(lines.len())
 }
 

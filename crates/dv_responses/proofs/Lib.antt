@@ -1,6 +1,6 @@
 mod Closing
 pub mod Having
-mod Items
+pub mod Items
 mod Lines
 mod Naming
 mod Standing

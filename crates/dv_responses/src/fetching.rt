@@ -1,4 +1,4 @@
-ghost use Rattle.std.specs.Prelude.{◌≡◌, ◌≤◌, ◌++◌, ℕ, All, List, IfOk, OnOk, Option, Some, cond, flat_map, length, map, slice_get};
+ghost use Rattle.std.specs.Prelude.{◌≡◌, ◌≤◌, ℕ, All, List, IfOk, OnOk, Option, Some, cond, flat_map, length, map, slice_get};
 ghost use Rattle.std.specs.Option.{option_copied};
 ghost use Rattle.dv_model.specs.declared.types.Command.TheVariants as command;
 ghost use Rattle.dv_model.specs.Journals.{Mail as Message};
@@ -9,10 +9,11 @@ ghost use Rattle.dv_responses.specs.Fetched.{AreFetched, HasValue, lines_from, n
 ghost use Rattle.dv_responses.specs.Rows.{IsNumber, rows_at};
 ghost use Rattle.dv_responses.specs.Supplied.{AreSupplied, DescribesItems, Supplies};
 
+use crate::Responses;
 use crate::kinds::reads_messages;
 use crate::rows::{named, row_at};
 use dv_apply::Live;
-use dv_model::{Bytes, Duplicate, Item, List, NoMemory, Reply, Shown, Span, Value};
+use dv_model::{Bytes, Duplicate, Item, List, NoMemory, Shown, Span, Value};
 use dv_search::{Mail, MailFacts};
 use dv_view::{View, names_at};
 use std::alloc::Global;
@@ -67,8 +68,8 @@ fn value_of(
     }
 }
 
-// How many fields an item asks.
-fn fields_in(item: &Item) -> usize
+/// How many header fields an item of a FETCH asks.
+pub fn fields_in(item: &Item) -> usize
     ensures is { result ≡ length (names_in item.now) }
     ensures small { result ≤ 1 }
 {
@@ -78,8 +79,8 @@ fn fields_in(item: &Item) -> usize
     }
 }
 
-// The values of the items, where they are known of the message.
-fn values_of(
+/// The values of the items, where they are known of the message.
+pub fn values_of(
     alloc: Global,
     live: &Live,
     s: &Shown,
@@ -90,7 +91,7 @@ fn values_of(
         → IfOk result (λ values.
         values ≡ map (value_of live.now.mailbox s.now message) items.now) }
 {
-    let mut values = List::new(alloc);
+    let mut values = List::from_vec(Vec::with_capacity(alloc, items.len())?);
     let mut field = 0;
     for item in items {
         values.push(value_of(alloc, live, s, item, facts, field)?)?;
@@ -100,30 +101,24 @@ fn values_of(
 }
 
 // Adds the line of a row, where its message is known.
-fn add_line(
+fn add_line<R: Responses>(
     alloc: Global,
     live: &Live,
     number: u32,
     s: &Shown,
     items: &[Item],
     facts: Option<&MailFacts>,
-    lines: &mut List<Reply>,
+    lines: &mut R,
 ) -> Result<(), NoMemory>
     ensures { (message : Option (List ℕ))
         → Supplies (DescribesItems items.now) message (option_copied facts.entry)
-        → OnOk result (lines.new
-        ≡ lines.old ++ lines_from live.now.mailbox items.now (number, s.now) message) }
+        → OnOk result (lines.new ≡ R.with lines.old
+        (lines_from live.now.mailbox items.now (number, s.now) message)) }
 {
-    let Some(facts) = facts else {
-        return Ok(());
-    };
-    let values = values_of(alloc, live, s, items, facts)?;
-    lines.push(Reply::Fetch {
-        number,
-        uid: s.uid,
-        values,
-    })?;
-    Ok(())
+    match facts {
+        Some(facts) => lines.take_fetch(alloc, live, number, s, items, facts),
+        None => Ok(()),
+    }
 }
 
 // The facts of a message, or those of nothing where none is read.
@@ -138,20 +133,21 @@ fn facts_for<'a>(
     if reads { facts.of(uid) } else { Some(none) }
 }
 
-// The lines of the rows with these numbers.
-fn lines_at(
+// Adds the lines of the rows with these numbers.
+fn add_lines<R: Responses>(
     alloc: Global,
     live: &Live,
     rows: &[Shown],
     numbers: &[u32],
     items: &[Item],
     facts: &Mail,
-) -> Result<List<Reply>, NoMemory>
+    lines: &mut R,
+) -> Result<(), NoMemory>
     requires { All (IsNumber rows.now) numbers.now }
     ensures { (mail : ℕ → Message) → AreFetched mail live.now.mailbox items.now facts.now
         (rows_at rows.now numbers.now)
-        → IfOk result (λ lines. lines
-        ≡ flat_map (fetch_lines mail live.now.mailbox items.now) (rows_at rows.now numbers.now)) }
+        → OnOk result (lines.new ≡ R.with lines.old
+        (flat_map (fetch_lines mail live.now.mailbox items.now) (rows_at rows.now numbers.now))) }
 {
     let reads = reads_messages(items);
     let none = MailFacts {
@@ -160,18 +156,17 @@ fn lines_at(
         body: None,
         fields: List::new(alloc),
     };
-    let mut lines = List::new(alloc);
     for number in numbers {
         let s = row_at(rows, *number);
         let known = facts_for(reads, facts, s.uid, &none);
-        add_line(alloc, live, *number, s, items, known, &mut lines)?;
+        add_line(alloc, live, *number, s, items, known, lines)?;
     }
-    Ok(lines)
+    Ok(())
 }
 
-/// The FETCH line of each row that the set names, but of those whose message is read and isn't
+/// Adds the FETCH line of each row that the set names, but of those whose message is read and isn't
 /// there (RFC 3501, section 7.4.2).
-pub fn fetch_lines(
+pub fn add_fetch_lines<R: Responses>(
     alloc: Global,
     by_uid: bool,
     set: &List<Span>,
@@ -179,20 +174,22 @@ pub fn fetch_lines(
     view: &View,
     live: &Live,
     facts: &Mail,
-) -> Result<List<Reply>, NoMemory>
+    lines: &mut R,
+) -> Result<(), NoMemory>
     ensures { (mail : ℕ → Message) → AreSupplied mail (command.Fetch by_uid set.now items.now)
         view.now live.now.mailbox facts.now
-        → IfOk result (λ lines. lines
-        ≡ data_of mail (command.Fetch by_uid set.now items.now) view.now live.now.mailbox) }
+        → OnOk result (lines.new ≡ R.with lines.old
+        (data_of mail (command.Fetch by_uid set.now items.now) view.now live.now.mailbox)) }
 {
     let numbers = named(alloc, by_uid, set, view)?;
     let rows = view.rows().as_slice();
-    lines_at(
+    add_lines(
         alloc,
         live,
         rows,
         numbers.as_slice(),
         items.as_slice(),
         facts,
+        lines,
     )
 }

@@ -4,3 +4,4 @@ pub mod LineByLine
 pub mod KeyTexts
 pub mod Printed
 pub mod Grammar
+pub mod FetchLines

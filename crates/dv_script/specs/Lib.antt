@@ -3,3 +3,4 @@ pub mod Sources
 pub mod Rests
 pub mod Opened
 pub mod Printed
+pub mod Fetches

@@ -1,9 +1,9 @@
-ghost use Rattle.std.specs.Prelude.{◌≡◌, ◌++◌, flat_map, IfOk, OnOk};
+ghost use Rattle.std.specs.Prelude.{◌≡◌, ◌++◌, codes, flat_map, IfOk, OnOk};
 ghost use Rattle.dv_model.specs.Texts.{line_text, reply_text, given_text, modified_text, mark_text, word_text};
 ghost use Rattle.dv_model.specs.declared.types.Reply.TheVariants.{Fetch, Search, Done, Gone, Damaged};
+ghost use Rattle.dv_script.specs.Fetches.{fetch_end, fetch_front, numbered};
 
 use crate::pieces::{put, put_around, put_before, put_number, put_numbers};
-use crate::room::room_for;
 use crate::value::put_values;
 use dv_model::{Bytes, List, Mark, NoMemory, Reply, Value, Word};
 use std::alloc::Global;
@@ -21,7 +21,7 @@ pub fn reply_text(alloc: Global, session: &[u8], reply: &Reply) -> Result<Bytes,
 pub fn replies_text(alloc: Global, session: &[u8], replies: &List<Reply>) -> Result<Bytes, NoMemory>
     ensures { IfOk result (λ text. text ≡ flat_map (line_text session.now) replies.now) }
 {
-    let mut text = room_for(alloc, session, replies.as_slice())?;
+    let mut text = List::new(alloc);
     for reply in replies.as_slice() {
         put_line(&mut text, session, reply)?;
     }
@@ -37,13 +37,43 @@ pub fn mark_text(alloc: Global, mark: Mark) -> Result<Bytes, NoMemory>
     Ok(text)
 }
 
-fn put_line(text: &mut Bytes, session: &[u8], reply: &Reply) -> Result<(), NoMemory>
+/// Adds the line of a reply. `NoMemory` is the only error.
+pub fn put_line(text: &mut Bytes, session: &[u8], reply: &Reply) -> Result<(), NoMemory>
     ensures { OnOk result (text.new ≡ text.old ++ line_text session.now reply.now) }
 {
-    put(text, session)?;
-    put(text, b" ")?;
+    put_session(text, session)?;
     put_reply(text, reply)?;
     put(text, b"\n")
+}
+
+/// Adds the line of a FETCH up to its values. `NoMemory` is the only error.
+pub fn begin_fetch(text: &mut Bytes, session: &[u8], number: u32, uid: u32) -> Result<(), NoMemory>
+    ensures { OnOk result (text.new ≡ text.old ++ fetch_front session.now number uid) }
+{
+    put_session(text, session)?;
+    put_numbered(text, number, uid)
+}
+
+/// Adds what stands in the line of a FETCH behind its values. `NoMemory` is the only error.
+pub fn end_fetch(text: &mut Bytes) -> Result<(), NoMemory>
+    ensures { OnOk result (text.new ≡ text.old ++ fetch_end) }
+{
+    put(text, b")\n")
+}
+
+fn put_session(text: &mut Bytes, session: &[u8]) -> Result<(), NoMemory>
+    ensures { OnOk result (text.new ≡ text.old ++ (session.now ++ codes " ")) }
+{
+    put(text, session)?;
+    put(text, b" ")
+}
+
+// A FETCH up to its values.
+fn put_numbered(text: &mut Bytes, number: u32, uid: u32) -> Result<(), NoMemory>
+    ensures { OnOk result (text.new ≡ text.old ++ numbered number uid) }
+{
+    put_around(text, b"* ", number as u64, b" FETCH (UID ")?;
+    put_number(text, uid as u64)
 }
 
 fn put_reply(text: &mut Bytes, reply: &Reply) -> Result<(), NoMemory>
@@ -83,8 +113,7 @@ fn put_reply(text: &mut Bytes, reply: &Reply) -> Result<(), NoMemory>
 fn put_fetch(text: &mut Bytes, number: u32, uid: u32, values: &List<Value>) -> Result<(), NoMemory>
     ensures { OnOk result (text.new ≡ text.old ++ reply_text (Fetch number uid values.now)) }
 {
-    put_around(text, b"* ", number as u64, b" FETCH (")?;
-    put_before(text, b"UID ", uid as u64)?;
+    put_numbered(text, number, uid)?;
     put_values(text, values.as_slice())?;
     put(text, b")")
 }

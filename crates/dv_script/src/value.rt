@@ -11,35 +11,38 @@ pub(crate) fn put_values(text: &mut Bytes, values: &[Value]) -> Result<(), NoMem
     ensures { OnOk result (text.new ≡ text.old ++ flat_map (λ v. 32 ∷ value_text v) values.now) }
 {
     for value in values {
-        put(text, b" ")?;
         put_value(text, value)?;
     }
     Ok(())
 }
 
-fn put_value(text: &mut Bytes, value: &Value) -> Result<(), NoMemory>
-    ensures { OnOk result (text.new ≡ text.old ++ value_text value.now) }
+/// Adds a value of a FETCH, behind a space. `NoMemory` is the only error.
+pub fn put_value(text: &mut Bytes, value: &Value) -> Result<(), NoMemory>
+    ensures { OnOk result (text.new ≡ text.old ++ 32 ∷ value_text value.now) }
 {
     match value {
         Value::Flags(flags, keywords) => put_flags(text, *flags, keywords),
-        Value::Size(n) => put_before(text, b"RFC822.SIZE ", *n),
+        Value::Size(n) => put_before(text, b" RFC822.SIZE ", *n),
         Value::Body(bytes) => put_body(text, bytes),
         Value::Field(name, found) => put_field(text, name, found),
-        Value::Modseq(n) => put_around(text, b"MODSEQ (", *n, b")"),
+        Value::Modseq(n) => put_around(text, b" MODSEQ (", *n, b")"),
     }
 }
 
-fn put_body(text: &mut Bytes, bytes: &Bytes) -> Result<(), NoMemory>
-    ensures { OnOk result (text.new ≡ text.old ++ value_text (Body bytes.now)) }
+/// Adds a message's bytes as the value of a FETCH, behind a space. `NoMemory` is the only error.
+pub fn put_body(text: &mut Bytes, bytes: &Bytes) -> Result<(), NoMemory>
+    ensures { OnOk result (text.new ≡ text.old ++ 32 ∷ value_text (Body bytes.now)) }
 {
-    put(text, b"BODY[] ")?;
+    put(text, b" BODY[] ")?;
     put_literal(text, bytes)
 }
 
-fn put_field(text: &mut Bytes, name: &Bytes, found: &Option<Bytes>) -> Result<(), NoMemory>
-    ensures { OnOk result (text.new ≡ text.old ++ value_text (Field name.now found.now)) }
+/// Adds a field's name and its value, or that there is none, as the value of a FETCH, behind a
+/// space. `NoMemory` is the only error.
+pub fn put_field(text: &mut Bytes, name: &Bytes, found: &Option<Bytes>) -> Result<(), NoMemory>
+    ensures { OnOk result (text.new ≡ text.old ++ 32 ∷ value_text (Field name.now found.now)) }
 {
-    put(text, b"FIELD ")?;
+    put(text, b" FIELD ")?;
     put(text, name.as_slice())?;
     match found {
         None => put(text, b" NIL"),
@@ -59,9 +62,9 @@ fn put_literal(text: &mut Bytes, bytes: &Bytes) -> Result<(), NoMemory>
 }
 
 fn put_flags(text: &mut Bytes, flags: u8, keywords: &List<Bytes>) -> Result<(), NoMemory>
-    ensures { OnOk result (text.new ≡ text.old ++ value_text (Flags flags keywords.now)) }
+    ensures { OnOk result (text.new ≡ text.old ++ 32 ∷ value_text (Flags flags keywords.now)) }
 {
-    put(text, b"FLAGS (")?;
+    put(text, b" FLAGS (")?;
     let first = put_system_flags(text, flags)?;
     put_keywords(text, first, keywords)?;
     put(text, b")")

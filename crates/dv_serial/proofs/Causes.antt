@@ -1,6 +1,7 @@
 -- A failure of the disk is told only where its count rose.
 use Rattle.std.proofs.Common.{◌≡◌, ℕ, ◌≤◌, false, List, [], ◌∷◌, Result, Ok, Err, refl, sym, ap, subst}
-use Rattle.std.specs.Prelude.{IfOk}
+use Rattle.std.specs.Prelude.{IfOk, OnOk}
+use Rattle.std.proofs.lemmas.Result.{on_ok_weaker}
 use Rattle.dv_model.specs.declared.types.Command.{Command}
 use Rattle.dv_model.specs.declared.types.Mailbox.{Mailbox}
 use Rattle.dv_model.specs.declared.types.Mark.{Mark}
@@ -13,9 +14,12 @@ use Rattle.dv_model.specs.Transcripts.{is_unavailable, unavailable_count}
 use Rattle.dv_plans.specs.declared.fault.StoreFault.{StoreFault}
 use Rattle.dv_plans.specs.declared.fault.StoreFault.TheVariants as fault
 use Rattle.dv_plans.specs.Faults.{HasStoreCause}
-use Rattle.dv_serial.specs.Lines.{IsFaultLine}
+use Rattle.dv_answer.specs.Answers.{IsAnswered}
+use Rattle.dv_serial.specs.Lines.{IsFaultLine, fault_lines}
 use Rattle.dv_serial.specs.Serves.{HasFailures}
+use Rattle.dv_serial.specs.Taking.{Takes, given}
 use Rattle.dv_serial.proofs.Counting.{AreAvailable, answer_available, counts_none, one_available, rose_none}
+use Rattle.dv_serial.proofs.Taken.{always, given_answer, given_has}
 
 module _ (before now : ℕ) where
   -- lines that tell of none
@@ -38,8 +42,35 @@ module _ (before now : ℕ) where
   fault_failures f (Err e) cause is = cause.later
 
   -- an answer by the rules
-  pub told_failures : {E : Type 0} (result : Result (List Reply) E) (next : State) (mail : ℕ → Mail) (x : State) (c : Command) (met : Mailbox) (q : ℕ) (m : Mailbox) (mark : Mark) → before ≤ now
+  told_failures : {E : Type 0} (result : Result (List Reply) E) (next : State) (mail : ℕ → Mail) (x : State) (c : Command) (met : Mailbox) (q : ℕ) (m : Mailbox) (mark : Mark) → before ≤ now
       → IfOk result (λ replies. record { replies = replies; next = next } ≡ answer mail x c met q m mark) → HasFailures before now result
   told_failures (Ok replies) next mail x c met q m mark later is =
       available_failures replies later (subst AreAvailable (sym (ap (λ (a : Answer). a.replies) is)) (answer_available mail x c met q m mark))
   told_failures (Err e) next mail x c met q m mark later is = later
+
+  -- the same, where the lines were taken
+  module _ {E R : Type 0} (with : R → List Reply → R) (said said_now : R) (result : Result (Unit {0}) E) where
+    pub taken_line : (line : Reply) → before ≤ now → is_unavailable line ≡ false → OnOk result (said_now ≡ with said (line ∷ [])) → Takes with said said_now result (λ told. HasFailures before now told)
+    taken_line line later available is = record {
+      replies = line ∷ [];
+      taken = is;
+      holds = line_failures line (given (line ∷ []) result) later available (given_has (λ lines. lines ≡ line ∷ []) (line ∷ []) result (always result refl));
+    }
+
+    pub taken_fault : {A : Type 0} (f : StoreFault) → HasStoreCause {A = A} before now (Err f) → OnOk result ((said_now ≡ with said (fault_lines f)) × IsFaultLine f (fault_lines f)) → Takes with said said_now result (λ told. HasFailures before now told)
+    taken_fault f cause is = record {
+      replies = fault_lines f;
+      taken = on_ok_weaker result (λ (x : (said_now ≡ with said (fault_lines f)) × IsFaultLine f (fault_lines f)). x.0) is;
+      holds = fault_failures f (given (fault_lines f) result) cause (given_has (IsFaultLine f) (fault_lines f) result (on_ok_weaker result (λ (x : (said_now ≡ with said (fault_lines f)) × IsFaultLine f (fault_lines f)). x.1) is));
+    }
+
+    -- an answer by the rules
+    pub taken_answer : (next : State) (mail : ℕ → Mail) (x : State) (c : Command) (met : Mailbox) (q : ℕ) (m : Mailbox) (mark : Mark) → before ≤ now
+        → OnOk result (IsAnswered with said said_now next (answer mail x c met q m mark)) → Takes with said said_now result (λ told. HasFailures before now told)
+    taken_answer next mail x c met q m mark later both =
+        let a = answer mail x c met q m mark in
+        record {
+          replies = a.replies;
+          taken = on_ok_weaker result (λ (b : IsAnswered with said said_now next a). b.0) both;
+          holds = told_failures (given a.replies result) next mail x c met q m mark later (given_answer _ a next result both);
+        }

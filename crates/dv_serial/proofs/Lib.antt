@@ -13,6 +13,7 @@ pub mod Refusals
 pub mod Seated
 pub mod Outcomes
 pub mod Causes
+pub mod Taken
 pub mod Results
 pub mod Flags
 pub mod Numbering

@@ -107,22 +107,6 @@ module _ {S C : Type 0} (files : S → Folder) (may_leave : S → Folder → Typ
   pub served_attempt : MayBeLeft clock base (play_of clock start attempts) attempt
   served_attempt = may_be_left clock base (play_of clock start attempts) attempt (last_of (IsAttempt base) attempts attempt served.follows.may.each)
 
-  pub served_leaves : Leaves files may_leave moment left_since clock start (attempts ++ attempt ∷ []) old new
-  served_leaves = record { keeps = served.follows.keeps; since = served.since }
-
-  pub served_ends : EndsAt files may_leave moment left_since clock start base attempts line old new
-  served_ends = record { left = attempt ∷ []; is = (refl, served_attempt); leaves = served_leaves; others = served.others }
-
--- want of memory ended a line of which nothing was written
-pub line_ended : {S C : Type 0} (files : S → Folder) (may_leave : S → Folder → Type 0) (moment : S → ℕ) (left_since : S → ℕ → Folder → Type 0) (upcoming : C → ℕ → ℕ) (clock : ℕ → ℕ) (start : Log) (base faults : ℕ) (attempts : List Attempt)
-    (session : ℕ) (line : NamedLine) (result : Result (Unit {0}) LineEnd) (told : Type 0) (taken : List ℕ) (old new : Serving S C)
-    → IsErrAnd result (λ e. e ≡ line_end.NoMemory) → IsErr result
-    → EndsAt files may_leave moment left_since clock start base attempts (session, line.1) old new
-    → RunsLine files may_leave moment left_since upcoming clock start base faults attempts session line result told taken taken old new
-line_ended files may_leave moment left_since upcoming clock start base faults attempts session line (Ok done) told taken old new same err ends = absurd cc
-line_ended files may_leave moment left_since upcoming clock start base faults attempts session line (Err e) told taken old new same err ends =
-    subst (λ (x : LineEnd). RunsLine files may_leave moment left_since upcoming clock start base faults attempts session line (Err x) told taken taken old new) (sym same) (ends, λ _. refl)
-
 -- what holds of an error holds of the result that is it
 pub of_error : (P : Result (Unit {0}) LineEnd → Type 0) (result : Result (Unit {0}) LineEnd) (e : LineEnd) → IsErr result → IsErrAnd result (λ x. x ≡ e) → P (Err e) → P result
 of_error P (Ok done) e err same p = absurd cc

@@ -1,6 +1,7 @@
 -- The line of the session at a place, read or written.
-use Rattle.std.proofs.Common.{◌≡◌, ℕ, ◌+◌, ◌^◌, ◌<◌, ◌≤◌, true, false, List, [], ◌∷◌, length, Option, Some, None, Result, Err, sym, ◌∙◌, ap, subst, arith}
-use Rattle.std.specs.Prelude.{All, IfOk, OnErr}
+use Rattle.std.proofs.Common.{◌≡◌, ℕ, ◌+◌, ◌^◌, ◌<◌, ◌≤◌, true, false, List, [], ◌∷◌, length, Option, Some, None, Result, Err, refl, sym, ◌∙◌, ap, subst, arith}
+use Rattle.std.specs.Prelude.{All, IfOk, OnErr, OnOk}
+use Rattle.std.proofs.lemmas.Result.{on_ok_weaker}
 use Rattle.dv_model.specs.declared.types.Command.{Command}
 use Rattle.dv_model.specs.declared.types.Mailbox.{Mailbox}
 use Rattle.dv_model.specs.declared.types.Reply.{Reply}
@@ -13,6 +14,7 @@ use Rattle.dv_responses.specs.Met.{met_of}
 use Rattle.dv_responses.specs.Supplied.{AreSupplied}
 use Rattle.dv_responses.specs.declared.meeting.Met.{Met}
 use Rattle.dv_search.specs.declared.facts.MailFacts.{MailFacts}
+use Rattle.dv_answer.specs.Answers.{IsAnswered}
 use Rattle.dv_answer.specs.Following.{Follower, IsAbreast, new_follower}
 use Rattle.dv_answer.specs.Refusing.{own_refusal}
 use Rattle.dv_plans.specs.declared.fault.StoreFault.{StoreFault}
@@ -23,16 +25,18 @@ use Rattle.dv_store.specs.Commits.{MayWrite}
 use Rattle.dv_store.specs.Faults.{IsFailure}
 use Rattle.dv_store.specs.Rest.{OnlyReads}
 use Rattle.dv_serial.specs.Following.{EndsAt, Follows, HasStates}
-use Rattle.dv_serial.specs.Lines.{IsFaultLine}
+use Rattle.dv_serial.specs.Lines.{IsFaultLine, fault_lines}
 use Rattle.dv_serial.specs.Others.{LeavesOthers}
 use Rattle.dv_serial.specs.Places.{play_of}
 use Rattle.dv_serial.specs.Serves.{OnlyLooksAt, Serves, seat_at, with_seat}
 use Rattle.dv_serial.specs.Servings.{Serving}
+use Rattle.dv_serial.specs.Taking.{Takes, given}
 use Rattle.dv_serial.specs.Writes.{Commits, IsDone}
 use Rattle.dv_serial.proofs.Looking.{looked_met, looked_supplied, unread_supplied, writes_unread}
 use Rattle.dv_serial.proofs.Refusals.{reads_allowed}
 use Rattle.dv_serial.proofs.Results.{ended_still, own_result, read_ended, read_failed, read_told, write_ended, write_failed, write_told}
 use Rattle.dv_serial.proofs.Seated.{state_at}
+use Rattle.dv_serial.proofs.Taken.{always, given_answer, given_err, given_has}
 
 module _ {S C : Type 0} (files : S → Folder) (may_leave : S → Folder → Type 0) (moment : S → ℕ) (left_since : S → ℕ → Folder → Type 0) (upcoming : C → ℕ → ℕ) (clock : ℕ → ℕ) (start : Log) (base : ℕ) (attempts : List Attempt)
     (before : ℕ) (old : Serving S C) (follows : Follows files may_leave upcoming clock start base before attempts old) (at number : ℕ) (number_is : number ≡ at + 1) (c : Command) (less : at < length old.seats) (small : number < 2 ^ 32) (command : IsCommand c) where
@@ -52,11 +56,15 @@ module _ {S C : Type 0} (files : S → Folder) (may_leave : S → Folder → Typ
       ∙ ap (λ (x : SessionState). own_refusal x c) (sym (state_at old.store.chain.live.mailbox here.states old.seats follows.seats at less))
       ∙ own
 
-  pub seat_refused : {E : Type 0} (r : Reply) (result : Result (List Reply) E) → own_refusal (seat_at old.seats at).state c ≡ Some r
-      → ((f : Folder) → left_since old.store.shelf (moment old.store.shelf) f → may_leave old.store.shelf f) → IfOk result (λ lines. lines ≡ r ∷ [])
-      → Serves files may_leave moment left_since upcoming clock start base before attempts line result old old
-  seat_refused r result own now is =
-      own_result files may_leave moment left_since upcoming clock start base attempts before before line old follows good (omega arith) r result (own_here (Some r) own) now is
+  pub seat_refused : {E R : Type 0} (with : R → List Reply → R) (said said_now : R) (r : Reply) (result : Result (Unit {0}) E) → own_refusal (seat_at old.seats at).state c ≡ Some r
+      → ((f : Folder) → left_since old.store.shelf (moment old.store.shelf) f → may_leave old.store.shelf f) → OnOk result (said_now ≡ with said (r ∷ []))
+      → Takes with said said_now result (λ told. Serves files may_leave moment left_since upcoming clock start base before attempts line told old old)
+  seat_refused with said said_now r result own now is = record {
+    replies = r ∷ [];
+    taken = is;
+    holds = own_result files may_leave moment left_since upcoming clock start base attempts before before line old follows good (omega arith) r (given (r ∷ []) result) (own_here (Some r) own) now
+        (given_has (λ lines. lines ≡ r ∷ []) (r ∷ []) result (always result refl));
+  }
 
   -- ---- a read
 
@@ -67,21 +75,32 @@ module _ {S C : Type 0} (files : S → Folder) (may_leave : S → Folder → Typ
     pub seat_ended : EndsAt files may_leave moment left_since clock start base attempts line old mid
     seat_ended = read_ended files may_leave moment left_since upcoming clock start base attempts before before line old follows good (omega arith) allowed read mid looks reads
 
-    pub seat_failed : {A E : Type 0} (faults : ℕ) (f : StoreFault) (result : Result (List Reply) E) → reads_mail c ≡ true → IsFailure f → HasStoreCause {A = A} before faults (Err f) → IfOk result (IsFaultLine f)
-        → Serves files may_leave moment left_since upcoming clock start base faults attempts line result old mid
-    seat_failed faults f result mails failure cause is =
-        read_failed files may_leave moment left_since upcoming clock start base attempts before faults line old follows good cause.later allowed read mid looks reads f result mails failure cause is
+    pub seat_failed : {A E R : Type 0} (with : R → List Reply → R) (said said_now : R) (faults : ℕ) (f : StoreFault) (result : Result (Unit {0}) E) → reads_mail c ≡ true → IsFailure f → HasStoreCause {A = A} before faults (Err f)
+        → OnOk result ((said_now ≡ with said (fault_lines f)) × IsFaultLine f (fault_lines f))
+        → Takes with said said_now result (λ told. Serves files may_leave moment left_since upcoming clock start base faults attempts line told old mid)
+    seat_failed with said said_now faults f result mails failure cause is = record {
+      replies = fault_lines f;
+      taken = on_ok_weaker result (λ (x : (said_now ≡ with said (fault_lines f)) × IsFaultLine f (fault_lines f)). x.0) is;
+      holds = read_failed files may_leave moment left_since upcoming clock start base attempts before faults line old follows good cause.later allowed read mid looks reads f (given (fault_lines f) result) mails failure cause
+          (given_has (IsFaultLine f) (fault_lines f) result (on_ok_weaker result (λ (x : (said_now ≡ with said (fault_lines f)) × IsFaultLine f (fault_lines f)). x.1) is));
+    }
 
-    pub seat_told : {E : Type 0} (faults : ℕ) (new : Serving S C) (result : Result (List Reply) E) (facts : List MailFacts) (met : Met) → before ≤ faults → met ≡ met_of c (seat_at mid.seats at).state.view mid.store.chain.live.mailbox
+    pub seat_told : {E R : Type 0} (with : R → List Reply → R) (said said_now : R) (faults : ℕ) (new : Serving S C) (result : Result (Unit {0}) E) (facts : List MailFacts) (met : Met) → before ≤ faults → met ≡ met_of c (seat_at mid.seats at).state.view mid.store.chain.live.mailbox
         → AreSupplied here.log.mail c (seat_at old.seats at).state.view old.store.chain.live.mailbox facts
         → ((mail : ℕ → Mail) (m : Mailbox) → met ≡ met_of c (seat_at mid.seats at).state.view m → AreSupplied mail c (seat_at mid.seats at).state.view mid.store.chain.live.mailbox facts
-        → IfOk result (λ replies. record { replies = replies; next = (seat_at new.seats at).state } ≡ answer mail (seat_at mid.seats at).state c m mid.groups mid.store.chain.live.mailbox mid.mark))
+        → OnOk result (IsAnswered with said said_now (seat_at new.seats at).state (answer mail (seat_at mid.seats at).state c m mid.groups mid.store.chain.live.mailbox mid.mark)))
         → IsAbreast new.store.chain.live.mailbox (seat_at new.seats at) → with_seat at (seat_at new.seats at) mid ≡ new → OnErr result (new ≡ mid)
-        → Serves files may_leave moment left_since upcoming clock start base faults attempts line result old new
-    seat_told faults new result facts met later is supplied answered abreast only stays =
-        read_told files may_leave moment left_since upcoming clock start base attempts before faults line old follows good later allowed read mid looks reads at new result number_is
-        (subst (λ (fs : List Follower). at < length fs) (sym looks.seats) less) (subst (λ (s : Serving S C). IsAbreast s.store.chain.live.mailbox (seat_at new.seats at)) (sym only) abreast)
-        (answered here.log.mail old.store.chain.live.mailbox (looked_met old mid looks c (seat_at mid.seats at).state met is) (looked_supplied old mid looks here.log.mail c at facts supplied)) only stays
+        → Takes with said said_now result (λ r. Serves files may_leave moment left_since upcoming clock start base faults attempts line r old new)
+    seat_told with said said_now faults new result facts met later is supplied answered abreast only stays =
+        let a = answer here.log.mail (seat_at mid.seats at).state c old.store.chain.live.mailbox mid.groups mid.store.chain.live.mailbox mid.mark in
+        let both = answered here.log.mail old.store.chain.live.mailbox (looked_met old mid looks c (seat_at mid.seats at).state met is) (looked_supplied old mid looks here.log.mail c at facts supplied) in
+        record {
+          replies = a.replies;
+          taken = on_ok_weaker result (λ (x : IsAnswered with said said_now (seat_at new.seats at).state a). x.0) both;
+          holds = read_told files may_leave moment left_since upcoming clock start base attempts before faults line old follows good later allowed read mid looks reads at new (given a.replies result) number_is
+              (subst (λ (fs : List Follower). at < length fs) (sym looks.seats) less) (subst (λ (s : Serving S C). IsAbreast s.store.chain.live.mailbox (seat_at new.seats at)) (sym only) abreast)
+              (given_answer _ a (seat_at new.seats at).state result both) only (given_err _ a.replies result stays);
+        }
 
   -- ---- a write
 
@@ -89,27 +108,38 @@ module _ {S C : Type 0} (files : S → Folder) (may_leave : S → Folder → Typ
   seat_still now = ended_still files may_leave moment left_since upcoming clock start base attempts before before line old follows good (omega arith) now
 
   module _ (write : is_write c ≡ true) (mid : Serving S C) where
-    pub seat_unwritten : {A E : Type 0} (faults : ℕ) (f : StoreFault) (result : Result (List Reply) E) → Commits files may_leave moment left_since upcoming clock start attempts line old (Err f) mid → HasStoreCause {A = A} before faults (Err f) → mid.seats ≡ old.seats
-        → LeavesOthers {A = A} c old.store.chain.live.mailbox (Err f) (files old.store.shelf) (files mid.store.shelf) → IfOk result (IsFaultLine f) → Serves files may_leave moment left_since upcoming clock start base faults attempts line result old mid
-    seat_unwritten faults f result commits cause seats others is =
-        write_failed files may_leave moment left_since upcoming clock start base attempts before faults line old follows good cause.later write mid f result commits cause seats others is
+    pub seat_unwritten : {A E R : Type 0} (with : R → List Reply → R) (said said_now : R) (faults : ℕ) (f : StoreFault) (result : Result (Unit {0}) E) → Commits files may_leave moment left_since upcoming clock start attempts line old (Err f) mid → HasStoreCause {A = A} before faults (Err f) → mid.seats ≡ old.seats
+        → LeavesOthers {A = A} c old.store.chain.live.mailbox (Err f) (files old.store.shelf) (files mid.store.shelf) → OnOk result ((said_now ≡ with said (fault_lines f)) × IsFaultLine f (fault_lines f))
+        → Takes with said said_now result (λ told. Serves files may_leave moment left_since upcoming clock start base faults attempts line told old mid)
+    seat_unwritten with said said_now faults f result commits cause seats others is = record {
+      replies = fault_lines f;
+      taken = on_ok_weaker result (λ (x : (said_now ≡ with said (fault_lines f)) × IsFaultLine f (fault_lines f)). x.0) is;
+      holds = write_failed files may_leave moment left_since upcoming clock start base attempts before faults line old follows good cause.later write mid f (given (fault_lines f) result) commits cause seats others
+          (given_has (IsFaultLine f) (fault_lines f) result (on_ok_weaker result (λ (x : (said_now ≡ with said (fault_lines f)) × IsFaultLine f (fault_lines f)). x.1) is));
+    }
 
     module _ (touched : List ℕ) (done : IsDone files may_leave moment left_since upcoming clock start attempts line touched old mid)
         (others : (n : Name) → (MayWrite c old.store.chain.live.mailbox n → ⊥) → files mid.store.shelf n ≡ files old.store.shelf n) (seats : List Follower) where
       pub seat_untold : EndsAt files may_leave moment left_since clock start base attempts line old (record mid { seats = seats })
       seat_untold = write_ended files may_leave moment left_since upcoming clock start base attempts before before line old follows good (omega arith) write mid touched done others seats
 
-      pub seat_wrote : {E : Type 0} (faults : ℕ) (new : Serving S C) (result : Result (List Reply) E) (facts : List MailFacts) (met : Met) → before ≤ faults → HasStates old.seats seats → All (IsAbreast mid.store.chain.live.mailbox) seats
+      pub seat_wrote : {E R : Type 0} (with : R → List Reply → R) (said said_now : R) (faults : ℕ) (new : Serving S C) (result : Result (Unit {0}) E) (facts : List MailFacts) (met : Met) → before ≤ faults → HasStates old.seats seats → All (IsAbreast mid.store.chain.live.mailbox) seats
           → met ≡ met_of c (seat_at old.seats at).state.view old.store.chain.live.mailbox
           → ((mail : ℕ → Mail) (m : Mailbox) → met ≡ met_of c (seat_at seats at).state.view m → AreSupplied mail c (seat_at seats at).state.view mid.store.chain.live.mailbox facts
-          → IfOk result (λ replies. record { replies = replies; next = (seat_at new.seats at).state } ≡ answer mail (seat_at seats at).state c m mid.groups mid.store.chain.live.mailbox mid.mark))
+          → OnOk result (IsAnswered with said said_now (seat_at new.seats at).state (answer mail (seat_at seats at).state c m mid.groups mid.store.chain.live.mailbox mid.mark)))
           → IsAbreast new.store.chain.live.mailbox (seat_at new.seats at) → with_seat at (seat_at new.seats at) (record mid { seats = seats }) ≡ new → OnErr result (new ≡ record mid { seats = seats })
-          → Serves files may_leave moment left_since upcoming clock start base faults attempts line result old new
-      seat_wrote faults new result facts met later has all is answered abreast only stays =
+          → Takes with said said_now result (λ r. Serves files may_leave moment left_since upcoming clock start base faults attempts line r old new)
+      seat_wrote with said said_now faults new result facts met later has all is answered abreast only stays =
           let same : (seat_at old.seats at).state ≡ (seat_at seats at).state = sym (has.states at new_follower less) in
           let mail : ℕ → Mail = (with_group_here clock here line).log.mail in
-          write_told files may_leave moment left_since upcoming clock start base attempts before faults line old follows good later write mid touched done others seats at new result number_is
-          (subst (λ (n : ℕ). at < n) (sym has.count) less) has all (subst (λ (s : Serving S C). IsAbreast s.store.chain.live.mailbox (seat_at new.seats at)) (sym only) abreast)
-          (answered mail old.store.chain.live.mailbox (is ∙ ap (λ (x : SessionState). met_of c x.view old.store.chain.live.mailbox) same)
-          (unread_supplied mail c (seat_at seats at).state mid.store.chain.live.mailbox facts (writes_unread c write)))
-          only stays
+          let a = answer mail (seat_at seats at).state c old.store.chain.live.mailbox mid.groups mid.store.chain.live.mailbox mid.mark in
+          let both = answered mail old.store.chain.live.mailbox (is ∙ ap (λ (x : SessionState). met_of c x.view old.store.chain.live.mailbox) same)
+          (unread_supplied mail c (seat_at seats at).state mid.store.chain.live.mailbox facts (writes_unread c write)) in
+          record {
+            replies = a.replies;
+            taken = on_ok_weaker result (λ (x : IsAnswered with said said_now (seat_at new.seats at).state a). x.0) both;
+            holds = write_told files may_leave moment left_since upcoming clock start base attempts before faults line old follows good later write mid touched done others seats at new (given a.replies result) number_is
+                (subst (λ (n : ℕ). at < n) (sym has.count) less) has all (subst (λ (s : Serving S C). IsAbreast s.store.chain.live.mailbox (seat_at new.seats at)) (sym only) abreast)
+                (given_answer _ a (seat_at new.seats at).state result both)
+                only (given_err _ a.replies result stays);
+          }

@@ -1,4 +1,5 @@
 pub mod Servings
+pub mod Taking
 pub mod Places
 pub mod Following
 pub mod Serves

@@ -12,3 +12,10 @@ IsFaultLine (fault.Disk faults) lines = lines ≡ reply.Unavailable faults ∷ [
 IsFaultLine fault.UidsUsedUp lines = lines ≡ reply.UidsUsedUp ∷ []
 IsFaultLine (fault.TooLong bytes) lines = lines ≡ reply.TooLong bytes ∷ []
 IsFaultLine fault.NoMemory lines = ⊥
+
+-- that line
+abbrev pub fault_lines : StoreFault → List Reply
+fault_lines (fault.Disk faults) = reply.Unavailable faults ∷ []
+fault_lines fault.UidsUsedUp = reply.UidsUsedUp ∷ []
+fault_lines (fault.TooLong bytes) = reply.TooLong bytes ∷ []
+fault_lines fault.NoMemory = []

@@ -12,8 +12,9 @@ ghost use Rattle.dv_serial.specs.Serves.{AreAbreast, IsSeat, IsServable, TakesUp
 use crate::Serial;
 use crate::numbers::next_turn;
 use dv_model::NoMemory;
-use dv_script::{Line, Lines, replies_text};
+use dv_script::{Line, Lines};
 use dv_shelf::{Clock, Gate, Shelf, Sink};
+use dv_texts::ReplyText;
 
 /// Why a line of the script ends the run.
 #[derive(Clone, Copy, PartialEq, Eq, Debug)]
@@ -60,8 +61,8 @@ impl<S: Shelf, C: Clock> Serial<S, C> {
             (C.upcoming self.new.store.clock) }
         ensures cause { IsCaused (O.fault_count out.old) (O.fault_count out.new) result }
     {
-        let replies = self.serve(session, &line.command)?;
-        let text = replies_text(self.alloc, line.session.as_slice(), &replies)?;
+        let mut text = ReplyText::new(self.alloc, line.session);
+        self.serve(session, &line.command, &mut text)?;
         match out.write_all(text.as_slice()) {
             Ok(()) => Ok(()),
             Err(_) => Err(LineEnd::Sink(out.faults())),

@@ -14,14 +14,15 @@ ghost use Rattle.dv_serial.specs.Following.{Follows};
 ghost use Rattle.dv_serial.specs.Others.{LeavesOthers};
 ghost use Rattle.dv_serial.specs.Places.{play_of};
 ghost use Rattle.dv_serial.specs.Serves.{AreAbreast, HasFailures, IsSeat, IsServable, Serves, TakesUpTo, seat_at};
+ghost use Rattle.dv_serial.specs.Taking.{Takes};
 ghost use Rattle.dv_serial.specs.Writes.{Commits};
 
 use crate::Serial;
 use crate::seats::tell_all;
-use crate::told::{fault_line, one_line};
-use dv_model::{Command, List, NoMemory, Reply};
+use crate::told::take_fault;
+use dv_model::{Command, NoMemory};
 use dv_plans::StoreFault;
-use dv_responses::{is_write, meet};
+use dv_responses::{Responses, is_write, meet};
 use dv_search::Mail;
 use dv_shelf::{Clock, Shelf};
 use dv_store::Receipt;
@@ -76,7 +77,12 @@ impl<S: Shelf, C: Clock> Serial<S, C> {
     }
 
     /// Serves a write that the session doesn't refuse.
-    fn serve_write(&mut self, at: usize, c: &Command) -> Result<List<Reply>, NoMemory>
+    fn serve_write<R: Responses>(
+        &mut self,
+        at: usize,
+        c: &Command,
+        replies: &mut R,
+    ) -> Result<(), NoMemory>
         requires at { at < length self.old.seats }
         requires line { IsServable c.now }
         requires write { is_write c.now ≡ true }
@@ -88,33 +94,40 @@ impl<S: Shelf, C: Clock> Serial<S, C> {
             (attempts : List Attempt) → at + 1 < 2 ^ 32 →
             Follows S.files S.may_leave C.upcoming clock start base
             (S.fault_count self.old.store.shelf) attempts self.old →
+            Takes R.with replies.old replies.new result (λ told.
             Serves S.files S.may_leave S.moment S.left_since C.upcoming clock start base
-            (S.fault_count self.new.store.shelf) attempts (at + 1, c.now) result self.old self.new }
+            (S.fault_count self.new.store.shelf) attempts (at + 1, c.now) told self.old self.new) }
         ensures groups { self.new.groups ≤ self.old.groups + 1 }
         // The sessions keep up with the mailbox; the disk's failure is told only where it failed.
         ensures seats { length self.new.seats ≡ length self.old.seats }
         ensures abreast { OnOk result (AreAbreast self.new) }
         ensures readings { C.tells → TakesUpTo 2 (C.upcoming self.old.store.clock)
             (C.upcoming self.new.store.clock) }
-        ensures cause { HasFailures (S.fault_count self.old.store.shelf)
-            (S.fault_count self.new.store.shelf) result }
+        ensures cause { Takes R.with replies.old replies.new result (λ told.
+            HasFailures (S.fault_count self.old.store.shelf)
+            (S.fault_count self.new.store.shelf) told) }
     {
         let met = meet(self.alloc, c, self.seats[at].view(), self.store.live())?;
         match self.commit(at, c) {
             Ok(touched) => {
                 tell_all(self.seats.as_mut_slice(), &touched)?;
                 let none = Mail::new(self.alloc);
-                self.answer(at, c, &none, met)
+                self.answer(at, c, &none, met, replies)
             }
-            Err(fault) => fault_line(self.alloc, fault),
+            Err(fault) => take_fault(fault, replies),
         }
     }
 
     /// Answers a command of the session of this number by the session rules, at the end of the log:
-    /// refused by one line, answered by the disk's failure, or done. What it wrote is one group, of
-    /// which all sessions are told. `NoMemory` is the only error; it ends the run: where it comes
-    /// behind a write, the group is counted.
-    pub fn serve(&mut self, number: u32, c: &Command) -> Result<List<Reply>, NoMemory>
+    /// refused by one line, answered by the disk's failure, or done; the replies are taken as they
+    /// are made. What it wrote is one group, of which all sessions are told. `NoMemory` is the only
+    /// error; it ends the run: where it comes behind a write, the group is counted.
+    pub fn serve<R: Responses>(
+        &mut self,
+        number: u32,
+        c: &Command,
+        replies: &mut R,
+    ) -> Result<(), NoMemory>
         requires seat { IsSeat number self.old.seats }
         requires line { IsServable c.now }
         requires abreast { AreAbreast self.old }
@@ -124,8 +137,9 @@ impl<S: Shelf, C: Clock> Serial<S, C> {
         ensures serves { S.tells → C.tells → (clock : ℕ → ℕ) (start : Log) (base : ℕ)
             (attempts : List Attempt) → Follows S.files S.may_leave C.upcoming clock start base
             (S.fault_count self.old.store.shelf) attempts self.old →
+            Takes R.with replies.old replies.new result (λ told.
             Serves S.files S.may_leave S.moment S.left_since C.upcoming clock start base
-            (S.fault_count self.new.store.shelf) attempts (number, c.now) result self.old self.new }
+            (S.fault_count self.new.store.shelf) attempts (number, c.now) told self.old self.new) }
         ensures groups { self.new.groups ≤ self.old.groups + 1 }
         // There are as many sessions, which keep up with the mailbox.
         ensures seats { length self.new.seats ≡ length self.old.seats }
@@ -136,17 +150,18 @@ impl<S: Shelf, C: Clock> Serial<S, C> {
         ensures later { S.fault_count self.old.store.shelf ≤ S.fault_count self.new.store.shelf }
         ensures cause { S.tells → (log : Log) (debt : Debt) →
             IsAtRest S.files S.may_leave log debt self.old.store →
+            Takes R.with replies.old replies.new result (λ told.
             HasFailures (S.fault_count self.old.store.shelf)
-            (S.fault_count self.new.store.shelf) result }
+            (S.fault_count self.new.store.shelf) told) }
     {
         let at = number as usize - 1;
         if let Some(refusal) = self.seats[at].refuse(c) {
-            return one_line(self.alloc, refusal);
+            return replies.take(refusal);
         }
         if is_write(c) {
-            self.serve_write(at, c)
+            self.serve_write(at, c, replies)
         } else {
-            self.serve_read(at, c)
+            self.serve_read(at, c, replies)
         }
     }
 }

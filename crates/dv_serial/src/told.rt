@@ -1,29 +1,21 @@
 //! The one line of a command that isn't served.
 
-ghost use Rattle.std.specs.Prelude.{◌≡◌, ◌∷◌, [], IfOk};
-ghost use Rattle.dv_serial.specs.Lines.{IsFaultLine};
+ghost use Rattle.std.specs.Prelude.{◌≡◌, OnOk};
+ghost use Rattle.dv_serial.specs.Lines.{IsFaultLine, fault_lines};
 
-use dv_model::{List, NoMemory, Reply};
+use dv_model::{NoMemory, Reply};
 use dv_plans::StoreFault;
-use std::alloc::Global;
+use dv_view::Replies;
 
-/// A list of one line. `NoMemory` is the only error.
-pub fn one_line(alloc: Global, line: Reply) -> Result<List<Reply>, NoMemory>
-    ensures { IfOk result (λ lines. lines ≡ line ∷ []) }
-{
-    let mut lines = List::new(alloc);
-    lines.push(line)?;
-    Ok(lines)
-}
-
-/// The line of a limit, or of the disk's failure (RFC 5530, LIMIT and UNAVAILABLE).
-pub fn fault_line(alloc: Global, fault: StoreFault) -> Result<List<Reply>, NoMemory>
-    ensures { IfOk result (λ lines. IsFaultLine fault lines) }
+/// Adds the line of a limit, or of the disk's failure (RFC 5530, LIMIT and UNAVAILABLE).
+pub fn take_fault<R: Replies>(fault: StoreFault, replies: &mut R) -> Result<(), NoMemory>
+    ensures { OnOk result ((replies.new ≡ R.with replies.old (fault_lines fault))
+        × IsFaultLine fault (fault_lines fault)) }
 {
     match fault {
-        StoreFault::Disk(faults) => one_line(alloc, Reply::Unavailable { faults }),
-        StoreFault::UidsUsedUp => one_line(alloc, Reply::UidsUsedUp),
-        StoreFault::TooLong { bytes } => one_line(alloc, Reply::TooLong { bytes }),
+        StoreFault::Disk(faults) => replies.take(Reply::Unavailable { faults }),
+        StoreFault::UidsUsedUp => replies.take(Reply::UidsUsedUp),
+        StoreFault::TooLong { bytes } => replies.take(Reply::TooLong { bytes }),
         StoreFault::NoMemory => Err(NoMemory),
     }
 }

@@ -2,7 +2,8 @@ use crate::mailboxes::live_of;
 use dv_apply::Live;
 use dv_model::{Boxed, Bytes, Command, End, How, Item, Key, List, Mark, NoMemory, Span};
 use dv_responses::{
-    asked_by, data_lines, ending, facts_from, is_shallow, meet, select_lines, uids_looked_at,
+    add_data_lines, add_select_lines, asked_by, ending, facts_from, is_shallow, meet,
+    uids_looked_at,
 };
 use dv_script::replies_text;
 use dv_search::Mail;
@@ -51,7 +52,8 @@ fn answer(
     let view = View::of(alloc, met)?;
     let taken = meet(alloc, c, &view, met)?;
     let uids = uids_looked_at(alloc, c, &view)?;
-    let mut lines = data_lines(alloc, c, &view, live, &facts)?;
+    let mut lines = List::new(alloc);
+    add_data_lines(alloc, c, &view, live, &facts, &mut lines)?;
     let mark = Mark {
         file_seq: 1,
         offset,
@@ -183,7 +185,8 @@ fn store_and_append_tell_what_they_did(rt: HostRuntime) -> Result<(), Fail> {
 fn select(alloc: Global) -> Result<Bytes, NoMemory> {
     let live = live_of(alloc, 2, &[APPEND_1])?;
     let view = View::of(alloc, &live)?;
-    let lines = select_lines(alloc, &live, &view)?;
+    let mut lines = List::new(alloc);
+    add_select_lines(alloc, &live, &view, &mut lines)?;
     replies_text(alloc, b"a", &lines)
 }
 

@@ -63,7 +63,9 @@ fn advance(
     if view.next_uid() > live.next_uid() {
         return Err(NoMemory);
     }
-    view.advance(live, step)
+    let mut said = List::new(alloc);
+    view.advance(live, step, &mut said)?;
+    Ok(said)
 }
 
 fn hear_all(alloc: Global, client: &mut Client, said: &List<Reply>) -> Result<(), NoMemory> {
@@ -188,12 +190,14 @@ fn is_right(
         rows: List::new(alloc),
     };
     let mut view = View::empty(alloc);
-    let said = view.advance_by(3, &first_changes(alloc)?, &names, Step::Full)?;
+    let mut said = List::new(alloc);
+    view.advance_by(3, first_changes(alloc)?, &names, Step::Full, &mut said)?;
     hear_all(alloc, &mut client, &said)?;
     if view.next_uid() != 3 || view.position(2).is_none() {
         return Ok(false);
     }
-    let said = view.advance_by(4, &next_changes(alloc)?, &names, step)?;
+    let mut said = List::new(alloc);
+    view.advance_by(4, next_changes(alloc)?, &names, step, &mut said)?;
     hear_all(alloc, &mut client, &said)?;
     Ok(is_said(&said, expected) && has_same_rows(&client, &view))
 }

@@ -152,7 +152,9 @@ impl Follower {
             file_seq: 1,
             offset: turn.end,
         };
-        let lines = self.session.answer(c, &self.live, &facts, met, mark, 0)?;
+        let mut lines = List::new(alloc);
+        self.session
+            .answer(c, &self.live, &facts, met, mark, 0, &mut lines)?;
         let text = replies_text(alloc, b"b", &lines)?;
         Ok(text)
     }

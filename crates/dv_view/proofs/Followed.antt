@@ -22,9 +22,9 @@ use Rattle.dv_view.specs.Laws.{ChangesFollow}
 use Rattle.dv_view.specs.Orders.{IsOrdered}
 use Rattle.dv_view.proofs.Finding.{any_is_found}
 use Rattle.dv_view.proofs.Moving.{Rise, all_of_each, moved_rise}
-use Rattle.dv_view.proofs.Patching.{Rises, at_below, at_uid, change_of, no_change, now, own_above, own_other, own_same, patched_above, patched_at, same_rows}
+use Rattle.dv_view.proofs.Patching.{Rises, at_below, at_uid, change_of, no_change, now, own_other, own_same, patched_above, patched_at, same_rows}
 use Rattle.dv_view.proofs.Placing.{left_none, rises_of, rises_some, rises_told}
-use Rattle.dv_view.proofs.Renewing.{renewed_above, renewed_uid}
+use Rattle.dv_view.proofs.Renewing.{filter_above, filter_each, given_above, renewed_above, renewed_uid}
 use Rattle.dv_view.proofs.Rising.{few_from}
 
 -- ---- the row of a UID among rows that were changed
@@ -65,10 +65,6 @@ find_each P p (y ∷ xs) each (Some x) e = by_test (p y) refl e (find_each P p x
     by_test false t found rest = rest found
 
 -- ---- the change of a UID
-
-given_above : (n : ℕ) (fresh : List Fresh) → Rises n fresh → Above n (given fresh)
-given_above n [] rises = tt
-given_above n (f ∷ fresh) rises = own_above n f.uid f.row (given fresh) rises.1 rises.0 (given_above (f.uid + 1) fresh rises.2)
 
 given_at : (n u : ℕ) (fresh : List Fresh) → Rises n fresh → at_uid u (given fresh) ≡ now (change_of u fresh) None
 given_at n u [] rises = refl
@@ -122,22 +118,6 @@ rise_of_ordered view ordered = record {
 above_append : (n b : ℕ) (front tail : List Shown) → n ≤ b → Above n front → AllByRecursion (λ s. s.uid < b) front → Above b tail → Above n (front ++ tail)
 above_append n b [] tail le above below behind = above_lower n b tail le behind
 above_append n b (s ∷ front) tail le above below behind = let low = below.0 in (above.0, above_append (s.uid + 1) b front tail (omega arith) above.1 below.1 behind)
-
-filter_above : (p : Shown → Bool) (n : ℕ) (rows : List Shown) → Above n rows → Above n (filter p rows)
-filter_above p n [] above = tt
-filter_above p n (s ∷ rows) above = by_test (p s) (filter_above p (s.uid + 1) rows above.1)
-  where
-    by_test : (b : Bool) → Above (s.uid + 1) (filter p rows) → Above n (cond b (s ∷ filter p rows) (filter p rows))
-    by_test true rest = (above.0, rest)
-    by_test false rest = above_lower n (s.uid + 1) (filter p rows) (omega (arith, above.0)) rest
-
-filter_each : (P : Shown → Type 0) (p : Shown → Bool) (rows : List Shown) → AllByRecursion P rows → AllByRecursion P (filter p rows)
-filter_each P p [] each = tt
-filter_each P p (s ∷ rows) each = by_test (p s) (filter_each P p rows each.1)
-  where
-    by_test : (b : Bool) → AllByRecursion P (filter p rows) → AllByRecursion P (cond b (s ∷ filter p rows) (filter p rows))
-    by_test true rest = (each.0, rest)
-    by_test false rest = rest
 
 filter_from : (b : ℕ) (rows : List Shown) → AllByRecursion (λ s. b ≤ s.uid) (filter (λ s. nat_le b s.uid) rows)
 filter_from b [] = tt

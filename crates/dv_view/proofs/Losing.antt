@@ -13,13 +13,12 @@ use Rattle.dv_model.specs.declared.types.Step.TheVariants.{Held}
 use Rattle.dv_model.specs.Fresh.{patched}
 use Rattle.dv_model.specs.Views.{numbers}
 use Rattle.dv_model.proofs.Clients.{Above, IsOne, each_is_one, each_weaker, false_is_not_true, not_same_back, shows}
-use Rattle.dv_view.specs.Following.{has_left, left_number, renewed, rows_after, told_of}
+use Rattle.dv_view.specs.Following.{has_left, left_number, rows_after, told_of}
 use Rattle.dv_view.specs.Tells.{removals_of}
 use Rattle.dv_view.proofs.Finding.{any_by_place, any_is_found}
 use Rattle.dv_view.proofs.Followed.{has_none, left_is}
 use Rattle.dv_view.proofs.Patching.{Rises, at_uid, change_of, now, patched_at}
 use Rattle.dv_view.proofs.Placing.{left_none, rises_some}
-use Rattle.dv_view.proofs.Renewing.{renewed_uid}
 
 -- ---- each row of a list is shown
 
@@ -235,11 +234,11 @@ none_left rows u here (f ∷ fresh) none =
         let same = eqb-true f.uid u e in
         false_is_not_true (sym none ∙ ap is_some number ∙ some_map (place f.uid rows) ∙ sym (any_by_place (λ (s : Shown). nat_eq s.uid f.uid) rows (place f.uid rows) refl) ∙ ap (shows rows) same ∙ here)
 
-pub all_stay : (rows made : List Shown) (fresh : List Fresh) → list_any (λ f. is_some (left_number rows f)) fresh ≡ false → filter (λ s. not (has_left fresh s.uid)) (map (renewed made) rows) ≡ map (renewed made) rows
-all_stay rows made fresh none = by_rows rows (all_shown rows)
+pub all_stay : (rows : List Shown) (fresh : List Fresh) → list_any (λ f. is_some (left_number rows f)) fresh ≡ false → filter (λ s. not (has_left fresh s.uid)) rows ≡ rows
+all_stay rows fresh none = by_rows rows (all_shown rows)
   where
-    by_rows : (part : List Shown) → AllByRecursion (λ s. shows rows s.uid ≡ true) part → filter (λ s. not (has_left fresh s.uid)) (map (renewed made) part) ≡ map (renewed made) part
+    by_rows : (part : List Shown) → AllByRecursion (λ s. shows rows s.uid ≡ true) part → filter (λ s. not (has_left fresh s.uid)) part ≡ part
     by_rows [] each = refl
     by_rows (s ∷ part) each =
-        let stays : has_left fresh (renewed made s).uid ≡ false = ap (has_left fresh) (renewed_uid made s) ∙ none_left rows s.uid each.0 fresh none in
-        rw stays (ap (λ rs. renewed made s ∷ rs) (by_rows part each.1))
+        let stays : has_left fresh s.uid ≡ false = none_left rows s.uid each.0 fresh none in
+        rw stays (ap (λ rs. s ∷ rs) (by_rows part each.1))

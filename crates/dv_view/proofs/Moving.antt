@@ -9,7 +9,6 @@ use Rattle.std.proofs.lemmas.List.Elements.{All-weaker, filter-append}
 use Rattle.dv_model.specs.declared.types.Row.{Row}
 use Rattle.dv_model.specs.declared.types.Shown.{Shown}
 use Rattle.dv_model.specs.declared.types.Mailbox.{Mailbox}
-use Rattle.dv_model.specs.declared.types.Reply.{Reply}
 use Rattle.dv_model.specs.declared.types.Step.{Step}
 use Rattle.dv_model.specs.declared.types.Step.TheVariants.{Held, Full}
 use Rattle.dv_model.specs.Mailboxes.{IsRowOf, IsValid}
@@ -120,7 +119,7 @@ pub rising_after : (step : Step) (m : Mailbox) (view : View) (rows : List Shown)
     → rows ≡ (moved step view m).rows → IsOrdered view → IsValid m → view.next_uid ≤ m.next_uid → AreRising rows
 rising_after step m view rows is ordered valid later = rising_of_ordered (record { rows = rows; next_uid = m.next_uid }) (ordered_after step m view rows m.next_uid is refl ordered valid later)
 
-pub said_is : (m : Mailbox) (old new : View) (replies : List Reply) (names : List (List ℕ)) (before after : List Shown)
-    → replies ≡ said_of names before after → names ≡ m.keywords → before ≡ old.rows → after ≡ new.rows → replies ≡ said m old new
-said_is m old new replies names before after is table first last =
-    is ∙ ap (λ ns. said_of ns before after) table ∙ ap (λ rs. said_of m.keywords rs after) first ∙ ap (said_of m.keywords old.rows) last
+pub said_is : (m : Mailbox) (old new : View) (names : List (List ℕ)) (before after : List Shown)
+    → names ≡ m.keywords → before ≡ old.rows → after ≡ new.rows → said_of names before after ≡ said m old new
+said_is m old new names before after table first last =
+    ap (λ ns. said_of ns before after) table ∙ ap (λ rs. said_of m.keywords rs after) first ∙ ap (said_of m.keywords old.rows) last

@@ -1,5 +1,5 @@
 -- The numbers of the rows that pass a test, and what is told of them.
-use Rattle.std.proofs.Common.{◌≡◌, ℕ, suc, ◌+◌, ◌-◌, ◌<◌, ◌≤◌, Bool, true, false, cond, not, List, [], ◌∷◌, ◌++◌, length, get_or, take, drop, map, sym, ◌∙◌, ap, arith, append_assoc}
+use Rattle.std.proofs.Common.{◌≡◌, ℕ, suc, ◌+◌, ◌-◌, ◌<◌, ◌≤◌, Bool, true, false, cond, not, List, [], ◌∷◌, ◌++◌, length, get_or, take, drop, map, sym, ◌∙◌, ap, arith}
 use Rattle.std.specs.Prelude.{reverse}
 use Rattle.std.specs.List.{list_any}
 use Rattle.std.proofs.lemmas.List.{append-nil, drop_more, length-take, reverse-append, take_more}
@@ -42,12 +42,11 @@ removed_last new old i d less =
 
 -- the row of number k left, or stayed
 pub removed_more : (new old : List Shown) (k : ℕ) (d : Shown) (b : Bool) → 0 < k → k ≤ length old → shows new (get_or old (k - 1) d).uid ≡ b
-    → (said : List Reply) → said ++ removals_of new (take k old) ≡ (said ++ expunged (not b) k) ++ removals_of new (take (k - 1) old)
-removed_more new old k d b some inside is said =
+    → removals_of new (take k old) ≡ expunged (not b) k ++ removals_of new (take (k - 1) old)
+removed_more new old k d b some inside is =
     let same : k - 1 + 1 ≡ k = omega arith in
-    ap (λ n. said ++ removals_of new (take n old)) (sym same)
-    ∙ ap (λ rs. said ++ rs) (removed_last new old (k - 1) d (omega arith) ∙ ap (λ t. expunged (not t) (k - 1 + 1) ++ removals_of new (take (k - 1) old)) is ∙ ap (λ n. expunged (not b) n ++ removals_of new (take (k - 1) old)) same)
-    ∙ sym (append_assoc said (expunged (not b) k) (removals_of new (take (k - 1) old)))
+    ap (λ n. removals_of new (take n old)) (sym same)
+    ∙ removed_last new old (k - 1) d (omega arith) ∙ ap (λ t. expunged (not t) (k - 1 + 1) ++ removals_of new (take (k - 1) old)) is ∙ ap (λ n. expunged (not b) n ++ removals_of new (take (k - 1) old)) same
 
 -- ---- FETCH
 

@@ -1,5 +1,5 @@
 -- What is told of one change after another.
-use Rattle.std.proofs.Common.{◌≡◌, inl, inr, ℕ, zero, suc, ◌+◌, ◌-◌, ◌<◌, ◌≤◌, Bool, true, false, cond, not, ◌&&◌, ◌||◌, List, [], ◌∷◌, ◌++◌, length, get_or, take, drop, refl, sym, ◌∙◌, ap, subst, arith, append-nil, length-append, length-drop}
+use Rattle.std.proofs.Common.{◌≡◌, inl, inr, ℕ, zero, suc, ◌+◌, ◌-◌, ◌<◌, ◌≤◌, Bool, true, false, cond, not, ◌&&◌, ◌||◌, List, [], ◌∷◌, ◌++◌, length, get_or, map, take, drop, refl, sym, ◌∙◌, ap, subst, arith, append-nil, length-append, length-drop}
 use Rattle.std.proofs.lemmas.Bool.{eq-eqb, or_right}
 use Rattle.std.specs.Prelude.{option_to_list}
 use Rattle.std.specs.List.{AllByRecursion, list_any}
@@ -15,9 +15,10 @@ use Rattle.dv_model.specs.Fresh.{patched}
 use Rattle.dv_model.specs.Views.{same_row}
 use Rattle.dv_model.proofs.Clients.{IsOne, each_is_one, each_weaker, shows}
 use Rattle.dv_view.specs.declared.telling.Telling.{Telling}
+use Rattle.dv_view.specs.declared.telling.Told.{Told}
 use Rattle.dv_view.specs.Following.{AreGiven, rows_after, told_of}
-use Rattle.dv_view.specs.Tells.{changes_of, shows_all}
-use Rattle.dv_view.specs.Told.{GoesOn, IsPlace, IsToldTo, tells, without}
+use Rattle.dv_view.specs.Tells.{shows_all, told_rows}
+use Rattle.dv_view.specs.Told.{GoesOn, IsPlace, IsToldTo, row_of, tells, without}
 use Rattle.dv_view.proofs.Losing.{all_shown}
 use Rattle.dv_view.proofs.Patching.{Rises}
 use Rattle.dv_view.proofs.Placing.{patched_step, rises_drop, rises_of, rises_told}
@@ -49,26 +50,26 @@ one_same (x ∷ rows) s (inr one) = ap (λ b. same_row s x || b) (one_same rows 
 all_same : (rows : List Shown) → AllByRecursion (λ s. list_any (same_row s) rows ≡ true) rows
 all_same rows = each_weaker (λ s. IsOne s rows) (λ s. list_any (same_row s) rows ≡ true) (one_same rows) rows (each_is_one rows rows (λ s one. one))
 
-module _ (names : List (List ℕ)) (rows : List Shown) where
-  changes_behind : (n : ℕ) (front rest : List Shown) → AllByRecursion (λ s. list_any (same_row s) rows ≡ true) front → changes_of names rows n (front ++ rest) ≡ changes_of names rows (n + length front) rest
-  changes_behind n [] rest each = let same : n ≡ n + 0 = omega arith in ap (λ k. changes_of names rows k rest) same
+module _ (rows : List Shown) where
+  changes_behind : (n : ℕ) (front rest : List Shown) → AllByRecursion (λ s. list_any (same_row s) rows ≡ true) front → told_rows rows n (front ++ rest) ≡ told_rows rows (n + length front) rest
+  changes_behind n [] rest each = let same : n ≡ n + 0 = omega arith in ap (λ k. told_rows rows k rest) same
   changes_behind n (s ∷ front) rest each =
       let same : n + 1 + length front ≡ n + suc (length front) = omega arith in
-      rw each.0 (changes_behind (n + 1) front rest each.1 ∙ ap (λ k. changes_of names rows k rest) same)
+      rw each.0 (changes_behind (n + 1) front rest each.1 ∙ ap (λ k. told_rows rows k rest) same)
 
   shows_behind : (front rest : List Shown) → AllByRecursion (λ s. shows rows s.uid ≡ true) front → shows_all rows (front ++ rest) ≡ shows_all rows rest
   shows_behind [] rest each = refl
   shows_behind (s ∷ front) rest each = rw each.0 (shows_behind front rest each.1)
 
   module _ (new : List Shown) where
-    pub passed : (from k : ℕ) (rest : List Shown) (told : Telling) → k ≤ length (drop from rows) → GoesOn names rows new (take k (drop from rows) ++ rest) told
-        → GoesOn names rows new rest (record told { from = told.from + k; number = told.number + k })
+    pub passed : (from k : ℕ) (rest : List Shown) (told : Telling) → k ≤ length (drop from rows) → GoesOn rows new (take k (drop from rows) ++ rest) told
+        → GoesOn rows new rest (record told { from = told.from + k; number = told.number + k })
     passed from k rest told le goes =
         let front = take k (drop from rows) in
         let long : length (take k (drop from rows)) ≡ k = length-take k (drop from rows) ∙ omega arith in
         record {
-          changes = ap (λ n. told.said ++ changes_of names rows (told.number + n) rest) (sym long)
-              ∙ ap (λ cs. told.said ++ cs) (sym (changes_behind told.number front rest (each_take (λ (s : Shown). list_any (same_row s) rows ≡ true) k (drop from rows) (each_drop (λ (s : Shown). list_any (same_row s) rows ≡ true) from rows (all_same rows)))))
+          changes = ap (λ n. map row_of told.told.items ++ told_rows rows (told.number + n) rest) (sym long)
+              ∙ ap (λ (cs : List (ℕ × Shown)). map row_of told.told.items ++ cs) (sym (changes_behind told.number front rest (each_take (λ (s : Shown). list_any (same_row s) rows ≡ true) k (drop from rows) (each_drop (λ (s : Shown). list_any (same_row s) rows ≡ true) from rows (all_same rows)))))
               ∙ goes.changes;
           growth = ap (λ b. not told.grows && b) (sym (shows_behind front rest (each_take (λ (s : Shown). shows rows s.uid ≡ true) k (drop from rows) (each_drop (λ (s : Shown). shows rows s.uid ≡ true) from rows (all_shown rows))))) ∙ goes.growth;
           count = omega (arith, goes.count, long, length-append front rest);
@@ -103,13 +104,13 @@ module _ (step : Step) (fresh : List Fresh) (given : AreGiven fresh) (at : ℕ) 
       ∙ ap (patched rows) (told_one step f (drop (at + 1) fresh) e)
       ∙ patched_step rows f (told_of step (drop (at + 1) fresh)) 0 k (rises.0, rises.1, rises_told step (f.uid + 1) (drop (at + 1) fresh) rises.2) place
 
-pub goes_left : (names : List (List ℕ)) (old new rest : List Shown) (told after : Telling) → after ≡ record told { from = after.from } → GoesOn names old new rest told → GoesOn names old new rest after
-goes_left names old new rest told after is goes =
-    subst (GoesOn names old new rest) (sym is) (record { changes = goes.changes; growth = goes.growth; count = goes.count })
+pub goes_left : (old new rest : List Shown) (told after : Telling) → after ≡ record told { from = after.from } → GoesOn old new rest told → GoesOn old new rest after
+goes_left old new rest told after is goes =
+    subst (GoesOn old new rest) (sym is) (record { changes = goes.changes; growth = goes.growth; count = goes.count })
 
 -- all changes were told
-pub record IsFinished (names : List (List ℕ)) (rows new : List Shown) (told : Telling) : Type 0 where
-  pub changes : told.said ≡ changes_of names rows 1 new
+pub record IsFinished (rows new : List Shown) (told : Telling) : Type 0 where
+  pub changes : map row_of told.told.items ≡ told_rows rows 1 new
   pub growth : not told.grows ≡ shows_all rows new
   pub count : told.number + (length rows - told.from) ≡ 1 + length new
 
@@ -121,19 +122,19 @@ and_true : (b : Bool) → (b && true) ≡ b
 and_true true = refl
 and_true false = refl
 
-pub finished : (names : List (List ℕ)) (step : Step) (rows : List Shown) (fresh : List Fresh) (told : Telling) → IsToldTo names step rows fresh (length fresh) told
-    → IsFinished names rows (rows_after step rows fresh) told
-finished names step rows fresh told is =
+pub finished : (step : Step) (rows : List Shown) (fresh : List Fresh) (told : Telling) → IsToldTo step rows fresh (length fresh) told
+    → IsFinished rows (rows_after step rows fresh) told
+finished step rows fresh told is =
     let rest : rows_after step (drop told.from rows) (drop (length fresh) fresh) ≡ drop told.from rows =
     ap (λ fs. patched (drop told.from rows) (told_of step fs)) (drop_end fresh) ∙ ap (patched (drop told.from rows)) (told_none step) in
-    let goes = subst (λ rs. GoesOn names rows (rows_after step rows fresh) rs told) rest is.rest in
+    let goes = subst (λ rs. GoesOn rows (rows_after step rows fresh) rs told) rest is.rest in
     let same : drop told.from rows ++ [] ≡ drop told.from rows = append-nil (drop told.from rows) in
     let long : length (drop told.from rows) ≡ length rows - told.from = length-drop told.from rows in
     record {
-      changes = sym (append-nil told.said)
-          ∙ ap (λ cs. told.said ++ cs) (sym (ap (changes_of names rows told.number) (sym same) ∙ changes_behind names rows told.number (drop told.from rows) [] (each_drop (λ (s : Shown). list_any (same_row s) rows ≡ true) told.from rows (all_same rows))))
+      changes = sym (append-nil (map row_of told.told.items))
+          ∙ ap (λ (cs : List (ℕ × Shown)). map row_of told.told.items ++ cs) (sym (ap (told_rows rows told.number) (sym same) ∙ changes_behind rows told.number (drop told.from rows) [] (each_drop (λ (s : Shown). list_any (same_row s) rows ≡ true) told.from rows (all_same rows))))
           ∙ goes.changes;
-      growth = sym (and_true (not told.grows)) ∙ ap (λ b. not told.grows && b) (sym (ap (shows_all rows) (sym same) ∙ shows_behind names rows (drop told.from rows) [] (each_drop (λ (s : Shown). shows rows s.uid ≡ true) told.from rows (all_shown rows)))) ∙ goes.growth;
+      growth = sym (and_true (not told.grows)) ∙ ap (λ b. not told.grows && b) (sym (ap (shows_all rows) (sym same) ∙ shows_behind rows (drop told.from rows) [] (each_drop (λ (s : Shown). shows rows s.uid ≡ true) told.from rows (all_shown rows)))) ∙ goes.growth;
       count = omega (arith, goes.count, long);
     }
 
@@ -150,25 +151,30 @@ drop_plus {X = X} (suc n) k xs = let same : suc (n + k) ≡ suc n + k = omega ar
     by_rows (y ∷ ys) rest = rest ys
 
 -- the change was told, and its row is left behind
-pub one_told : (names : List (List ℕ)) (step : Step) (rows : List Shown) (fresh : List Fresh) (at : ℕ) (f : Fresh) (from k : ℕ) (told after : Telling)
+pub one_told : (step : Step) (rows : List Shown) (fresh : List Fresh) (at : ℕ) (f : Fresh) (from k : ℕ) (told after : Telling)
     → told.from ≡ from + k
-    → GoesOn names rows (rows_after step rows fresh) (patched (without f.uid (drop k (drop from rows))) (told_of step (drop (at + 1) fresh))) told
+    → GoesOn rows (rows_after step rows fresh) (patched (without f.uid (drop k (drop from rows))) (told_of step (drop (at + 1) fresh))) told
     → drop after.from rows ≡ without f.uid (drop told.from rows)
     → after ≡ record told { from = after.from }
     → after.from ≤ length rows
-    → IsToldTo names step rows fresh (at + 1) after
-one_told names step rows fresh at f from k told after place goes behind is inside =
+    → IsToldTo step rows fresh (at + 1) after
+one_told step rows fresh at f from k told after place goes behind is inside =
     let same : without f.uid (drop k (drop from rows)) ≡ drop after.from rows =
     ap (without f.uid) (drop_plus from k rows ∙ ap (λ n. drop n rows) (sym place)) ∙ sym behind in
     record {
       inside = inside;
-      rest = goes_left names rows (rows_after step rows fresh) (rows_after step (drop after.from rows) (drop (at + 1) fresh)) told after is
-          (subst (λ rs. GoesOn names rows (rows_after step rows fresh) (patched rs (told_of step (drop (at + 1) fresh))) told) same goes);
+      rest = goes_left rows (rows_after step rows fresh) (rows_after step (drop after.from rows) (drop (at + 1) fresh)) told after is
+          (subst (λ rs. GoesOn rows (rows_after step rows fresh) (patched rs (told_of step (drop (at + 1) fresh))) told) same goes);
     }
+
+-- the FETCHes of the rows of which was told
+pub fetches : (f : ℕ × Shown → Reply) (told : List Told) → map (λ t. f (row_of t)) told ≡ map f (map row_of told)
+fetches f [] = refl
+fetches f (t ∷ told) = ap (λ rs. f (row_of t) ∷ rs) (fetches f told)
 
 -- ---- how many rows there are
 
-module _ (names : List (List ℕ)) (rows new : List Shown) (told : Telling) (is : IsFinished names rows new told) (removed : List Reply) where
+module _ (rows new : List Shown) (told : Telling) (is : IsFinished rows new told) (removed : List Reply) where
   pub grown : told.grows ≡ true → removed ++ reply.Exists (told.number + (length rows - told.from) - 1) ∷ [] ≡ removed ++ cond (shows_all rows new) [] (reply.Exists (length new) ∷ [])
   grown e =
       let count : told.number + (length rows - told.from) - 1 ≡ length new = omega (arith, is.count) in

@@ -1,27 +1,52 @@
 -- Rows that are given in place of others.
-use Rattle.std.proofs.Common.{◌≡◌, ℕ, zero, suc, ◌+◌, ◌-◌, ◌<◌, ◌≤◌, ◌^◌, Bool, true, false, cond, ◌||◌, List, [], ◌∷◌, ◌++◌, length, get_or, drop, Some, None, Option, refl, sym, ◌∙◌, ap, subst, arith, append_assoc}
+use Rattle.std.proofs.Common.{◌≡◌, ℕ, zero, suc, ◌+◌, ◌-◌, ◌<◌, ◌≤◌, ◌^◌, Bool, true, false, cond, List, [], ◌∷◌, ◌++◌, length, get_or, drop, take, Some, None, refl, sym, ◌∙◌, ap, subst, arith, append_assoc}
 use Rattle.std.proofs.lemmas.Bool.{or_parts, eqb-true, eq-eqb}
-use Rattle.std.specs.Prelude.{map, filter, find, nat_eq, option_to_list, slice_set, unwrap_or}
+use Rattle.std.specs.Prelude.{IfSome, map, filter, find, nat_eq, nat_le, nat_lt, slice_set, unwrap_or}
 use Rattle.std.specs.List.{AllByRecursion}
-use Rattle.std.specs.Option.{option_or}
 use Rattle.std.proofs.lemmas.Bool.Decides.{nat_tests}
-use Rattle.std.proofs.lemmas.List.{drop_more}
-use Rattle.std.proofs.lemmas.List.Elements.{filter-append}
-use Rattle.std.proofs.lemmas.List.Folds.{find-append}
+use Rattle.std.proofs.lemmas.List.{append-nil, drop_all, length-map, length-take-le, take-append-drop}
+use Rattle.std.proofs.Math.Seq.{drop-append_seam, take-append_seam, take-length}
 use Rattle.dv_model.specs.declared.types.Fresh.{Fresh}
 use Rattle.dv_model.specs.declared.types.Shown.{Shown}
-use Rattle.dv_model.proofs.Clients.{Above, above_of_rising, each_of_all, not_same, not_same_back, shows}
+use Rattle.dv_model.proofs.Clients.{Above, above_lower, above_of_rising, each_of_all, not_same, not_same_back, shows}
 use Rattle.dv_view.specs.Following.{given, renewed}
 use Rattle.dv_view.specs.Orders.{AreRising}
 use Rattle.dv_view.proofs.Moving.{all_of_each, rising_of}
+use Rattle.dv_view.proofs.Patching.{Rises, at_below, own_above}
 
--- one change more is copied
-pub copied_more : (p : Shown → Bool) (fresh : List Fresh) (i : ℕ) (f : Fresh) (items : List Shown) → i < length fresh → get_or fresh i f ≡ f
-    → items ++ filter p (given (drop i fresh)) ≡ (items ++ filter p (option_to_list f.row)) ++ filter p (given (drop (i + 1) fresh))
-copied_more p fresh i f items less is =
-    ap (λ fs. items ++ filter p (given fs)) (drop_more fresh i f less ∙ ap (λ g. g ∷ drop (i + 1) fresh) is)
-    ∙ ap (λ rs. items ++ rs) (filter-append p (option_to_list f.row) (given (drop (i + 1) fresh)))
-    ∙ sym (append_assoc items (filter p (option_to_list f.row)) (filter p (given (drop (i + 1) fresh))))
+-- ---- some of the rows that are given
+
+pub given_above : (n : ℕ) (fresh : List Fresh) → Rises n fresh → Above n (given fresh)
+given_above n [] rises = tt
+given_above n (f ∷ fresh) rises = own_above n f.uid f.row (given fresh) rises.1 rises.0 (given_above (f.uid + 1) fresh rises.2)
+
+-- a row that is given lies below those of further changes
+pub above_given : (n : ℕ) (f : Fresh) (rest : List Fresh) (s : Shown) → Rises n (f ∷ rest) → f.row ≡ Some s → Above (s.uid + 1) (given rest)
+above_given n f rest s rises is =
+    let own : s.uid ≡ f.uid = subst (λ o. IfSome o (λ (t : Shown). t.uid ≡ f.uid)) is rises.1 in
+    subst (λ u. Above (u + 1) (given rest)) (sym own) (given_above (f.uid + 1) rest rises.2)
+
+pub filter_above : (p : Shown → Bool) (n : ℕ) (rows : List Shown) → Above n rows → Above n (filter p rows)
+filter_above p n [] above = tt
+filter_above p n (s ∷ rows) above = by_test (p s) (filter_above p (s.uid + 1) rows above.1)
+  where
+    by_test : (b : Bool) → Above (s.uid + 1) (filter p rows) → Above n (cond b (s ∷ filter p rows) (filter p rows))
+    by_test true rest = (above.0, rest)
+    by_test false rest = above_lower n (s.uid + 1) (filter p rows) (omega (arith, above.0)) rest
+
+pub filter_each : (P : Shown → Type 0) (p : Shown → Bool) (rows : List Shown) → AllByRecursion P rows → AllByRecursion P (filter p rows)
+filter_each P p [] each = tt
+filter_each P p (s ∷ rows) each = by_test (p s) (filter_each P p rows each.1)
+  where
+    by_test : (b : Bool) → AllByRecursion P (filter p rows) → AllByRecursion P (cond b (s ∷ filter p rows) (filter p rows))
+    by_test true rest = (each.0, rest)
+    by_test false rest = rest
+
+pub filter_rises : (p : Shown → Bool) (rows : List Shown) → AreRising rows → AreRising (filter p rows)
+filter_rises p rows are = record {
+  uids = rising_of 0 (filter p rows) (filter_above p 0 rows (above_of_rising rows are.uids));
+  below = all_of_each (λ (s : Shown). s.uid < 2 ^ 32 - 1) (filter p rows) (filter_each (λ (s : Shown). s.uid < 2 ^ 32 - 1) p rows (each_of_all (λ (s : Shown). s.uid < 2 ^ 32 - 1) rows are.below));
+}
 
 -- ---- rows that take the place of others
 
@@ -82,31 +107,86 @@ set_none rows s none = sym (renewed_none s rows (each_other rows none))
         let parts = or_parts (nat_eq r.uid s.uid) (shows rows s.uid) none in
         (swap r.uid s.uid parts.0, each_other rows parts.1)
 
--- the last one and then the others
-pub renewed_last : (made : List Shown) (s r : Shown) → renewed (made ++ s ∷ []) r ≡ renewed made (renewed (s ∷ []) r)
-renewed_last made s r =
-    ap (λ o. unwrap_or o r) (find-append (λ (t : Shown). nat_eq t.uid r.uid) made (s ∷ []))
-    ∙ by_test (nat_eq s.uid r.uid) refl
-  where
-    or_some : (o : Option Shown) → unwrap_or (option_or o (Some s)) r ≡ unwrap_or o s
-    or_some (Some t) = refl
-    or_some None = refl
-
-    or_none : (o : Option Shown) → unwrap_or (option_or o None) r ≡ unwrap_or o r
-    or_none (Some t) = refl
-    or_none None = refl
-
-    by_test : (b : Bool) → nat_eq s.uid r.uid ≡ b
-        → unwrap_or (option_or (find (λ t. nat_eq t.uid r.uid) made) (cond b (Some s) None)) r ≡ renewed made (unwrap_or (cond b (Some s) None) r)
-    by_test true e =
-        let same : r.uid ≡ s.uid = sym (eqb-true s.uid r.uid e) in
-        or_some (find (λ t. nat_eq t.uid r.uid) made) ∙ ap (λ u. unwrap_or (find (λ (t : Shown). nat_eq t.uid u) made) s) same
-    by_test false e = or_none (find (λ t. nat_eq t.uid r.uid) made)
-
-pub renewed_each : (made : List Shown) (s : Shown) (rows : List Shown) → map (renewed (made ++ s ∷ [])) rows ≡ map (renewed made) (map (renewed (s ∷ [])) rows)
-renewed_each made s [] = refl
-renewed_each made s (r ∷ rows) = ap (λ t. t ∷ map (renewed (made ++ s ∷ [])) rows) (renewed_last made s r) ∙ ap (λ rs. renewed made (renewed (s ∷ []) r) ∷ rs) (renewed_each made s rows)
-
 pub renewed_by_none : (rows : List Shown) → map (renewed []) rows ≡ rows
 renewed_by_none [] = refl
 renewed_by_none (s ∷ rows) = ap (λ rs. s ∷ rs) (renewed_by_none rows)
+
+-- a choice by UID is the same before and behind
+pub filter_renewed : (p : ℕ → Bool) (made rows : List Shown) → filter (λ s. p s.uid) (map (renewed made) rows) ≡ map (renewed made) (filter (λ s. p s.uid) rows)
+filter_renewed p made [] = refl
+filter_renewed p made (s ∷ rows) =
+    ap (λ b. cond b (renewed made s ∷ filter (λ t. p t.uid) (map (renewed made) rows)) (filter (λ t. p t.uid) (map (renewed made) rows))) (ap p (renewed_uid made s))
+    ∙ by_test (p s.uid) (filter_renewed p made rows)
+  where
+    by_test : (b : Bool) → filter (λ t. p t.uid) (map (renewed made) rows) ≡ map (renewed made) (filter (λ t. p t.uid) rows)
+        → cond b (renewed made s ∷ filter (λ t. p t.uid) (map (renewed made) rows)) (filter (λ t. p t.uid) (map (renewed made) rows)) ≡ map (renewed made) (cond b (s ∷ filter (λ t. p t.uid) rows) (filter (λ t. p t.uid) rows))
+    by_test true rest = ap (λ rs. renewed made s ∷ rs) rest
+    by_test false rest = rest
+
+-- ---- one after another
+
+-- the first one and then others above it
+renewed_first : (s : Shown) (made : List Shown) (r : Shown) → Above (s.uid + 1) made → renewed (s ∷ made) r ≡ renewed made (renewed (s ∷ []) r)
+renewed_first s made r above = by_test (nat_eq s.uid r.uid)
+  where
+    by_test : (b : Bool) → unwrap_or (cond b (Some s) (find (λ t. nat_eq t.uid r.uid) made)) r ≡ renewed made (unwrap_or (cond b (Some s) None) r)
+    by_test true = sym (ap (λ o. unwrap_or o s) (at_below (s.uid + 1) s.uid made above (omega arith)))
+    by_test false = refl
+
+renewed_firsts : (s : Shown) (made rows : List Shown) → Above (s.uid + 1) made → map (renewed (s ∷ made)) rows ≡ map (renewed made) (map (renewed (s ∷ [])) rows)
+renewed_firsts s made [] above = refl
+renewed_firsts s made (r ∷ rows) above = ap (λ t. t ∷ map (renewed (s ∷ made)) rows) (renewed_first s made r above) ∙ ap (λ rs. renewed made (renewed (s ∷ []) r) ∷ rs) (renewed_firsts s made rows above)
+
+-- the rows behind some that are given: those below a UID are put among the first so many, and the others behind all
+abbrev pub rows_put : ℕ → ℕ → List Shown → List Shown → List Shown
+rows_put b count rows made = map (renewed (filter (λ s. nat_lt s.uid b) made)) (take count rows) ++ (drop count rows ++ filter (λ s. nat_le b s.uid) made)
+
+put_among : (p : Shown → Bool) (s : Shown) (made rows : List Shown) → Above (s.uid + 1) made
+    → map (renewed (filter p made)) (map (renewed (filter p (s ∷ []))) rows) ≡ map (renewed (filter p (s ∷ made))) rows
+put_among p s made rows above = by_test (p s)
+  where
+    by_test : (b : Bool) → map (renewed (filter p made)) (map (renewed (cond b (s ∷ []) [])) rows) ≡ map (renewed (cond b (s ∷ filter p made) (filter p made))) rows
+    by_test true = sym (renewed_firsts s (filter p made) rows (filter_above p (s.uid + 1) made above))
+    by_test false = ap (map (renewed (filter p made))) (renewed_by_none rows)
+
+put_behind : (p : Shown → Bool) (s : Shown) (made rows : List Shown) → (rows ++ filter p (s ∷ [])) ++ filter p made ≡ rows ++ filter p (s ∷ made)
+put_behind p s made rows = append_assoc rows (filter p (s ∷ [])) (filter p made) ∙ ap (λ rs. rows ++ rs) (by_test (p s))
+  where
+    by_test : (b : Bool) → cond b (s ∷ []) [] ++ filter p made ≡ cond b (s ∷ filter p made) (filter p made)
+    by_test true = refl
+    by_test false = refl
+
+module _ (b count : ℕ) (rows : List Shown) (inside : count ≤ length rows) where
+  pub front_put : (made : List Shown) → take count (rows_put b count rows made) ≡ map (renewed (filter (λ s. nat_lt s.uid b) made)) (take count rows)
+  front_put made =
+      let front = map (renewed (filter (λ s. nat_lt s.uid b) made)) (take count rows) in
+      let long : length front ≡ count = length-map (take count rows) (renewed (filter (λ s. nat_lt s.uid b) made)) ∙ length-take-le count rows inside in
+      ap (λ n. take n (rows_put b count rows made)) (sym long) ∙ take-append_seam front (drop count rows ++ filter (λ s. nat_le b s.uid) made)
+
+  back_put : (made : List Shown) → drop count (rows_put b count rows made) ≡ drop count rows ++ filter (λ s. nat_le b s.uid) made
+  back_put made =
+      let front = map (renewed (filter (λ s. nat_lt s.uid b) made)) (take count rows) in
+      let long : length front ≡ count = length-map (take count rows) (renewed (filter (λ s. nat_lt s.uid b) made)) ∙ length-take-le count rows inside in
+      ap (λ n. drop n (rows_put b count rows made)) (sym long) ∙ drop-append_seam front (drop count rows ++ filter (λ s. nat_le b s.uid) made)
+
+  pub put_more : (s : Shown) (made : List Shown) → Above (s.uid + 1) made → rows_put b count (rows_put b count rows (s ∷ [])) made ≡ rows_put b count rows (s ∷ made)
+  put_more s made above =
+      let low = λ (t : Shown). nat_lt t.uid b in
+      let high = λ (t : Shown). nat_le b t.uid in
+      ap (λ rs. map (renewed (filter low made)) rs ++ (drop count (rows_put b count rows (s ∷ [])) ++ filter high made)) (front_put (s ∷ []))
+      ∙ ap (λ rs. map (renewed (filter low made)) (map (renewed (filter low (s ∷ []))) (take count rows)) ++ (rs ++ filter high made)) (back_put (s ∷ []))
+      ∙ ap (λ rs. rs ++ ((drop count rows ++ filter high (s ∷ [])) ++ filter high made)) (put_among low s made (take count rows) above)
+      ∙ ap (λ rs. map (renewed (filter low (s ∷ made))) (take count rows) ++ rs) (put_behind high s made (drop count rows))
+
+-- none is given
+pub put_none : (b count : ℕ) (rows : List Shown) → rows_put b count rows [] ≡ rows
+put_none b count rows =
+    ap (λ rs. rs ++ (drop count rows ++ [])) (renewed_by_none (take count rows)) ∙ ap (λ rs. take count rows ++ rs) (append-nil (drop count rows)) ∙ take-append-drop count rows
+
+-- those below the UID are put among all rows
+pub put_whole : (b count : ℕ) (rows made : List Shown) → count ≡ length rows
+    → rows_put b count rows made ≡ map (renewed (filter (λ s. nat_lt s.uid b) made)) rows ++ filter (λ s. nat_le b s.uid) made
+put_whole b count rows made all =
+    ap (λ n. rows_put b n rows made) all
+    ∙ ap (λ rs. map (renewed (filter (λ s. nat_lt s.uid b) made)) rs ++ (drop (length rows) rows ++ filter (λ s. nat_le b s.uid) made)) (take-length rows)
+    ∙ ap (λ rs. map (renewed (filter (λ s. nat_lt s.uid b) made)) rows ++ (rs ++ filter (λ s. nat_le b s.uid) made)) (drop_all (length rows) rows (omega arith))

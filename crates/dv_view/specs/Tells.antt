@@ -23,9 +23,13 @@ removals_of new old = map (λ row. reply.Expunge row.0) (reverse (numbers (λ s.
 abbrev pub shows_all : List Shown → List Shown → Bool
 shows_all old new = list_all (λ s. list_any (λ t. nat_eq t.uid s.uid) old) new
 
--- one FETCH for each of these rows, numbered from k, that isn't as one of the old ones
+-- each of these rows, numbered from k, that isn't as one of the old ones
+abbrev pub told_rows : List Shown → ℕ → List Shown → List (ℕ × Shown)
+told_rows old k new = numbers (λ s. not (list_any (same_row s) old)) k new
+
+-- one FETCH for each of them
 abbrev pub changes_of : List (List ℕ) → List Shown → ℕ → List Shown → List Reply
-changes_of names old k new = map (fetch_of names) (numbers (λ s. not (list_any (same_row s) old)) k new)
+changes_of names old k new = map (fetch_of names) (told_rows old k new)
 
 -- what is said of a move, by the rows before and behind it and a table of names
 abbrev pub said_of : List (List ℕ) → List Shown → List Shown → List Reply

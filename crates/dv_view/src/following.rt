@@ -1,113 +1,114 @@
-ghost use Rattle.std.specs.Prelude.{◌≡◌, ◌+◌, ◌<◌, ◌≤◌, ◌∷◌, [], ◌++◌, OnErr, OnOk, IfOk, filter, map, nat_le, nat_lt, not, vec_capacity, vec_len};
+ghost use Rattle.std.specs.Prelude.{◌≡◌, ◌+◌, ◌<◌, ◌≤◌, ◌∷◌, [], ◌++◌, OnErr, OnOk, drop, filter, length, map, nat_le, nat_lt, not, take, vec_capacity, vec_len};
 ghost use Rattle.dv_model.specs.declared.types.Step.TheVariants.{Held, Full};
 ghost use Rattle.dv_view.specs.Following.{AreGiven, AreKnown, given, has_left, renewed, rows_after};
 ghost use Rattle.dv_view.specs.Orders.{AreRising, IsOrdered};
 
-use crate::copies::copy_of;
 use crate::fresh_places::{has_left, loses_row};
 use crate::places::place_of;
 use dv_model::{Fresh, NoMemory, Shown, Step};
-use std::alloc::{AllocError, Global};
 
-// Copies of the rows that are given: of those that were shown before, and of new ones.
-#[derive(Drop)]
-struct Copies {
-    changed: Vec<Shown>,
-    added: Vec<Shown>,
-}
-
-fn add_copy(copies: &mut Copies, next_uid: u32, s: Shown) -> Result<(), AllocError>
-    ensures changed { OnOk result (copies.new.changed.items
-        ≡ copies.old.changed.items ++ filter (λ t. nat_lt t.uid next_uid) (s ∷ [])) }
-    ensures added { OnOk result (copies.new.added.items
-        ≡ copies.old.added.items ++ filter (λ t. nat_le next_uid t.uid) (s ∷ [])) }
+// How many rows are given with a UID from this one on.
+fn count_new(fresh: &[Fresh], next_uid: u32) -> usize
+    ensures { result ≡ length (filter (λ s. nat_le next_uid s.uid) (given fresh.now)) }
 {
-    if s.uid < next_uid {
-        copies.changed.push(s)?;
-    } else {
-        copies.added.push(s)?;
-    }
-    Ok(())
-}
-
-fn copies_of(alloc: Global, fresh: &[Fresh], next_uid: u32) -> Result<Copies, NoMemory>
-    ensures changed { IfOk result (λ c. c.changed.items
-        ≡ filter (λ s. nat_lt s.uid next_uid) (given fresh.now)) }
-    ensures added { IfOk result (λ c. c.added.items
-        ≡ filter (λ s. nat_le next_uid s.uid) (given fresh.now)) }
-{
-    let mut copies = Copies {
-        changed: Vec::new(alloc),
-        added: Vec::new(alloc),
-    };
+    let mut count = 0;
     for f in fresh {
         if let Some(s) = &f.row {
-            add_copy(&mut copies, next_uid, copy_of(alloc, s)?)?;
+            if s.uid >= next_uid {
+                count += 1;
+            }
         }
     }
-    Ok(copies)
+    count
 }
 
-// Sets the row of this UID, where there is one.
-fn renew(rows: &mut [Shown], s: Shown)
-    requires { AreRising rows.old }
-    ensures { rows.new ≡ map (renewed (s ∷ [])) rows.old }
-{
-    if let Some(at) = place_of(rows, s.uid) {
-        rows[at] = s;
-    }
-}
-
-// Sets the rows of these UIDs.
-fn renew_all(rows: &mut [Shown], changed: Vec<Shown>)
-    requires { AreRising rows.old }
-    ensures { rows.new ≡ map (renewed changed.items) rows.old }
-{
-    let mut changed = changed;
-    while let Some(s) = changed.pop() {
-        renew(rows, s);
-    }
-}
-
-// The rows behind the step, in the room that is there.
-fn put(rows: &mut Vec<Shown>, copies: Copies, fresh: &[Fresh], step: Step)
-    requires room { vec_len rows.old + vec_len copies.added ≤ vec_capacity rows.old }
+// Removes the rows that have left, where the step tells of them.
+fn lose(rows: &mut Vec<Shown>, fresh: &[Fresh], step: Step)
     requires rising { AreRising rows.old.items }
     requires given { AreGiven fresh.now }
-    ensures held { step ≡ Held →
-        rows.new.items ≡ map (renewed copies.changed.items) rows.old.items ++ copies.added.items }
+    ensures held { step ≡ Held → rows.new.items ≡ rows.old.items }
     ensures full { step ≡ Full →
-        rows.new.items ≡ filter (λ s. not (has_left fresh.now s.uid))
-        (map (renewed copies.changed.items) rows.old.items) ++ copies.added.items }
+        rows.new.items ≡ filter (λ s. not (has_left fresh.now s.uid)) rows.old.items }
+    ensures len { vec_len rows.new ≤ vec_len rows.old }
+    ensures capacity { vec_capacity rows.new ≡ vec_capacity rows.old }
 {
-    let Copies { changed, mut added } = copies;
     let loses = match step {
         Step::Held => false,
         Step::Full => loses_row(rows, fresh),
     };
-    renew_all(rows, changed);
     if loses {
         rows.retain(|s| !has_left(fresh, s.uid));
     }
-    rows.append(&mut added).unwrap();
 }
 
-/// Moves the rows of a view on. After `NoMemory` they are as before.
+// Sets the row of this UID, where there is one among the first so many.
+fn renew(rows: &mut Vec<Shown>, count: usize, s: Shown)
+    requires inside { count ≤ vec_len rows.old }
+    requires rising { AreRising (take count rows.old.items) }
+    ensures items { rows.new.items
+        ≡ map (renewed (s ∷ [])) (take count rows.old.items) ++ drop count rows.old.items }
+    ensures len { vec_len rows.new ≡ vec_len rows.old }
+    ensures capacity { vec_capacity rows.new ≡ vec_capacity rows.old }
+{
+    let (old, _) = rows.split_at(count);
+    if let Some(at) = place_of(old, s.uid) {
+        rows[at] = s;
+    }
+}
+
+// Puts a row that is given in the place of the one of its UID, or behind all, where there is room.
+fn put(rows: &mut Vec<Shown>, count: usize, next_uid: u32, s: Shown)
+    requires inside { count ≤ vec_len rows.old }
+    requires rising { AreRising (take count rows.old.items) }
+    requires room { next_uid ≤ s.uid → vec_len rows.old < vec_capacity rows.old }
+    ensures items { rows.new.items
+        ≡ map (renewed (filter (λ t. nat_lt t.uid next_uid) (s ∷ []))) (take count rows.old.items)
+        ++ (drop count rows.old.items ++ filter (λ t. nat_le next_uid t.uid) (s ∷ [])) }
+    ensures len { vec_len rows.new
+        ≡ vec_len rows.old + length (filter (λ t. nat_le next_uid t.uid) (s ∷ [])) }
+    ensures capacity { vec_capacity rows.new ≡ vec_capacity rows.old }
+{
+    if s.uid < next_uid {
+        renew(rows, count, s);
+    } else {
+        rows.push_reserved(s);
+    }
+}
+
+// The rows with those that are given, for which there is room.
+fn put_all(rows: &mut Vec<Shown>, next_uid: u32, fresh: Vec<Fresh>)
+    requires rising { AreRising rows.old.items }
+    requires given { AreGiven fresh.items }
+    requires room { vec_len rows.old
+        + length (filter (λ s. nat_le next_uid s.uid) (given fresh.items))
+        ≤ vec_capacity rows.old }
+    ensures { rows.new.items
+        ≡ map (renewed (filter (λ s. nat_lt s.uid next_uid) (given fresh.items))) rows.old.items
+        ++ filter (λ s. nat_le next_uid s.uid) (given fresh.items) }
+{
+    let count = rows.len();
+    for f in fresh {
+        if let Some(s) = f.row {
+            put(rows, count, next_uid, s);
+        }
+    }
+}
+
+/// Moves the rows of a view on. No row is copied. After `NoMemory` they are as before.
 pub fn follow(
-    alloc: Global,
     rows: &mut Vec<Shown>,
     next_uid: u32,
-    fresh: &[Fresh],
+    fresh: Vec<Fresh>,
     step: Step,
 ) -> Result<(), NoMemory>
     requires ordered { IsOrdered (record { rows = rows.old.items; next_uid = next_uid }) }
-    requires given { AreGiven fresh.now }
-    requires known { AreKnown rows.old.items next_uid fresh.now }
-    ensures ok { OnOk result (rows.new.items ≡ rows_after step rows.old.items fresh.now) }
+    requires given { AreGiven fresh.items }
+    requires known { AreKnown rows.old.items next_uid fresh.items }
+    ensures ok { OnOk result (rows.new.items ≡ rows_after step rows.old.items fresh.items) }
     ensures err { OnErr result (rows.new.items ≡ rows.old.items) }
 {
-    let copies = copies_of(alloc, fresh, next_uid)?;
-    rows.reserve(copies.added.len())?;
-    put(rows, copies, fresh, step);
+    rows.reserve(count_new(&fresh, next_uid))?;
+    lose(rows, &fresh, step);
+    put_all(rows, next_uid, fresh);
     Ok(())
 }

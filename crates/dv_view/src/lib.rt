@@ -10,6 +10,7 @@ mod laws;
 mod moves;
 mod places;
 mod replies;
+mod taking;
 mod telling;
 mod view;
 
@@ -17,4 +18,5 @@ pub use client::Client;
 pub use copies::{names_at, shown};
 pub use laws::{bare_client_has_view, changes_follow};
 pub use replies::add_changes;
+pub use taking::Replies;
 pub use view::View;

@@ -60,7 +60,8 @@ pub fn moved_rows(
             Ok(made)
         }
         Step::Full => {
-            let mut made = List::new(alloc);
+            let rows = Vec::with_capacity(alloc, live.count() as usize)?;
+            let mut made = List::from_vec(rows);
             add_rows(alloc, live, 0, &mut made)?;
             Ok(made)
         }

@@ -1,24 +1,24 @@
-ghost use Rattle.std.specs.Prelude.{◌≡◌, ◌++◌, ◌<◌, ◌^◌, length, OnOk, IfOk};
+ghost use Rattle.std.specs.Prelude.{◌≡◌, ◌<◌, ◌^◌, length, OnOk};
 ghost use Rattle.dv_view.specs.Orders.{AreRising};
 ghost use Rattle.dv_view.specs.Tells.{changes_of, removals_of, said_of, shows_all};
 
-use crate::copies::fetch_of;
+use crate::Replies;
 use crate::places::{is_told, shows};
 use dv_keywords::Table;
-use dv_model::{List, NoMemory, Reply, Shown};
+use dv_model::{NoMemory, Reply, Shown};
 use std::alloc::Global;
 
 /// Adds one EXPUNGE for each old row that left, from the highest number down.
-pub fn add_removals(old: &[Shown], new: &[Shown], said: &mut List<Reply>) -> Result<(), NoMemory>
+pub fn add_removals<R: Replies>(old: &[Shown], new: &[Shown], said: &mut R) -> Result<(), NoMemory>
     requires count { length old.now < 2 ^ 32 }
     requires rising { AreRising new.now }
-    ensures { OnOk result (said.new ≡ said.old ++ removals_of new.now old.now) }
+    ensures { OnOk result (said.new ≡ R.with said.old (removals_of new.now old.now)) }
 {
     let mut number = old.len() as u32;
     while number > 0 {
         let uid = old[number as usize - 1].uid;
         if !shows(new, uid) {
-            said.push(Reply::Expunge(number))?;
+            said.take(Reply::Expunge(number))?;
         }
         number -= 1;
     }
@@ -39,43 +39,43 @@ pub fn shows_all(old: &[Shown], new: &[Shown]) -> bool
 }
 
 /// Adds one FETCH for each row that is new or changed, by rising number.
-pub fn add_changes(
+pub fn add_changes<R: Replies>(
     alloc: Global,
     names: &Table,
     old: &[Shown],
     new: &[Shown],
-    said: &mut List<Reply>,
+    said: &mut R,
 ) -> Result<(), NoMemory>
     requires count { length new.now < 2 ^ 32 }
     requires rising { AreRising old.now }
-    ensures { OnOk result (said.new ≡ said.old ++ changes_of names.now.names old.now 1 new.now) }
+    ensures { OnOk result
+        (said.new ≡ R.with said.old (changes_of names.now.names old.now 1 new.now)) }
 {
     let mut number = 0;
     for s in new {
         number += 1;
         if is_told(old, s) {
-            said.push(fetch_of(alloc, names, number, s)?)?;
+            said.take_flags(alloc, names, number, s)?;
         }
     }
     Ok(())
 }
 
-/// What is said where the old rows become the new ones.
-pub fn said(
+/// Adds what is said where the old rows become the new ones.
+pub fn add_said<R: Replies>(
     alloc: Global,
     names: &Table,
     old: &[Shown],
     new: &[Shown],
-) -> Result<List<Reply>, NoMemory>
+    said: &mut R,
+) -> Result<(), NoMemory>
     requires old_rows { AreRising old.now }
     requires new_rows { AreRising new.now }
-    ensures { IfOk result (λ replies. replies ≡ said_of names.now.names old.now new.now) }
+    ensures { OnOk result (said.new ≡ R.with said.old (said_of names.now.names old.now new.now)) }
 {
-    let mut replies = List::new(alloc);
-    add_removals(old, new, &mut replies)?;
+    add_removals(old, new, said)?;
     if !shows_all(old, new) {
-        replies.push(Reply::Exists(new.len() as u32))?;
+        said.take(Reply::Exists(new.len() as u32))?;
     }
-    add_changes(alloc, names, old, new, &mut replies)?;
-    Ok(replies)
+    add_changes(alloc, names, old, new, said)
 }

@@ -7,14 +7,15 @@ ghost use Rattle.dv_model.specs.declared.types.Mailbox.{Mailbox};
 ghost use Rattle.dv_view.specs.Following.{IsPatched, rows_after};
 ghost use Rattle.dv_view.specs.Orders.{IsOrdered};
 
+use crate::Replies;
 use crate::following::follow;
 use crate::moves::moved_rows;
 use crate::places::place_of;
-use crate::replies::said;
-use crate::telling::said_by;
+use crate::replies::add_said;
+use crate::telling::add_said_by;
 use dv_apply::Live;
 use dv_keywords::Table;
-use dv_model::{Fresh, List, NoMemory, Reply, Shown, Step};
+use dv_model::{Fresh, List, NoMemory, Shown, Step};
 use std::alloc::Global;
 use std::marker::Model;
 use std::mem;
@@ -87,105 +88,112 @@ impl View {
         place_of(self.rows.as_slice(), uid)
     }
 
-    /// Moves on to a mailbox, and gives what the session is told of it. After `NoMemory`, which is
+    /// Moves on to a mailbox, and adds what the session is told of it. After `NoMemory`, which is
     /// the only error, the view is as before. The time is in proportion to the rows of both.
-    pub fn advance(&mut self, live: &Live, step: Step) -> Result<List<Reply>, NoMemory>
+    pub fn advance<R: Replies>(
+        &mut self,
+        live: &Live,
+        step: Step,
+        replies: &mut R,
+    ) -> Result<(), NoMemory>
         // The mailbox isn't older than the view.
         requires later { self.old.next_uid ≤ live.now.mailbox.next_uid }
         // The view moves by the step, and exactly that is said.
         ensures view { OnOk result (self.new ≡ moved step self.old live.now.mailbox) }
-        ensures said { IfOk result (λ replies.
-            replies ≡ said live.now.mailbox self.old (moved step self.old live.now.mailbox)) }
+        ensures said { OnOk result (replies.new ≡ R.with replies.old
+            (said live.now.mailbox self.old (moved step self.old live.now.mailbox))) }
         ensures err { OnErr result (self.new ≡ self.old) }
     {
         let next_uid = live.next_uid();
         let rows = moved_rows(self.alloc, live, self.rows.as_slice(), self.next_uid, step)?;
-        let replies = said(
+        add_said(
             self.alloc,
             live.names(),
             self.rows.as_slice(),
             rows.as_slice(),
+            replies,
         )?;
         self.rows = rows;
         self.next_uid = next_uid;
-        Ok(replies)
+        Ok(())
     }
 
-    /// What the session is told of changes that are given by UID. The view stays. `NoMemory` is the
-    /// only error. The time is in proportion to the changes.
-    pub fn said_by(
+    /// Adds what the session is told of changes that are given by UID. The view stays. `NoMemory`
+    /// is the only error. The time is in proportion to the changes.
+    pub fn add_said_by<R: Replies>(
         &self,
         next_uid: u32,
         fresh: &List<Fresh>,
         names: &Table,
         step: Step,
-    ) -> Result<List<Reply>, NoMemory>
+        replies: &mut R,
+    ) -> Result<(), NoMemory>
         requires { AreFresh self.now next_uid (length names.now.names) fresh.now }
         // To whatever mailbox the changes lead, just the view's move to it is said.
-        ensures { IfOk result (λ replies. (m : Mailbox)
+        ensures { OnOk result ((m : Mailbox)
             → IsPatched self.now next_uid names.now.names fresh.now m
-            → replies ≡ said m self.now (moved step self.now m)) }
+            → replies.new ≡ R.with replies.old (said m self.now (moved step self.now m))) }
     {
-        said_by(
+        add_said_by(
             self.alloc,
             names,
             self.rows.as_slice(),
             fresh.as_slice(),
             step,
+            replies,
         )
     }
 
     /// Moves on by changes that are given by UID. After `NoMemory`, which is the only error, the
-    /// view is as before. The time is in proportion to the changes; only where a row leaves are all
-    /// rows gone through.
-    pub fn follow(&mut self, next_uid: u32, fresh: &List<Fresh>, step: Step) -> Result<(), NoMemory>
-        requires { (names : ℕ) × AreFresh self.old next_uid names fresh.now }
+    /// view is as before. The rows that are given are moved, not copied. The time is in proportion
+    /// to the changes; only where a row leaves are all rows gone through.
+    pub fn follow(&mut self, next_uid: u32, fresh: List<Fresh>, step: Step) -> Result<(), NoMemory>
+        requires { (names : ℕ) × AreFresh self.old next_uid names fresh }
         // The rows are the old ones with the changes of which the step tells.
         ensures rows { OnOk result (self.new ≡ record {
-          rows = rows_after step self.old.rows fresh.now;
+          rows = rows_after step self.old.rows fresh;
           next_uid = next_uid;
         }) }
         // To whatever mailbox the changes lead, the view moves by the step.
         ensures view { OnOk result ((names : Listed (Listed ℕ)) (m : Mailbox)
-            → IsPatched self.old next_uid names fresh.now m
+            → IsPatched self.old next_uid names fresh m
             → self.new ≡ moved step self.old m) }
         ensures err { OnErr result (self.new ≡ self.old) }
     {
-        let fresh = fresh.as_slice();
         let mut rows = mem::replace(&mut self.rows, List::new(self.alloc)).into_vec();
-        let followed = follow(self.alloc, &mut rows, self.next_uid, fresh, step);
+        let followed = follow(&mut rows, self.next_uid, fresh.into_vec(), step);
         self.rows = List::from_vec(rows);
         followed?;
         self.next_uid = next_uid;
         Ok(())
     }
 
-    /// Moves on by changes that are given by UID, without a look at the mailbox, and gives what the
-    /// session is told of it, as `said_by` and `follow` do.
-    pub fn advance_by(
+    /// Moves on by changes that are given by UID, without a look at the mailbox, and adds what the
+    /// session is told of it, as `add_said_by` and `follow` do.
+    pub fn advance_by<R: Replies>(
         &mut self,
         next_uid: u32,
-        fresh: &List<Fresh>,
+        fresh: List<Fresh>,
         names: &Table,
         step: Step,
-    ) -> Result<List<Reply>, NoMemory>
-        requires { AreFresh self.old next_uid (length names.now.names) fresh.now }
+        replies: &mut R,
+    ) -> Result<(), NoMemory>
+        requires { AreFresh self.old next_uid (length names.now.names) fresh }
         // The rows are the old ones with the changes of which the step tells.
         ensures rows { OnOk result (self.new ≡ record {
-          rows = rows_after step self.old.rows fresh.now;
+          rows = rows_after step self.old.rows fresh;
           next_uid = next_uid;
         }) }
         // To whatever mailbox the changes lead, the view moves by the step, and just that is said.
         ensures view { OnOk result ((m : Mailbox)
-            → IsPatched self.old next_uid names.now.names fresh.now m
+            → IsPatched self.old next_uid names.now.names fresh m
             → self.new ≡ moved step self.old m) }
-        ensures said { IfOk result (λ replies. (m : Mailbox)
-            → IsPatched self.old next_uid names.now.names fresh.now m
-            → replies ≡ said m self.old (moved step self.old m)) }
+        ensures said { OnOk result ((m : Mailbox)
+            → IsPatched self.old next_uid names.now.names fresh m
+            → replies.new ≡ R.with replies.old (said m self.old (moved step self.old m))) }
         ensures err { OnErr result (self.new ≡ self.old) }
     {
-        let replies = self.said_by(next_uid, fresh, names, step)?;
-        self.follow(next_uid, fresh, step)?;
-        Ok(replies)
+        self.add_said_by(next_uid, &fresh, names, step, replies)?;
+        self.follow(next_uid, fresh, step)
     }
 }

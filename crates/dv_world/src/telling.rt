@@ -15,7 +15,7 @@ use crate::kept::{Kept, Pending, Seat, Stored};
 use crate::marks::mark_of;
 use crate::same::same_write;
 use crate::seats::place_of;
-use dv_model::{Command, Duplicate, Mark, NoMemory};
+use dv_model::{Command, Duplicate, List, Mark, NoMemory};
 use dv_responses::{Met, is_shallow, is_write, meet};
 use std::alloc::Global;
 
@@ -73,9 +73,9 @@ fn answer(
     let command = c.copy(alloc)?;
     seat.answers.reserve(1)?;
     let told = seat.seen as u64;
-    let replies = seat
-        .session
-        .answer(c, &seat.live, &facts, taken, mark, told)?;
+    let mut replies = List::new(alloc);
+    seat.session
+        .answer(c, &seat.live, &facts, taken, mark, told, &mut replies)?;
     seat.answers.push((command, replies))?;
     seat.told = seat.seen;
     seat.wrote = None;

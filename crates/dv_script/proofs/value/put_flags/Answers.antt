@@ -9,5 +9,5 @@ pub returns : goal.returns
 returns c =
     let words = flag_words c.args.flags ++ c.args.keywords.now in
     let written = all_words (more_words c.in_ok-first.ensures c.in_ok-put_keywords.ensures) in
-    let front = pieces _ _ _ (codes "FLAGS (") (spaced words) c.in_ok-put.ensures written in
-    IfOk-weaker c.put-2.result _ _ (λ done last. pieces _ _ _ (codes "FLAGS (" ++ spaced words) (codes ")") front last) c.put-2.ensures
+    let front = pieces _ _ _ (codes " FLAGS (") (spaced words) c.in_ok-put.ensures written in
+    IfOk-weaker c.put-2.result _ _ (λ done last. pieces _ _ _ (codes " FLAGS (" ++ spaced words) (codes ")") front last) c.put-2.ensures

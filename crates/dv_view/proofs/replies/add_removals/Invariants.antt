@@ -1,12 +1,12 @@
-use Rattle.std.proofs.Common.{◌≡◌, ◌≤◌, ◌++◌, length, take}
+use Rattle.std.proofs.Common.{◌≡◌, ◌≤◌, length, take}
 use Rattle.dv_view.specs.Tells.{removals_of}
 use Rattle.dv_view.proofs.replies.add_removals.Given as goal
 
 abbrev pub invariant-loop-number : goal.invariant-loop-number
-invariant-loop-number l = record {
+invariant-loop-number g l = record {
   inside : l.number ≤ length l.old;
-  said : l.said ++ removals_of l.new (take l.number l.old) ≡ l.initial.said ++ removals_of l.new l.old;
+  said : g.R.Replies.with l.said (removals_of l.new (take l.number l.old)) ≡ g.R.Replies.with l.initial.said (removals_of l.new l.old);
 }
 
 abbrev pub decreases-loop-number : goal.decreases-loop-number
-decreases-loop-number l = l.number
+decreases-loop-number g l = l.number

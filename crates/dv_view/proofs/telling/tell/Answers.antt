@@ -31,7 +31,6 @@ tell_row-requires-clause-number c =
 
 pub returns : goal.returns
 returns c =
-    let names = c.args.names.now.names in
     let rows = c.args.rows.now in
     let fresh = c.args.fresh.now in
     let step = c.args.step in
@@ -43,19 +42,19 @@ returns c =
     let new = rows_after step rows fresh in
     let behind = patched (without f.uid (drop k (drop before.from rows))) (told_of step (drop (c.args.at + 1) fresh)) in
     let next = next_told step fresh c.requires.given c.args.at f c.requires.at c.index-fresh-at.is (drop before.from rows) k e place in
-    let goes = subst (λ rs. GoesOn names rows new rs before) next c.requires.told.rest in
-    let over : GoesOn names rows new (option_to_list f.row ++ behind) c.pass.new.told =
-    subst (GoesOn names rows new (option_to_list f.row ++ behind)) (sym c.pass.ensures.told) (passed names rows new before.from k (option_to_list f.row ++ behind) before place.0 goes) in
+    let goes = subst (λ rs. GoesOn rows new rs before) next c.requires.told.rest in
+    let over : GoesOn rows new (option_to_list f.row ++ behind) c.pass.new.told =
+    subst (GoesOn rows new (option_to_list f.row ++ behind)) (sym c.pass.ensures.told) (passed rows new before.from k (option_to_list f.row ++ behind) before place.0 goes) in
     let from : c.pass.new.told.from ≡ before.from + k = ap (λ (t : Telling). t.from) c.pass.ensures.told in
     elim c.match-f.branch [
       | in-Some+in_ok-tell_row w ↦
-          let mid : GoesOn names rows new behind w.tell_row.new.told = w.in_ok-tell_row.ensures.told new behind (subst (λ row. GoesOn names rows new (option_to_list row ++ behind) c.pass.new.told) w.in-Some.is over) in
+          let mid : GoesOn rows new behind w.tell_row.new.told = w.in_ok-tell_row.ensures.told new behind (subst (λ row. GoesOn rows new (option_to_list row ++ behind) c.pass.new.told) w.in-Some.is over) in
           let is : c.match-f.told ≡ w.tell_row.new.told = w.told-is in
-          one_told names step rows fresh c.args.at f before.from k c.match-f.told c.leave.new.told
-          (ap (λ (t : Telling). t.from) is ∙ w.tell_row.ensures.from ∙ from) (subst (GoesOn names rows new behind) (sym is) mid) c.leave.ensures.is c.leave.ensures.told c.leave.ensures.inside
+          one_told step rows fresh c.args.at f before.from k c.match-f.told c.leave.new.told
+          (ap (λ (t : Telling). t.from) is ∙ w.tell_row.ensures.from ∙ from) (subst (GoesOn rows new behind) (sym is) mid) c.leave.ensures.is c.leave.ensures.told c.leave.ensures.inside
       | in_default w ↦
-          let mid : GoesOn names rows new behind c.pass.new.told = subst (λ row. GoesOn names rows new (option_to_list row ++ behind) c.pass.new.told) w.in_default.is over in
+          let mid : GoesOn rows new behind c.pass.new.told = subst (λ row. GoesOn rows new (option_to_list row ++ behind) c.pass.new.told) w.in_default.is over in
           let is : c.match-f.told ≡ c.pass.new.told = w.told-is in
-          one_told names step rows fresh c.args.at f before.from k c.match-f.told c.leave.new.told
-          (ap (λ (t : Telling). t.from) is ∙ from) (subst (GoesOn names rows new behind) (sym is) mid) c.leave.ensures.is c.leave.ensures.told c.leave.ensures.inside
+          one_told step rows fresh c.args.at f before.from k c.match-f.told c.leave.new.told
+          (ap (λ (t : Telling). t.from) is ∙ from) (subst (GoesOn rows new behind) (sym is) mid) c.leave.ensures.is c.leave.ensures.told c.leave.ensures.inside
     ]

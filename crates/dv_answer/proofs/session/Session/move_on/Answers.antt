@@ -6,8 +6,8 @@ use Rattle.dv_answer.specs.Following.{Follower, Tracks, is_untold, untold}
 use Rattle.dv_answer.proofs.Keeping.{fresh_here, move_tracks, patched_here}
 use Rattle.dv_answer.proofs.session.Session.move_on.Goals as goal
 
-pub said_by-requires : goal.said_by-requires
-said_by-requires c =
+pub add_said_by-requires : goal.add_said_by-requires
+add_said_by-requires g c =
     let m = c.args.live.now.mailbox in
     let inside = c.self.inside in
     let number = c.next_uid-next_uid.ensures in
@@ -15,7 +15,7 @@ said_by-requires c =
     (subst (λ (f : Follower). Tracks m f.state.view f.touched) (sym c.self.view_is) c.requires)
 
 pub follow-requires : goal.follow-requires
-follow-requires c =
+follow-requires g c =
     let m = c.args.live.now.mailbox in
     let inside = c.self.inside in
     let number = c.next_uid-next_uid.ensures in (
@@ -25,12 +25,12 @@ follow-requires c =
     )
 
 pub of-requires : goal.of-requires
-of-requires c =
+of-requires g c =
     subst IsStrictlyIncreasing (sym c.retain_untold.ensures)
     (IsStrictlyIncreasing-filter (is_untold c.args.live.now.mailbox c.follow.new.self) c.into_uids-uids.result.items (subst IsStrictlyIncreasing (sym c.into_uids-uids.ensures.is) c.into_uids-uids.ensures.rising))
 
 pub returns-clause-abreast : goal.returns-clause-abreast
-returns-clause-abreast c =
+returns-clause-abreast g c =
     let m = c.args.live.now.mailbox in
     let inside = c.self.inside in
     let number = c.next_uid-next_uid.ensures in

@@ -1,4 +1,4 @@
-use Rattle.std.proofs.Common.{ℕ, ◌+◌, ◌<◌, ◌≤◌, ◌++◌, List, length, take, drop, Ok, refl, sym, ◌∙◌, ap, subst}
+use Rattle.std.proofs.Common.{ℕ, ◌+◌, ◌<◌, ◌≤◌, ◌++◌, List, [], length, take, drop, Ok, refl, sym, ◌∙◌, ap, subst}
 use Rattle.std.proofs.lemmas.List.{get_or_read}
 use Rattle.std.proofs.lemmas.Result.{err_from_is_err_and}
 use Rattle.dv_model.specs.Journals.{Damaged, Mail}
@@ -9,7 +9,7 @@ use Rattle.dv_serial.specs.Others.{LeavesOthers}
 use Rattle.dv_serial.specs.Serves.{AreAbreast, seat_at}
 use Rattle.dv_serial.specs.Servings.{Serving}
 use Rattle.dv_serial.specs.Writes.{IsDone}
-use Rattle.dv_serial.proofs.Causes.{told_failures}
+use Rattle.dv_serial.proofs.Causes.{taken_answer, taken_fault}
 use Rattle.dv_serial.proofs.Looking.{answered_abreast, on_ok, told_abreast, told_states, unread_supplied, writes_unread}
 use Rattle.dv_serial.proofs.Seated.{abreast_at}
 use Rattle.dv_serial.proofs.Served.{seat_still, seat_untold, seat_unwritten, seat_wrote}
@@ -21,8 +21,12 @@ returns-in_err-met-clause-serves g c =
     let p = err_from_is_err_and c.from_residual.result c.from_residual.ensures.1 in
     let old = c.args.self.now in
     λ tells reads clock start base attempts small follows.
-    rw p.1 (seat_still S.files S.may_leave S.moment S.left_since g.C.Clock.upcoming clock start base attempts (S.fault_count old.store.shelf) old follows c.args.at (c.args.at + 1) refl c.args.c.now c.requires.at
-    small c.requires.line.command (λ f left. g.met.S.Shelf.only_now old.store.shelf f tells left))
+    rw p.1 (record {
+      replies = [];
+      taken = tt;
+      holds = seat_still S.files S.may_leave S.moment S.left_since g.C.Clock.upcoming clock start base attempts (S.fault_count old.store.shelf) old follows c.args.at (c.args.at + 1) refl c.args.c.now c.requires.at
+          small c.requires.line.command (λ f left. g.met.S.Shelf.only_now old.store.shelf f tells left);
+    })
 
 pub returns-in_err-tell_all-in-Ok-clause-serves : goal.returns-in_err-tell_all-in-Ok-clause-serves
 returns-in_err-tell_all-in-Ok-clause-serves g c =
@@ -37,8 +41,12 @@ returns-in_err-tell_all-in-Ok-clause-serves g c =
     let others = subst (λ (s : Serving g.row.S.Denot g.row.C.Denot). LeavesOthers {A = List ℕ} c.args.c.now old.store.chain.live.mailbox (Ok c.in-Ok.touched) (S.files old.store.shelf) (S.files s.store.shelf)) (sym c.self-in-Ok.view_is) both.1 in
     let done = subst (λ (s : Serving g.row.S.Denot g.row.C.Denot). IsDone S.files S.may_leave S.moment S.left_since g.C.Clock.upcoming clock start attempts (c.args.at + 1, c.args.c.now) c.in-Ok.touched old s) (sym c.self-in-Ok.view_is)
     both.0 in
-    rw p.1 (seat_untold S.files S.may_leave S.moment S.left_since g.C.Clock.upcoming clock start base attempts (S.fault_count old.store.shelf) old follows c.args.at (c.args.at + 1) refl c.args.c.now c.requires.at
-    small c.requires.line.command c.requires.write mid c.in-Ok.touched done others (take inside.seats.len (told ++ drop (length told) inside.seats.items)))
+    rw p.1 (record {
+      replies = [];
+      taken = tt;
+      holds = seat_untold S.files S.may_leave S.moment S.left_since g.C.Clock.upcoming clock start base attempts (S.fault_count old.store.shelf) old follows c.args.at (c.args.at + 1) refl c.args.c.now c.requires.at
+          small c.requires.line.command c.requires.write mid c.in-Ok.touched done others (take inside.seats.len (told ++ drop (length told) inside.seats.items));
+    })
 
 pub answer-requires-clause-abreast : goal.answer-requires-clause-abreast
 answer-requires-clause-abreast g c =
@@ -82,7 +90,7 @@ returns-in_ok-tell_all-in-Ok-clause-serves g c =
     let done = subst (λ (s : Serving g.row.S.Denot g.row.C.Denot). IsDone S.files S.may_leave S.moment S.left_since g.C.Clock.upcoming clock start attempts (c.args.at + 1, c.args.c.now) c.in-Ok.touched old s) (sym c.self-in-Ok.view_is)
     both.0 in
     seat_wrote S.files S.may_leave S.moment S.left_since g.C.Clock.upcoming clock start base attempts (S.fault_count old.store.shelf) old follows at (c.args.at + 1) refl c.args.c.now c.requires.at
-    small c.requires.line.command c.requires.write mid c.in-Ok.touched done others seats (S.fault_count c.answer.new.self.store.shelf) c.answer.new.self c.answer.result c.new-none.result c.in_ok-met.met later has all met_is
+    small c.requires.line.command c.requires.write mid c.in-Ok.touched done others seats g.R.Replies.with c.args.replies.now c.answer.new.replies (S.fault_count c.answer.new.self.store.shelf) c.answer.new.self c.answer.result c.new-none.result c.in_ok-met.met later has all met_is
     c.answer.ensures.answer c.answer.ensures.abreast c.answer.ensures.seats c.answer.ensures.err
 
 pub returns-in_ok-tell_all-in-Ok-clause-abreast : goal.returns-in_ok-tell_all-in-Ok-clause-abreast
@@ -120,7 +128,7 @@ returns-in_ok-tell_all-in-Ok-clause-cause g c =
     let later = subst (λ (s : Serving g.row.S.Denot g.row.C.Denot). S.fault_count old.store.shelf ≤ S.fault_count s.store.shelf) c.answer.ensures.seats
     (subst (λ (s : Serving g.row.S.Denot g.row.C.Denot). S.fault_count old.store.shelf ≤ S.fault_count s.store.shelf) (sym c.self-in-Ok.view_is) c.in-Ok.ensures.cause.later) in
     let mail : ℕ → Mail = λ uid. Damaged in
-    told_failures (S.fault_count old.store.shelf) (S.fault_count new.store.shelf) c.answer.result (seat_at new.seats at).state mail (seat_at seats at).state c.args.c.now old.store.chain.live.mailbox inside.groups m inside.mark later
+    taken_answer (S.fault_count old.store.shelf) (S.fault_count new.store.shelf) g.R.Replies.with c.args.replies.now c.answer.new.replies c.answer.result (seat_at new.seats at).state mail (seat_at seats at).state c.args.c.now old.store.chain.live.mailbox inside.groups m inside.mark later
     (c.answer.ensures.answer mail old.store.chain.live.mailbox met_told (unread_supplied mail c.args.c.now (seat_at seats at).state m c.new-none.result (writes_unread c.args.c.now c.requires.write)))
 
 pub returns-in-Err-clause-serves : goal.returns-in-Err-clause-serves
@@ -131,5 +139,10 @@ returns-in-Err-clause-serves g c =
     λ tells reads clock start base attempts small follows.
     let both = did.commits tells reads clock start base attempts small follows in
     seat_unwritten S.files S.may_leave S.moment S.left_since g.C.Clock.upcoming clock start base attempts (S.fault_count old.store.shelf) old follows c.args.at (c.args.at + 1) refl c.args.c.now c.requires.at
-    small c.requires.line.command c.requires.write c.commit.new.self (S.fault_count c.commit.new.self.store.shelf) c.in-Err.fault c.fault_line.result both.0 did.cause
-    did.seats both.1 c.fault_line.ensures
+    small c.requires.line.command c.requires.write c.commit.new.self g.R.Replies.with c.args.replies.now c.take_fault.new.replies (S.fault_count c.commit.new.self.store.shelf) c.in-Err.fault c.take_fault.result both.0 did.cause
+    did.seats both.1 c.take_fault.ensures
+
+pub returns-in-Err-clause-cause : goal.returns-in-Err-clause-cause
+returns-in-Err-clause-cause g c =
+    let S = g.S.Shelf in
+    taken_fault (S.fault_count c.args.self.now.store.shelf) (S.fault_count c.commit.new.self.store.shelf) g.R.Replies.with c.args.replies.now c.take_fault.new.replies c.take_fault.result c.in-Err.fault c.in-Err.ensures.cause c.take_fault.ensures

@@ -8,16 +8,16 @@ use Rattle.dv_view.proofs.Moving.{Rise, ordered_of_rise}
 use Rattle.dv_view.proofs.Placing.{rises_of}
 use Rattle.dv_view.proofs.view.View.follow.Goals as goal
 
-rows_are : (c : goal.After-self-1) → c.from_vec.result ≡ rows_after c.args.step c.args.self.now.rows c.args.fresh.now
+rows_are : (c : goal.After-self-1) → c.from_vec.result ≡ rows_after c.args.step c.args.self.now.rows c.args.fresh
 rows_are c =
     c.from_vec.ensures ∙ c.in_ok-followed.ensures.ok
-    ∙ ap (λ rs. rows_after c.args.step rs c.as_slice-fresh.result.now) (c.into_vec-rows.ensures ∙ c.replace.ensures.value ∙ ap (λ (v : View). v.rows) c.self.view_is)
-    ∙ ap (rows_after c.args.step c.args.self.now.rows) c.as_slice-fresh.ensures
+    ∙ ap (λ rs. rows_after c.args.step rs c.into_vec.result.items) (c.into_vec-rows.ensures ∙ c.replace.ensures.value ∙ ap (λ (v : View). v.rows) c.self.view_is)
+    ∙ ap (rows_after c.args.step c.args.self.now.rows) c.into_vec.ensures
 
 pub invariant_of-self-2 : goal.invariant_of-self-2
 invariant_of-self-2 c =
     let view = c.args.self.now in
-    let fresh = c.args.fresh.now in
+    let fresh = c.args.fresh in
     let ordered = subst IsOrdered c.self.view_is c.self.invariant in
     let rise = after_rise c.args.step view c.args.next_uid c.requires.0 fresh ordered c.requires.1 (rises_of fresh (given_of view c.args.next_uid c.requires.0 fresh c.requires.1)) in
     ordered_of_rise c.args.next_uid c.from_vec.result c.ranges.next_uid.fits (subst (Rise c.args.next_uid) (sym (rows_are c)) rise)
@@ -28,7 +28,7 @@ returns-clause-rows c = ap (λ (rs : List Shown). record { rows = rs; next_uid =
 pub returns-clause-view : goal.returns-clause-view
 returns-clause-view c =
     let view = c.args.self.now in
-    let fresh = c.args.fresh.now in
+    let fresh = c.args.fresh in
     let ordered = subst IsOrdered c.self.view_is c.self.invariant in
     let rises = rises_of fresh (given_of view c.args.next_uid c.requires.0 fresh c.requires.1) in
     λ names m is.

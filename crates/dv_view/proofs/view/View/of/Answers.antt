@@ -1,4 +1,4 @@
-use Rattle.std.proofs.Common.{◌≡◌, rules, arith}
+use Rattle.std.proofs.Common.{rules, arith}
 use Rattle.dv_model.specs.Views.{empty_view}
 use Rattle.dv_model.specs.declared.types.Step.TheVariants.{Full}
 use Rattle.dv_view.specs.Orders.{IsOrdered}

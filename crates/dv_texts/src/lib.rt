@@ -1,0 +1,8 @@
+//! The text of a session's replies, made while they are taken one by one.
+#![tactic(auto)]
+
+mod items;
+mod lines;
+mod reply_text;
+
+pub use reply_text::ReplyText;
