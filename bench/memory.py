@@ -5,12 +5,13 @@ Usage: bench/memory.py PROGRAM [DIRECTORY]
 
 PROGRAM is the built binary, crates/dv_cli/out/dv_cli. Folders and scripts are made in DIRECTORY
 (/dev/shm where none is given). Each line of the table is one run: the largest part of its memory that
-was resident at once, the time, and what the run has: the bytes of its script, the lines in it, the rows of
-the mailbox, the rows that its sessions are shown, and the bytes of the largest message that a command
-reads or adds. The last column divides by one of these, which it names, what the peak has beyond that of a
-run of no lines over a mailbox without messages; or, for SELECT, over the same mailbox; or, for SELECT by
-more sessions, beyond that of SELECT by one. Where that is less than a mebibyte it says little and is left
-out.
+was resident at once, the time, and what the run has: the bytes of its script, the rows of the mailbox,
+the rows that its sessions are shown, and the bytes of the messages that one command reads or adds (of
+generated load, the rows at its end, and those shown to each of its sessions). A row counts 65 bytes, and 64 more where it has a place in the cache file (two blocks of the allocator);
+a row shown counts 40. `sum` is what all these have together, and `times` how often it goes into the
+peak beyond that of a run of no lines over a mailbox without messages; it is to be 2 at most. Where the
+sum is less than a mebibyte it says little and is left out; the last lines tell the most of all others.
+Mailboxes are of short messages, and then of messages with fewer bytes than mail has, told apart there.
 
 It needs GNU time (Debian's package `time`), since a child of this script begins with the script's own size.
 """
@@ -24,17 +25,27 @@ import time
 
 TIME = "/usr/bin/time"
 NOOPS = (1_000_000, 10_000_000, 60_000_000)
-ROWS = (100, 10_000, 100_000)
+ROWS = (10_000, 100_000)
 SESSIONS = (1, 16)
 SIZES = (1_000_000, 30_000_000)
-LOADS = (5_000, 1_000_000)
-QUANTITIES = ("script", "lines", "rows", "shown", "message")
+LOADS = (5_000, 100_000)
+ROW, PLACE, SHOWN = 65, 64, 40
+BOUND = 2
+# A short message, one of the fewest bytes that RFC 5322 (section 3.6) lets a message have, and one of none.
+SHORTEST = b"Date: Sun, 29 Nov 2026 00:00:00 +0000\nFrom: a@b\n\n"
+SHORT = (
+    b"Date: Sun, 29 Nov 2026 00:00:00 +0000\nFrom: Ann <ann@example.org>\nTo: Bob <bob@example.org>\n"
+    b"Subject: Greetings\nMessage-ID: <20261129.1@example.org>\n\nHello Bob, how are you?\n"
+)
+NOTHING = b""
+QUANTITIES = ("script", "rows", "shown", "message", "sum")
 
 
 class Bench:
     def __init__(self, program, place):
         self.program, self.place, self.base, self.boxes = program, place, 0, 0
-        print(f"{'run':<30} {'peak KiB':>9} {'seconds':>8} " + " ".join(f"{q:>10}" for q in QUANTITIES))
+        self.worst = {}
+        print(f"{'run':<34} {'peak KiB':>9} {'seconds':>8} " + " ".join(f"{q:>11}" for q in QUANTITIES) + "  times")
 
     def box(self):
         """The path of a new folder."""
@@ -42,7 +53,7 @@ class Bench:
         return os.path.join(self.place, f"box{self.boxes}")
 
     def peak(self, words, script):
-        """The peak in KiB and the seconds of one run."""
+        """The peak in KiB and the seconds of one run, and its script's bytes. The script is given in pieces."""
         source, told = os.path.join(self.place, "script"), os.path.join(self.place, "peak")
         with open(source, "wb") as text:
             text.writelines(script)
@@ -56,15 +67,16 @@ class Bench:
         with open(told, encoding="ascii") as text:
             return int(text.read()), seconds, os.path.getsize(source)
 
-    def run(self, name, words, script=(), by=None, beyond=(0, 0), **has):
-        """One line of the table, and the peak. The script is given in pieces. The last column is that of
-        what is there beyond another run's peak and number."""
+    def run(self, name, words, script=(), placed=False, kind="mail", **has):
+        """One line of the table."""
         peak, seconds, has["script"] = self.peak(words, script)
-        line = f"{name:<30} {peak:>9,} {seconds:>8.2f} " + " ".join(f"{has.get(q, 0):>10,}" for q in QUANTITIES)
-        before, number = beyond
-        more = peak - (before or self.base)
-        if by and more >= 1024:
-            line += f"  {more * 1024 / (has[by] - number):.1f} bytes for each of {by}"
+        row = ROW + PLACE if placed else ROW
+        has["sum"] = has["script"] + has.get("rows", 0) * row + has.get("shown", 0) * SHOWN + has.get("message", 0)
+        line = f"{name:<34} {peak:>9,} {seconds:>8.2f} " + " ".join(f"{has.get(q, 0):>11,}" for q in QUANTITIES)
+        if has["sum"] >= 1 << 20:
+            times = (peak - self.base) * 1024 / has["sum"]
+            self.worst[kind] = max(self.worst.get(kind, 0), times)
+            line += f"  {times:5.2f}"
         print(line, flush=True)
         return peak
 
@@ -73,43 +85,59 @@ def scripts(bench):
     for size in NOOPS:
         count = size // len(b"a NOOP\n")
         pieces = [b"a SELECT\n"] + [b"a NOOP\n" * 1000] * (count // 1000) + [b"a NOOP\n" * (count % 1000)]
-        name = f"NOOPs, {size:,} bytes"
-        bench.run(name, (bench.box(), "run"), pieces, "script", lines=count + 1)
+        bench.run(f"NOOPs, {size:,} bytes", (bench.box(), "run"), pieces)
+
+
+def mailbox(bench, rows, message):
+    """One mailbox of so many equal messages, and what is done to it."""
+    box, size, whole = bench.box(), len(message), rows * len(message)
+    words, kind = (box, "run"), "mail" if message == SHORT else "fewer bytes"
+
+    def run(name, pieces, placed=True, shown=rows, read=0):
+        bench.run(name, words, pieces, placed, kind, rows=rows, shown=shown, message=read)
+
+    run(f"{rows:,} APPENDs of {size} bytes", [b"a SELECT\n", (b"a APPEND () {%d}\n%s\n" % (size, message)) * rows], False)
+    run("  SELECT", [b"a SELECT\n"], False)
+    run("  CHECK", [b"a SELECT\na CHECK\n"], read=whole)
+    run("  opened", (), shown=0)
+    for sessions in SESSIONS:
+        run(f"  SELECT by {sessions}", [b"s%d SELECT\n" % i for i in range(sessions)], shown=rows * sessions)
+    run("  CHECK again", [b"a SELECT\na CHECK\n"], read=whole)
+    for items in (b"FLAGS", b"RFC822.SIZE", b"BODY[]"):
+        read = 0 if items == b"FLAGS" else whole
+        run(f"  FETCH 1:* ({items.decode()})", [b"a SELECT\na FETCH 1:* (%s)\n" % items], read=read)
+    store = [b"a SELECT\nb SELECT\na STORE 1:* +FLAGS (\\Deleted)\nb NOOP\n"]
+    run("  STORE 1:*, told to another", store, shown=2 * rows)
+    run("  EXPUNGE of all", [b"a SELECT\na EXPUNGE\n"], read=whole)
+    shutil.rmtree(box)
 
 
 def mailboxes(bench):
     for rows in ROWS:
-        box = bench.box()
-        pieces = [b"a SELECT\n", b"a APPEND () {0}\n\n" * rows]
-        bench.run(f"{rows:,} APPENDs", (box, "run"), pieces, "lines", lines=rows + 1, rows=rows, shown=rows)
-        bench.peak((box, "run"), [b"a SELECT\na CHECK\n"])
-        beyond = bench.run("  opened", (box, "run"), (), "rows", rows=rows), 0
-        for sessions in SESSIONS:
-            pieces = [b"s%d SELECT\n" % i for i in range(sessions)]
-            name, has = f"  SELECT by {sessions}", {"lines": sessions, "rows": rows, "shown": rows * sessions}
-            beyond = bench.run(name, (box, "run"), pieces, "shown", beyond, **has), rows * sessions
-        bench.run("  CHECK", (box, "run"), [b"a SELECT\na CHECK\n"], "rows", lines=2, rows=rows, shown=rows)
-        shutil.rmtree(box)
+        for message in (SHORT, SHORTEST, NOTHING):
+            mailbox(bench, rows, message)
 
 
 def messages(bench):
     for size in SIZES:
         box, has = bench.box(), {"rows": 1, "shown": 1, "message": size}
+        run = (box, "run")
         pieces = [b"a SELECT\na APPEND () {%d}\n" % size, b"x" * size, b"\n"]
-        bench.run(f"APPEND of {size:,} bytes", (box, "run"), pieces, "message", lines=2, **has)
-        pieces = [b"a SELECT\na FETCH 1 (BODY[])\n"]
-        bench.run("  FETCH of BODY[]", (box, "run"), pieces, "message", lines=2, **has)
-        pieces = [b"a SELECT\n", b"a FETCH 1 (BODY[])\n" * 4]
-        bench.run("  four of them", (box, "run"), pieces, "message", lines=5, **has)
-        pieces = [b"a SELECT\na FETCH 1 (RFC822.SIZE)\n"]
-        bench.run("  FETCH of RFC822.SIZE", (box, "run"), pieces, "message", lines=2, **has)
+        bench.run(f"APPEND of {size:,} bytes", run, pieces, **has)
+        bench.run("  FETCH of BODY[]", run, [b"a SELECT\na FETCH 1 (BODY[])\n"], **has)
+        bench.run("  four of them", run, [b"a SELECT\n", b"a FETCH 1 (BODY[])\n" * 4], **has)
+        bench.run("  FETCH of RFC822.SIZE", run, [b"a SELECT\na FETCH 1 (RFC822.SIZE)\n"], **has)
         shutil.rmtree(box)
 
 
 def loads(bench):
     for count in LOADS:
         box = bench.box()
-        bench.run(f"gen 7 {count:,} 8", (box, "gen", "7", str(count), "8"), (), "lines", lines=count + 8)
+        words = (box, "gen", "7", str(count), "8")
+        told = subprocess.run([bench.program, *words], stdin=subprocess.DEVNULL, capture_output=True, check=True)
+        rows = int(told.stdout.split()[told.stdout.split().index(b"EXISTS") + 1])
+        shutil.rmtree(box)
+        bench.run(f"gen 7 {count:,} 8", words, rows=rows, shown=8 * rows)
         shutil.rmtree(box)
 
 
@@ -125,6 +153,8 @@ def main():
         bench.base = bench.run("no lines", (bench.box(), "run"))
         for part in (scripts, mailboxes, messages, loads):
             part(bench)
+        for kind, times in bench.worst.items():
+            print(f"{kind}: at most {times:.2f} times the sum; the bound is {BOUND}")
     finally:
         shutil.rmtree(place)
 
