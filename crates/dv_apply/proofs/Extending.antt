@@ -1,5 +1,5 @@
 -- Records of extensions change the parts of rows alone, and no row is stamped.
-use Rattle.std.proofs.Common.{◌≡◌, ℕ, zero, suc, ◌+◌, ◌-◌, ◌%◌, ◌≤◌, Bool, true, false, cond, ◌&&◌, List, [], ◌∷◌, ◌++◌, length, nat_eq, take, drop, Option, Some, None, refl, sym, ◌∙◌, ap, subst, arith}
+use Rattle.std.proofs.Common.{◌≡◌, ℕ, zero, suc, ◌+◌, ◌-◌, ◌%◌, ◌/◌, ◌≤◌, Bool, true, false, cond, ◌&&◌, List, [], ◌∷◌, ◌++◌, length, nat_eq, take, drop, Option, Some, None, refl, sym, ◌∙◌, ap, subst, arith}
 use Rattle.std.specs.Prelude.{All, IfSome, IsSomeAnd, bytes_eq, fold, map, replicate, slice_get, if◌then◌else◌}
 use Rattle.std.specs.Int.{w32, from_le_bytes}
 use Rattle.std.proofs.lemmas.List.{map-id, length-append, length-drop}
@@ -10,7 +10,7 @@ use Rattle.dv_model.specs.declared.types.Intro.{Intro}
 use Rattle.dv_model.specs.declared.types.Mailbox.{Mailbox}
 use Rattle.dv_model.specs.declared.types.Part.{Part}
 use Rattle.dv_model.specs.declared.types.Row.{Row}
-use Rattle.dv_model.specs.Effects.{is_as_before, on_current, stamped, with_header_parts, with_intro, with_item, with_reset, with_row_parts, with_update, written_over, zeroed}
+use Rattle.dv_model.specs.Effects.{is_as_before, on_current, stamped, update_rows, update_size, with_header_parts, with_intro, with_item, with_reset, with_row_parts, with_update, with_updates, written_over, zeroed}
 use Rattle.dv_model.specs.Mailboxes.{IsRowOf, IsValid}
 use Rattle.dv_ext.proofs.Sizing.{intros_stay, only_those, rows_behind, sizes_same}
 use Rattle.dv_ext.specs.Changes.{HasTable}
@@ -19,7 +19,7 @@ use Rattle.dv_ext.specs.Tables.{Table, with_table}
 use Rattle.dv_rows.specs.Changed.{written_at_front}
 use Rattle.dv_validity.proofs.Comparisons.{as_before_itself, stamped_alike}
 use Rattle.dv_validity.proofs.Items.{item_like, map_kept}
-use Rattle.dv_validity.proofs.Rows.{map_map}
+use Rattle.dv_validity.proofs.Rows.{fold_keeps_any, map_map}
 use Rattle.dv_apply.specs.Alike.{IsAlike, IsWide}
 use Rattle.dv_apply.specs.States.{blank_parts}
 
@@ -155,27 +155,43 @@ parts_told t dup after intros same is = ap (have_sizes t.extensions) (sym (is �
 -- ---- sizes stay
 
 -- extensions of one size each have one row's zero bytes
-pub sizes_blank : (es fs : List Extension) → have_sizes es fs ≡ true → blank_parts fs ≡ blank_parts es
-sizes_blank es fs same =
-    sym (map_map (λ (n : ℕ). replicate n 0) (λ (e : Extension). e.record_size) fs) ∙ ap (map (λ (n : ℕ). replicate n 0)) (sym (sizes_same es fs same)) ∙ map_map (λ (n : ℕ). replicate n 0) (λ (e : Extension). e.record_size) es
+blank_same : (es fs : List Extension) → sizes_of fs ≡ sizes_of es → blank_parts fs ≡ blank_parts es
+blank_same es fs same =
+    sym (map_map (λ (n : ℕ). replicate n 0) (λ (e : Extension). e.record_size) fs) ∙ ap (map (λ (n : ℕ). replicate n 0)) same ∙ map_map (λ (n : ℕ). replicate n 0) (λ (e : Extension). e.record_size) es
 
-sizes_kept : (f : Extension → Extension) → ((e : Extension) → (f e).record_size ≡ e.record_size) → (k : ℕ) (es : List Extension) → blank_parts (with_item k f es) ≡ blank_parts es
-sizes_kept f same k es = map_kept (λ (e : Extension). replicate e.record_size 0) f (λ e. ap (λ (n : ℕ). replicate n 0) (same e)) k es
+pub sizes_blank : (es fs : List Extension) → have_sizes es fs ≡ true → blank_parts fs ≡ blank_parts es
+sizes_blank es fs same = blank_same es fs (sym (sizes_same es fs same))
+
+sizes_kept : (f : Extension → Extension) → ((e : Extension) → (f e).record_size ≡ e.record_size) → (k : ℕ) (es : List Extension) → sizes_of (with_item k f es) ≡ sizes_of es
+sizes_kept f same k es = map_kept (λ (e : Extension). e.record_size) f same k es
 
 reset_by : (m : Mailbox) (reset_id preserve : ℕ) (c : Current) (b : Bool)
-    → blank_parts (cond b (record m { rows = map (with_row_parts (with_item c.extension zeroed)) m.rows; extensions = with_item c.extension (λ e. record e { reset_id = reset_id; header = zeroed e.header }) m.extensions })
-    (record m { extensions = with_item c.extension (λ e. record e { reset_id = reset_id }) m.extensions })).extensions ≡ blank_parts m.extensions
+    → sizes_of (cond b (record m { rows = map (with_row_parts (with_item c.extension zeroed)) m.rows; extensions = with_item c.extension (λ e. record e { reset_id = reset_id; header = zeroed e.header }) m.extensions })
+    (record m { extensions = with_item c.extension (λ e. record e { reset_id = reset_id }) m.extensions })).extensions ≡ sizes_of m.extensions
 reset_by m reset_id preserve c true = sizes_kept (λ e. record e { reset_id = reset_id; header = zeroed e.header }) (λ e. refl) c.extension m.extensions
 reset_by m reset_id preserve c false = sizes_kept (λ e. record e { reset_id = reset_id }) (λ e. refl) c.extension m.extensions
 
-on_current_by : (m : Mailbox) (change : Current → Mailbox) → ((c : Current) → blank_parts (change c).extensions ≡ blank_parts m.extensions) → (o : Option Current)
-    → blank_parts (on_current (record m { current = o }) change).extensions ≡ blank_parts m.extensions
+on_current_by : (m : Mailbox) (change : Current → Mailbox) → ((c : Current) → sizes_of (change c).extensions ≡ sizes_of m.extensions) → (o : Option Current)
+    → sizes_of (on_current (record m { current = o }) change).extensions ≡ sizes_of m.extensions
 on_current_by m change same None = refl
 on_current_by m change same (Some c) = same c
 
+pub reset_stays : (m : Mailbox) (reset_id preserve : ℕ) → sizes_of (on_current m (with_reset reset_id preserve m)).extensions ≡ sizes_of m.extensions
+reset_stays m reset_id preserve = on_current_by m (with_reset reset_id preserve m) (λ c. reset_by m reset_id preserve c (nat_eq preserve 0)) m.current
+
 pub reset_sizes : (m : Mailbox) (reset_id preserve : ℕ) → blank_parts (on_current m (with_reset reset_id preserve m)).extensions ≡ blank_parts m.extensions
-reset_sizes m reset_id preserve = on_current_by m (with_reset reset_id preserve m) (λ c. reset_by m reset_id preserve c (nat_eq preserve 0)) m.current
+reset_sizes m reset_id preserve = blank_same m.extensions (on_current m (with_reset reset_id preserve m)).extensions (reset_stays m reset_id preserve)
 
 pub header_sizes : (m : Mailbox) (parts : List Part) → blank_parts (on_current m (with_header_parts parts m)).extensions ≡ blank_parts m.extensions
 header_sizes m parts =
-    on_current_by m (with_header_parts parts m) (λ c. sizes_kept (λ e. record e { header = fold written_over e.header parts }) (λ e. refl) c.extension m.extensions) m.current
+    blank_same m.extensions (on_current m (with_header_parts parts m)).extensions
+    (on_current_by m (with_header_parts parts m) (λ c. sizes_kept (λ e. record e { header = fold written_over e.header parts }) (λ e. refl) c.extension m.extensions) m.current)
+
+updated_by : (m : Mailbox) (c : Current) (rows : List (List ℕ)) (b : Bool) → sizes_of (cond b (fold (with_update c) m rows) m).extensions ≡ sizes_of m.extensions
+updated_by m c rows true = fold_keeps_any (λ (k : Mailbox). sizes_of k.extensions ≡ sizes_of m.extensions) (with_update c) (λ k update same. same) m rows refl
+updated_by m c rows false = refl
+
+pub updates_stay : (m : Mailbox) (bytes : List ℕ) → sizes_of (on_current m (with_updates bytes m)).extensions ≡ sizes_of m.extensions
+updates_stay m bytes =
+    on_current_by m (with_updates bytes m)
+    (λ c. updated_by m c (update_rows (length bytes / update_size c.size) (update_size c.size) bytes) (nat_eq (length bytes % update_size c.size) 0)) m.current

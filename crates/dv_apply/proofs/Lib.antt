@@ -3,6 +3,7 @@ mod Applying
 mod Testing
 mod Lending
 mod Readying
+mod Lightness
 mod Replacing
 mod Changing
 mod Becoming

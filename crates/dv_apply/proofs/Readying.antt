@@ -1,8 +1,7 @@
 -- What is made ready of records is what they make of the mailbox.
 use Rattle.std.proofs.Common.{◌≡◌, ◌≢◌, ◌⊎◌, inl, inr, ◌↔◌, ℕ, ◌<◌, ◌≤◌, Bool, true, false, List, ◌++◌, length, get_or, nat_eq, nat_le, Option, Some, None, refl, sym, ◌∙◌, ap, subst, arith}
 use Rattle.std.proofs.lemmas.Bool.{false_from_ne_true, eqb-true, or_left, or_right, le-leb}
-use Rattle.std.specs.Prelude.{◌||◌, All, Contains, IsSomeAnd, count_by, filter, find, map, not, option_map, take, Result, Ok, Err, IfOk}
-use Rattle.std.specs.List.Sorted.{IsStrictlyIncreasing}
+use Rattle.std.specs.Prelude.{All, Contains, IsSomeAnd, count_by, filter, find, map, not, option_map, take, Result, Ok, Err, IfOk}
 use Rattle.std.proofs.lemmas.Bool.Decides.{nat_tests}
 use Rattle.std.proofs.lemmas.List.{get_or_default}
 use Rattle.std.proofs.lemmas.List.Elements.{All-contains_itself, All-filter, All-map, All-weaker, filter_passes}
@@ -28,7 +27,7 @@ use Rattle.dv_validity.proofs.Records.{all_in_range_valid}
 use Rattle.dv_validity.specs.Laws.{IsInRange}
 use Rattle.dv_apply.proofs.Lending.{above, or_false}
 use Rattle.dv_apply.specs.Bodies.{Refused, refused_row}
-use Rattle.dv_apply.specs.Preparing.{IsRefused, Makes, Ready, alone}
+use Rattle.dv_apply.specs.Preparing.{AreChangeable, IsRefused, Part, PutsShare, alone}
 use Rattle.dv_apply.specs.States.{Held}
 use Rattle.dv_survey.specs.Surveys.{AreAllNamed}
 
@@ -90,17 +89,21 @@ all_spare m rs named uids are kept k d n less at valid =
 
 -- ---- touched UIDs
 
+-- for a UID that passes the portion differs where the mailbox does
+pub alike_in : (m n : Mailbox) (uids : List ℕ) (behind : List Row) → behind ≡ filter (λ row. is_parted uids m.next_uid row.uid) n.rows → (uid : ℕ) → is_parted uids m.next_uid uid ≡ true → Differs m.rows behind uid ≡ IsTouched m n uid
+alike_in m n uids behind second uid passes =
+    let test : ℕ → Bool = is_parted uids m.next_uid in
+    ap (λ (rows : List Row). Differs m.rows rows uid) second
+    ∙ ap (λ s. shown_in m.rows uid ≢ s) (sym (seen_filtered uid (λ (row : Row). test row.uid) (λ row e. ap test e ∙ passes) n.rows))
+
 module _ (m n : Mailbox) (uids : List ℕ) (behind : List Row) (valid : IsValid m)
     (second : behind ≡ filter (λ row. is_parted uids m.next_uid row.uid) n.rows)
     (others : rest (is_parted uids m.next_uid) n.rows ≡ rest (is_parted uids m.next_uid) m.rows) where
   abbrev test : ℕ → Bool
   test = is_parted uids m.next_uid
 
-  -- for a UID that passes the portion differs where the mailbox does
   alike : (uid : ℕ) → test uid ≡ true → Differs m.rows behind uid ≡ IsTouched m n uid
-  alike uid passes =
-      ap (λ (rows : List Row). Differs m.rows rows uid) second
-      ∙ ap (λ s. shown_in m.rows uid ≢ s) (sym (seen_filtered uid (λ (row : Row). test row.uid) (λ row e. ap test e ∙ passes) n.rows))
+  alike uid passes = alike_in m n uids behind second uid passes
 
   -- for another they don't
   untouched : (uid : ℕ) → test uid ≡ false → IsTouched m n uid → ⊥
@@ -144,34 +147,31 @@ module _ (m n : Mailbox) (uids : List ℕ) (behind : List Row) (valid : IsValid 
 touched_both : (A B C : Type 0) → A ↔ B → B ↔ C → A ↔ C
 touched_both A B C one two = (λ a. two.0 (one.0 a), λ c. one.1 (two.1 c))
 
-all_named : (rows : List Row) (named uids : List ℕ) → ((uid : ℕ) → Contains uids uid → Contains named uid) → All (HasUid rows) named → All (HasUid rows) uids
+pub all_named : (rows : List Row) (named uids : List ℕ) → ((uid : ℕ) → Contains uids uid → Contains named uid) → All (HasUid rows) named → All (HasUid rows) uids
 all_named rows named uids back each =
     All-weaker (Contains uids) (HasUid rows) (λ uid h. let (k, less, at) = back uid h in subst (HasUid rows) at (each k uid less)) uids (All-contains_itself uids)
 
 -- what was found of the group before and behind
-pub record IsFound (m : Mailbox) (rs : List Record) (spare : ℕ) (hidden : List (List ℕ)) (p : Ready) (named : List ℕ) : Type 0 where
+pub record IsFound (m : Mailbox) (rs : List Record) (spare : ℕ) (hidden : List (List ℕ)) (p : Part) : Type 0 where
   pub valid : IsValid m
   pub range : All (λ r. IsInRange r.body) rs
-  pub named_all : AreAllNamed (length rs) m rs m.rows named
-  pub same : (uid : ℕ) → Contains p.uids uid ↔ Contains named uid
-  pub only : All (HasUid m.rows) named
-  pub rising : IsStrictlyIncreasing p.uids
+  pub uids : AreChangeable m rs p.uids
   pub names : p.share.names ≤ length hidden
   pub applied : applied (portion (is_parted p.uids m.next_uid) m) rs ≡ Some (alone (m.keywords ++ take p.share.names hidden) p.share)
   pub appended : count_by (λ row. nat_le m.next_uid row.uid) p.share.rows.rows ≡ p.appended
   pub spare_is : p.appended ≤ spare
   pub touched : (uid : ℕ) → Contains p.touched uid ↔ ((Contains p.uids uid ⊎ HasUid p.share.rows.rows uid) × Differs m.rows p.share.rows.rows uid)
 
-makes_by : (m n : Mailbox) (rs : List Record) (spare : ℕ) (hidden : List (List ℕ)) (p : Ready) (named : List ℕ) → IsFound m rs spare hidden p named
-    → applied m rs ≡ Some n → portion (is_parted p.uids m.next_uid) n ≡ alone (m.keywords ++ take p.share.names hidden) p.share → Makes (record { mailbox = m; spare = spare; hidden = hidden }) p n
-makes_by m n rs spare hidden p named is e same =
+makes_by : (m n : Mailbox) (rs : List Record) (spare : ℕ) (hidden : List (List ℕ)) (p : Part) → IsFound m rs spare hidden p
+    → applied m rs ≡ Some n → portion (is_parted p.uids m.next_uid) n ≡ alone (m.keywords ++ take p.share.names hidden) p.share → PutsShare (record { mailbox = m; spare = spare; hidden = hidden }) p n
+makes_by m n rs spare hidden p is e same =
     let test : ℕ → Bool = is_parted p.uids m.next_uid in
     let new : HoldsNew test m.next_uid = holds_new p.uids m.next_uid in
-    let others : rest test n.rows ≡ rest test m.rows = rest_stays test m n rs is.valid is.range new (all_spare m rs named p.uids is.named_all (λ uid h. (is.same uid).1 h)) e in
+    let others : rest test n.rows ≡ rest test m.rows = rest_stays test m n rs is.valid is.range new (all_spare m rs p.uids p.uids (is.uids.named is.range) (λ uid h. h)) e in
     record {
       valid = all_in_range_valid m n rs is.valid is.range e;
-      rising = is.rising;
-      named = all_named m.rows named p.uids (λ uid h. (is.same uid).0 h) is.only;
+      rising = is.uids.rising;
+      named = is.uids.only;
       names = is.names;
       portion = same;
       rest = others;
@@ -182,13 +182,13 @@ makes_by m n rs spare hidden p named is e same =
           (touched_are m n p.uids p.share.rows.rows is.valid (sym (ap (λ (x : Mailbox). x.rows) same)) others uid);
     }
 
-some_by : (m : Mailbox) (rs : List Record) (spare : ℕ) (hidden : List (List ℕ)) (p : Ready) (named : List ℕ) → IsFound m rs spare hidden p named
+some_by : (m : Mailbox) (rs : List Record) (spare : ℕ) (hidden : List (List ℕ)) (p : Part) → IsFound m rs spare hidden p
     → (o : Option Mailbox) → applied m rs ≡ o → option_map (portion (is_parted p.uids m.next_uid)) o ≡ Some (alone (m.keywords ++ take p.share.names hidden) p.share)
-    → IsSomeAnd o (Makes (record { mailbox = m; spare = spare; hidden = hidden }) p)
-some_by m rs spare hidden p named is None at e = absurd cc
-some_by m rs spare hidden p named is (Some n) at e = let same : portion (is_parted p.uids m.next_uid) n ≡ alone (m.keywords ++ take p.share.names hidden) p.share = cc in makes_by m n rs spare hidden p named is at same
+    → IsSomeAnd o (PutsShare (record { mailbox = m; spare = spare; hidden = hidden }) p)
+some_by m rs spare hidden p is None at e = absurd cc
+some_by m rs spare hidden p is (Some n) at e = let same : portion (is_parted p.uids m.next_uid) n ≡ alone (m.keywords ++ take p.share.names hidden) p.share = cc in makes_by m n rs spare hidden p is at same
 
-pub ready : (m : Mailbox) (rs : List Record) (live : Held) (p : Ready) (named : List ℕ) → IsFound m rs live.spare live.hidden p named → live.mailbox ≡ m → IsSomeAnd (applied m rs) (Makes live p)
-ready m rs live p named is same =
-    subst (λ (x : Mailbox). IsSomeAnd (applied m rs) (Makes (record { mailbox = x; spare = live.spare; hidden = live.hidden }) p)) (sym same)
-    (some_by m rs live.spare live.hidden p named is (applied m rs) refl (sym (records_portion (is_parted p.uids m.next_uid) m rs (holds_new p.uids m.next_uid)) ∙ is.applied))
+pub ready : (m : Mailbox) (rs : List Record) (live : Held) (p : Part) → IsFound m rs live.spare live.hidden p → live.mailbox ≡ m → IsSomeAnd (applied m rs) (PutsShare live p)
+ready m rs live p is same =
+    subst (λ (x : Mailbox). IsSomeAnd (applied m rs) (PutsShare (record { mailbox = x; spare = live.spare; hidden = live.hidden }) p)) (sym same)
+    (some_by m rs live.spare live.hidden p is (applied m rs) refl (sym (records_portion (is_parted p.uids m.next_uid) m rs (holds_new p.uids m.next_uid)) ∙ is.applied))

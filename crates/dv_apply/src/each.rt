@@ -1,10 +1,10 @@
-ghost use Rattle.std.specs.Prelude.{◌≡◌, All, OnErr, OnOk, Some};
+ghost use Rattle.std.specs.Prelude.{◌≡◌, All, Ok, OnErr, OnOk, Some};
 ghost use Rattle.dv_model.specs.Effects.{after_record, applied};
 ghost use Rattle.dv_model.specs.Spelling.{IsRecord};
 ghost use Rattle.dv_validity.specs.Laws.{GrowsTo, IsInRange};
 ghost use Rattle.dv_apply.specs.Answers.{OnBadAppend};
 ghost use Rattle.dv_apply.specs.Bodies.{refused_row};
-ghost use Rattle.dv_apply.specs.Preparing.{IsRefused};
+ghost use Rattle.dv_apply.specs.Preparing.{IsLightFirst, IsRefused};
 ghost use Rattle.dv_apply.specs.States.{IsKept, kept_of, mailbox_of};
 
 use crate::bodies::{apply_body, is_request, pass};
@@ -12,8 +12,8 @@ use crate::fault::ApplyFault;
 use crate::state::State;
 use dv_model::Record;
 
-// Applies a record.
-fn apply_record(state: &mut State, r: &Record) -> Result<(), ApplyFault>
+/// Applies a record.
+pub fn apply_record(state: &mut State, r: &Record) -> Result<(), ApplyFault>
     requires kept { IsKept state.old }
     requires record { IsRecord r.now }
     ensures ok { OnOk result
@@ -22,6 +22,9 @@ fn apply_record(state: &mut State, r: &Record) -> Result<(), ApplyFault>
         ≡ Some refused) }
     ensures err { OnErr result (kept_of state.new ≡ kept_of state.old) }
     ensures kept { IsKept state.new }
+    ensures light { IsLightFirst state.old.extensions.extensions r.now.body → result ≡ Ok tt }
+    ensures spare { OnOk result (IsLightFirst state.old.extensions.extensions r.now.body →
+        state.new.spare ≡ state.old.spare) }
 {
     if is_request(r) {
         pass(state);

@@ -14,6 +14,7 @@ mod fault;
 mod headers;
 mod keywords;
 mod law;
+mod light;
 mod live;
 mod parts;
 mod prepare;

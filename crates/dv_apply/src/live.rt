@@ -8,7 +8,7 @@ ghost use Rattle.dv_ext.specs.Sizes.{have_sizes};
 ghost use Rattle.dv_rows.specs.Kept.{flag_count};
 ghost use Rattle.dv_apply.specs.Answers.{OnBadAppend};
 ghost use Rattle.dv_apply.specs.Bodies.{Refused, TakesNone, refused_row, spare_after};
-ghost use Rattle.dv_apply.specs.Preparing.{IsPrepared, IsRefused, Makes};
+ghost use Rattle.dv_apply.specs.Preparing.{IsPrepared, IsRefused, Makes, appended_by};
 ghost use Rattle.dv_apply.specs.States.{shown_in};
 ghost use Rattle.dv_apply.specs.declared.fault.ApplyFault.TheVariants as fault;
 
@@ -18,7 +18,7 @@ use crate::completing::complete;
 use crate::fault::ApplyFault;
 use crate::prepare::prepare;
 use crate::raising::raise;
-use crate::share::Made;
+use crate::share::Way;
 use crate::state::{State, empty_state, mailbox, state_of};
 use crate::touching::apply_touched;
 use dv_ext::Extensions;
@@ -47,18 +47,19 @@ impl Model for Live {
 }
 
 /// What records make of a live mailbox: it takes no memory to show it. Contracts see which rows it
-/// puts in the place of which, how many of them are new, and the UIDs that are touched.
+/// puts in the place of which and how many of them are new, or the records that it applies to the
+/// rows where they stand; and the UIDs that are touched.
 #[derive(Drop)]
 pub struct Prepared {
-    made: Made,
+    way: Way,
 }
 
 impl Model for Prepared {
-    ghost use Rattle.dv_apply.specs.Preparing.{Ready, ready_of};
+    ghost use Rattle.dv_apply.specs.Preparing.{Ready};
 
     ghost Value = { Ready };
 
-    ghost view = { λ p. ready_of p.made };
+    ghost view = { λ p. p.way };
 }
 
 impl Live {
@@ -146,14 +147,14 @@ impl Live {
         ensures refused { (refused : Refused) → IsRefused self.old.mailbox records.now refused →
             result ≡ Err (fault.BadAppend refused.uid refused.next_uid) }
         ensures spare { IfOk result (λ prepared. self.new.spare
-            ≡ max prepared.appended self.old.spare) }
+            ≡ max (appended_by prepared) self.old.spare) }
         ensures err { OnErr result (self.new.spare ≡ self.old.spare) }
     {
-        let made = match prepare(&mut self.state, records) {
-            Ok(made) => made,
+        let way = match prepare(&mut self.state, records) {
+            Ok(way) => way,
             Err(e) => return Err(e),
         };
-        Ok(Prepared { made })
+        Ok(Prepared { way })
     }
 
     /// Shows what was prepared from this mailbox, which hasn't changed since, and hands out the
@@ -167,10 +168,10 @@ impl Live {
         // New rows use up spare ones, and other sizes of rows' parts leave none.
         ensures spare { self.new.spare
             ≡ (if have_sizes self.old.mailbox.extensions self.new.mailbox.extensions
-            then self.old.spare - prepared.appended else 0) }
+            then self.old.spare - appended_by prepared else 0) }
     {
-        let Prepared { made } = prepared;
-        complete(&mut self.state, made)
+        let Prepared { way } = prepared;
+        complete(&mut self.state, way)
     }
 
     /// Applies a record as `apply` does, and adds the UIDs that it touches to others. It takes

@@ -1,20 +1,22 @@
-ghost use Rattle.std.specs.Prelude.{◌≡◌, ◌↔◌, ◌⊎◌, ℕ, ◌<◌, ◌≤◌, ◌^◌, All, Contains, IfOk, IsSomeAnd, OnErr, OnOk, Err, count_by, length, max, nat_le};
+ghost use Rattle.std.specs.Prelude.{◌≡◌, ◌↔◌, ◌⊎◌, ℕ, ◌<◌, ◌≤◌, ◌^◌, ⊤, All, Contains, IfOk, IsSomeAnd, OnErr, OnOk, Err, Some, count_by, length, max, nat_le};
 ghost use Rattle.std.specs.List.Sorted.{IsStrictlyIncreasing};
+ghost use Rattle.dv_model.specs.declared.types.Mailbox.{Mailbox};
 ghost use Rattle.dv_model.specs.Effects.{applied};
 ghost use Rattle.dv_model.specs.Spelling.{IsRecord};
 ghost use Rattle.dv_rows.specs.Parted.{HasUid};
 ghost use Rattle.dv_touched.specs.Telling.{Differs};
 ghost use Rattle.dv_apply.specs.Answers.{OnBadAppend};
 ghost use Rattle.dv_apply.specs.Bodies.{Refused};
-ghost use Rattle.dv_apply.specs.Preparing.{IsRefused, Makes, ready_of};
-ghost use Rattle.dv_apply.specs.States.{IsKept, held_of, mailbox_of};
+ghost use Rattle.dv_apply.specs.Preparing.{AppliesLight, AreChangeable, AreLight, IsRefused, Makes, PutsShare, appended_by, part_of};
+ghost use Rattle.dv_apply.specs.States.{IsKept, held_of, kept_of, mailbox_of};
 ghost use Rattle.dv_apply.specs.declared.fault.ApplyFault.TheVariants as fault;
 
 use crate::apart::apply_apart;
 use crate::appends::reserve;
 use crate::fault::ApplyFault;
+use crate::light::{are_light, copies, touched_by};
 use crate::refusals::test_records;
-use crate::share::Made;
+use crate::share::{Light, Made, Way};
 use crate::state::State;
 use dv_model::{NoMemory, Record, Row};
 use dv_rows::{Rows, sort_uids};
@@ -73,20 +75,19 @@ fn find_touched(
     Touched::between(alloc, &all, before, behind)
 }
 
-// Takes the memory that records need. What is shown of the mailbox stays as it is.
-fn make_ready(state: &mut State, records: &[Record]) -> Result<Made, ApplyFault>
+// Takes the memory that records need, in a share of the rows with these UIDs.
+fn make_share(state: &mut State, uids: Vec<u32>, records: &[Record]) -> Result<Made, ApplyFault>
     requires kept { IsKept state.old }
     requires records { All IsRecord records.now }
+    requires uids { AreChangeable (mailbox_of state.old) records.now uids.items }
     ensures kept { IsKept state.new }
     ensures mailbox { mailbox_of state.new ≡ mailbox_of state.old }
     ensures ok { IfOk result (λ made. IsSomeAnd (applied (mailbox_of state.old) records.now)
-        (Makes (held_of state.new) (ready_of made))) }
+        (PutsShare (held_of state.new) (part_of made))) }
     ensures bad { OnBadAppend result (IsRefused (mailbox_of state.old) records.now) }
     ensures spare { IfOk result (λ made. state.new.spare ≡ max made.appended state.old.spare) }
     ensures err { OnErr result (state.new.spare ≡ state.old.spare) }
 {
-    let mut uids = named_rows(state.alloc, &state.rows, &state.extensions, records)?;
-    sort_uids(&mut uids);
     let share = match apply_apart(state, &uids, records) {
         Ok(share) => share,
         Err(e) => return Err(e),
@@ -102,20 +103,70 @@ fn make_ready(state: &mut State, records: &[Record]) -> Result<Made, ApplyFault>
     })
 }
 
+// Keeps records that take no memory, with the UIDs that they touch.
+fn make_light(state: &mut State, uids: Vec<u32>, records: &[Record]) -> Result<Light, ApplyFault>
+    requires kept { IsKept state.old }
+    requires records { All IsRecord records.now }
+    requires uids { AreChangeable (mailbox_of state.old) records.now uids.items }
+    requires light { AreLight state.old.extensions.extensions records.now }
+    ensures kept { IsKept state.new }
+    ensures is { kept_of state.new ≡ kept_of state.old }
+    ensures ok { IfOk result (λ light. (after : Mailbox) →
+        applied (mailbox_of state.old) records.now ≡ Some after →
+        AppliesLight (held_of state.new) light after) }
+    ensures bad { OnBadAppend result (IsRefused (mailbox_of state.old) records.now) }
+{
+    let touched = match touched_by(state, &uids, records) {
+        Ok(touched) => touched,
+        Err(e) => return Err(e),
+    };
+    let records = copies(state.alloc, records)?;
+    Ok(Light { records, touched })
+}
+
+// Takes the memory that records need. What is shown of the mailbox stays as it is.
+fn make_ready(state: &mut State, records: &[Record]) -> Result<Way, ApplyFault>
+    requires kept { IsKept state.old }
+    requires records { All IsRecord records.now }
+    requires applies { IsSomeAnd (applied (mailbox_of state.old) records.now) (λ n. ⊤) }
+    ensures kept { IsKept state.new }
+    ensures mailbox { mailbox_of state.new ≡ mailbox_of state.old }
+    ensures ok { IfOk result (λ made. IsSomeAnd (applied (mailbox_of state.old) records.now)
+        (Makes (held_of state.new) made)) }
+    ensures bad { OnBadAppend result (IsRefused (mailbox_of state.old) records.now) }
+    ensures spare { IfOk result (λ made.
+        state.new.spare ≡ max (appended_by made) state.old.spare) }
+    ensures err { OnErr result (state.new.spare ≡ state.old.spare) }
+{
+    let mut uids = named_rows(state.alloc, &state.rows, &state.extensions, records)?;
+    sort_uids(&mut uids);
+    if are_light(&state.extensions, records) {
+        return match make_light(state, uids, records) {
+            Ok(light) => Ok(Way::Records(light)),
+            Err(e) => Err(e),
+        };
+    }
+    match make_share(state, uids, records) {
+        Ok(made) => Ok(Way::Share(made)),
+        Err(e) => Err(e),
+    }
+}
+
 /// Takes the memory that records need, unless one of them is refused. What is shown of the mailbox
 /// stays as it is.
-pub fn prepare(state: &mut State, records: &[Record]) -> Result<Made, ApplyFault>
+pub fn prepare(state: &mut State, records: &[Record]) -> Result<Way, ApplyFault>
     requires kept { IsKept state.old }
     requires records { All IsRecord records.now }
     ensures kept { IsKept state.new }
     ensures mailbox { mailbox_of state.new ≡ mailbox_of state.old }
     ensures ok { IfOk result (λ made. IsSomeAnd (applied (mailbox_of state.old) records.now)
-        (Makes (held_of state.new) (ready_of made))) }
+        (Makes (held_of state.new) made)) }
     ensures bad { OnBadAppend result (IsRefused (mailbox_of state.old) records.now) }
     ensures refused { (refused : Refused) →
         IsRefused (mailbox_of state.old) records.now refused →
         result ≡ Err (fault.BadAppend refused.uid refused.next_uid) }
-    ensures spare { IfOk result (λ made. state.new.spare ≡ max made.appended state.old.spare) }
+    ensures spare { IfOk result (λ made.
+        state.new.spare ≡ max (appended_by made) state.old.spare) }
     ensures err { OnErr result (state.new.spare ≡ state.old.spare) }
 {
     match test_records(records, state.next_uid) {

@@ -1,4 +1,8 @@
+ghost use Rattle.std.specs.Prelude.{◌≡◌};
+ghost use Rattle.dv_apply.specs.Preparing.{touched_of};
+
 use dv_ext::Extensions;
+use dv_model::{List, Record};
 use dv_rows::Rows;
 use dv_touched::Touched;
 
@@ -22,4 +26,32 @@ pub struct Made {
     /// How many of its rows are new.
     pub appended: u32,
     pub touched: Touched,
+}
+
+/// Records that take no memory, to be applied to the rows where they stand.
+#[derive(Drop)]
+pub struct Light {
+    pub records: List<Record>,
+    pub touched: Touched,
+}
+
+/// How what was made ready is shown.
+#[derive(Drop)]
+pub enum Way {
+    /// A share takes the place of rows.
+    Share(Made),
+    /// Records are applied.
+    Records(Light),
+}
+
+impl Way {
+    /// The UIDs that are touched.
+    pub fn touched(&self) -> &Touched
+        ensures { result.now ≡ touched_of self.now }
+    {
+        match self {
+            Way::Share(made) => &made.touched,
+            Way::Records(light) => &light.touched,
+        }
+    }
 }

@@ -55,13 +55,13 @@ pub fn apply_touched(state: &mut State, r: &Record, touched: &mut Touched) -> Re
 {
     test_body(state, &r.body)?;
     let spare = state.spare;
-    let made = match prepare(state, slice::from_ref(r)) {
-        Ok(made) => made,
+    let way = match prepare(state, slice::from_ref(r)) {
+        Ok(way) => way,
         Err(e) => return Err(e),
     };
-    match touched.with(state.alloc, &made.touched) {
+    match touched.with(state.alloc, way.touched()) {
         Ok(all) => {
-            complete(state, made);
+            complete(state, way);
             *touched = all;
             Ok(())
         }

@@ -4,28 +4,28 @@ use Rattle.dv_model.specs.declared.types.Mailbox.{Mailbox}
 use Rattle.std.specs.Prelude.{Contains}
 use Rattle.dv_model.specs.Fresh.{IsTouched}
 use Rattle.dv_model.specs.Mailboxes.{IsValid}
-use Rattle.dv_apply.specs.Preparing.{Makes, Ready, ready_of}
+use Rattle.dv_apply.specs.Preparing.{Part, PutsShare, part_of}
 use Rattle.dv_apply.specs.States.{Held, held_of}
 use Rattle.dv_apply.proofs.Extending.{sizes_are, sizes_blank}
 use Rattle.dv_apply.proofs.Replacing.{HasLeft, has_left, mailbox_is, parted_pass, rows_are}
-use Rattle.dv_apply.proofs.completing.complete.Goals as goal
+use Rattle.dv_apply.proofs.completing.put_share.Goals as goal
 
 pub put_part-requires-clause-parted : goal.put_part-requires-clause-parted
-put_part-requires-clause-parted c = parted_pass (held_of c.args.state.now) (ready_of c.args.made) c.requires.prepared.0 c.deref.result.now c.requires.prepared.1 c.deref.ensures.value
+put_part-requires-clause-parted c = parted_pass (held_of c.args.state.now) (part_of c.args.made) c.requires.prepared.0 c.deref.result.now c.requires.prepared.1 c.deref.ensures.value
 
 pub returns-clause-is : goal.returns-clause-is
 returns-clause-is c = λ after makes.
     let live : Held = held_of c.args.state.now in
-    let p : Ready = ready_of c.args.made in
+    let p : Part = part_of c.args.made in
     let rows : c.put_part.new.self.rows ≡ after.rows = rows_are live p after c.put_part.new.self.rows c.deref.result.now makes c.put_part.ensures.rows c.deref.ensures.value c.put_part.ensures.part c.put_part.ensures.others in
     mailbox_is live p after c.put_part.new.self.rows c.show.new.self.names makes rows (ap (λ (k : Keywords). k.names) c.show.ensures)
 
 pub returns-clause-kept : goal.returns-clause-kept
 returns-clause-kept c =
     let live : Held = held_of c.args.state.now in
-    let p : Ready = ready_of c.args.made in
+    let p : Part = part_of c.args.made in
     let after : Mailbox = c.requires.prepared.0 in
-    let makes : Makes live p after = c.requires.prepared.1 in
+    let makes : PutsShare live p after = c.requires.prepared.1 in
     let rows : c.put_part.new.self.rows ≡ after.rows = rows_are live p after c.put_part.new.self.rows c.deref.result.now makes c.put_part.ensures.rows c.deref.ensures.value c.put_part.ensures.part c.put_part.ensures.others in
     let is = mailbox_is live p after c.put_part.new.self.rows c.show.new.self.names makes rows (ap (λ (k : Keywords). k.names) c.show.ensures) in
     let kept = c.requires.kept.spare in
@@ -37,9 +37,9 @@ returns-clause-kept c =
 pub returns-clause-touched : goal.returns-clause-touched
 returns-clause-touched c = λ uid.
     let live : Held = held_of c.args.state.now in
-    let p : Ready = ready_of c.args.made in
+    let p : Part = part_of c.args.made in
     let after : Mailbox = c.requires.prepared.0 in
-    let makes : Makes live p after = c.requires.prepared.1 in
+    let makes : PutsShare live p after = c.requires.prepared.1 in
     let rows : c.put_part.new.self.rows ≡ after.rows = rows_are live p after c.put_part.new.self.rows c.deref.result.now makes c.put_part.ensures.rows c.deref.ensures.value c.put_part.ensures.part c.put_part.ensures.others in
     let is = mailbox_is live p after c.put_part.new.self.rows c.show.new.self.names makes rows (ap (λ (k : Keywords). k.names) c.show.ensures) in
     subst (λ (m : Mailbox). Contains c.args.made.touched uid ↔ IsTouched live.mailbox m uid) (sym is) (makes.touched uid)
