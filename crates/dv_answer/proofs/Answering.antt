@@ -12,9 +12,8 @@ use Rattle.dv_model.specs.Journals.{Mail}
 use Rattle.dv_model.specs.Sessions.{Answer, State, answer, data_of, ending_of, is_select, step_of, told_of, uids_looked_at, view_before}
 use Rattle.dv_model.specs.Views.{View, empty_view, moved, said}
 use Rattle.dv_model.proofs.Clients.{false_is_not_true}
-use Rattle.dv_search.specs.declared.facts.MailFacts.{MailFacts}
+use Rattle.dv_responses.specs.Damaged.{damaged_uids}
 use Rattle.dv_responses.specs.Met.{met_of}
-use Rattle.dv_responses.specs.Supplied.{AreSupplied}
 
 -- ---- SELECT and others
 
@@ -29,15 +28,15 @@ select_is (command.Store by_uid set how flags keywords since) e = false_is_not_t
 select_is (command.Search by_uid key) e = false_is_not_true e
 select_is (command.UidRemove set) e = false_is_not_true e
 
--- what SELECT looks at, takes and reads has nothing to do with the view
+-- what SELECT looks at and takes, and what is damaged of that, has nothing to do with the view
 pub select_looks : (c : Command) → is_select c ≡ true → (v w : View) → uids_looked_at c v ≡ uids_looked_at c w
 select_looks c e v w = let is = select_is c e in rw is refl
 
 pub select_met : (c : Command) → is_select c ≡ true → (v w : View) (m : Mailbox) → met_of c v m ≡ met_of c w m
 select_met c e v w m = let is = select_is c e in rw is refl
 
-pub select_supplied : (mail : ℕ → Mail) (c : Command) → is_select c ≡ true → (v w : View) (m : Mailbox) (facts : List MailFacts) → AreSupplied mail c v m facts → AreSupplied mail c w m facts
-select_supplied mail c e v w m facts supplied = let is = select_is c e in rw is (λ reads. false_is_not_true reads)
+pub select_damaged : (mail : ℕ → Mail) (c : Command) → is_select c ≡ true → (v w : View) (m : Mailbox) → damaged_uids mail c v m ≡ damaged_uids mail c w m
+select_damaged mail c e v w m = let is = select_is c e in rw is refl
 
 pub select_answer : (mail : ℕ → Mail) (x : State) (c : Command) → is_select c ≡ true → (met m : Mailbox) (q : ℕ) (mark : Mark) (lines : List Reply) (last : Reply) (next : State)
     → lines ≡ told_of command.Select m empty_view (moved Full empty_view m) ++ last ∷ []

@@ -3,8 +3,9 @@ ghost use Rattle.dv_model.specs.declared.types.Mailbox.{Mailbox};
 ghost use Rattle.dv_model.specs.declared.types.Command.TheVariants as command;
 ghost use Rattle.dv_model.specs.declared.types.Step.TheVariants.{Full};
 ghost use Rattle.dv_model.specs.Journals.{Mail as Message};
-ghost use Rattle.dv_model.specs.Sessions.{answer, told_of};
+ghost use Rattle.dv_model.specs.Sessions.{answer, data_of, told_of};
 ghost use Rattle.dv_model.specs.Views.{empty_view, moved, said};
+ghost use Rattle.dv_responses.specs.Damaged.{damaged_uids};
 ghost use Rattle.dv_responses.specs.Depth.{IsShallow};
 ghost use Rattle.dv_responses.specs.Met.{met_of};
 ghost use Rattle.dv_responses.specs.Supplied.{AreSupplied};
@@ -17,8 +18,8 @@ use crate::numbers::missing_number;
 use dv_apply::Live;
 use dv_model::{Command, Mark, NoMemory, Reply, Step};
 use dv_responses::{
-    Met, Responses, add_data_lines, add_select_lines, data_room, ending, is_select, step_of,
-    uids_looked_at,
+    Met, Responses, add_data_lines, add_select_lines, damaged_among, data_room, ending, is_select,
+    step_of, uids_looked_at,
 };
 use dv_search::Mail;
 use dv_touched::Touched;
@@ -232,10 +233,45 @@ impl Session {
         ensures err { OnErr result (self.new ≡ self.old) }
     {
         let looked_at = uids_looked_at(self.alloc, c, &self.view)?;
-        let last = ending(c, &looked_at, facts, live, met, mark);
-        let lines = self.lines_of(c, live, looked_at.as_slice());
-        replies.expect(lines, data_room(looked_at.as_slice(), facts))?;
+        let uids = looked_at.as_slice();
+        let damaged = damaged_among(self.alloc, c, uids, live, facts)?;
+        let lines = self.lines_of(c, live, uids);
+        replies.expect(lines, data_room(uids, facts))?;
         add_data_lines(self.alloc, c, &self.view, live, facts, replies)?;
+        self.finish(c, live, damaged.as_slice(), met, mark, told, replies)
+    }
+
+    /// Finishes the answer to a command that isn't refused, behind so many entries of the log and
+    /// at this place of it, where its data lines were taken before: adds what is told of the move
+    /// to the mailbox, and the last line (RFC 3501, section 7). The damaged UIDs are those of the
+    /// messages that the command reads. After `NoMemory`, which is the only error, the session is
+    /// as before. The time is that of `answer` without the data lines.
+    pub fn finish<R: Responses>(
+        &mut self,
+        c: &Command,
+        live: &Live,
+        damaged: &[u32],
+        met: Met,
+        mark: Mark,
+        told: u64,
+        replies: &mut R,
+    ) -> Result<(), NoMemory>
+        requires shallow { IsShallow c.now }
+        requires allowed { own_refusal self.old.state c.now ≡ None }
+        requires abreast { IsAbreast live.now.mailbox self.old }
+        // So it is for any mailbox in which the command met this, for all messages of which these
+        // are damaged, and from wherever the data lines were taken.
+        ensures answer { (mail : ℕ → Message) (met_mailbox : Mailbox) (start : R)
+            → met ≡ met_of c.now self.old.state.view met_mailbox
+            → damaged.now ≡ damaged_uids mail c.now self.old.state.view live.now.mailbox
+            → replies.old ≡ R.with start (data_of mail c.now self.old.state.view live.now.mailbox)
+            → OnOk result (IsAnswered R.with start replies.new self.new.state
+            (answer mail self.old.state c.now met_mailbox told live.now.mailbox mark)) }
+        ensures abreast { OnOk result (IsAbreast live.now.mailbox self.new) }
+        ensures err { OnErr result (self.new ≡ self.old) }
+    {
+        let looked_at = uids_looked_at(self.alloc, c, &self.view)?;
+        let last = ending(c, &looked_at, damaged, live, met, mark);
         if is_select(c) {
             self.select(live, told, last, replies)
         } else {

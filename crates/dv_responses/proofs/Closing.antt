@@ -1,5 +1,5 @@
 -- How the answer to a command ends.
-use Rattle.std.proofs.Common.{◌≡◌, ℕ, Bool, true, false, cond, ◌&&◌, List, Option, Some, None, refl, sym, ◌∙◌, ap, subst}
+use Rattle.std.proofs.Common.{◌≡◌, ℕ, Bool, true, false, cond, ◌&&◌, List, [], Option, Some, None, refl, sym, ◌∙◌, ap, subst}
 use Rattle.std.specs.Prelude.{filter, is_none, min, option_map}
 use Rattle.std.specs.List.{reduce}
 use Rattle.std.proofs.lemmas.List.Elements.{All-weaker, recursion_from_All}
@@ -14,6 +14,7 @@ use Rattle.dv_model.specs.Views.{View}
 use Rattle.dv_model.proofs.Clients.{filter_same}
 use Rattle.dv_search.specs.declared.facts.MailFacts.{MailFacts}
 use Rattle.dv_search.specs.Facts.{facts_of}
+use Rattle.dv_responses.specs.Damaged.{damaged_uids}
 use Rattle.dv_responses.specs.Met.{met_of}
 use Rattle.dv_responses.specs.Supplied.{AreSupplied, DescribesAsked, Supplies}
 
@@ -39,20 +40,20 @@ module _ (mail : ℕ → Mail) (c : Command) (view : View) (m : Mailbox) where
         by_test true has = by_facts (mail uid) refl (facts_of facts uid) refl has (message_in mail m uid) refl known
         by_test false has = refl
 
-    -- so the smallest UID of such a row is the damaged one
-    damaged_is : AreSupplied mail c view m facts → reads_mail c ≡ true → damaged_uid mail c view m ≡ reduce min (filter (λ uid. has_uid m uid && is_none (facts_of facts uid)) (uids_looked_at c view))
-    damaged_is supplied reads =
+    -- so those are the damaged ones
+    pub unknown_are_damaged : AreSupplied mail c view m facts → reads_mail c ≡ true → filter (λ uid. has_uid m uid && is_none (facts_of facts uid)) (uids_looked_at c view) ≡ damaged_uids mail c view m
+    unknown_are_damaged supplied reads =
         let P : ℕ → Type 0 = λ uid. Supplies (DescribesAsked c) (message_in mail m uid) (facts_of facts uid) in
         let uids = uids_looked_at c view in
-        ap (λ b. cond b (reduce min (filter (λ uid. has_uid m uid && is_damaged (mail uid)) uids)) None) reads ∙ ap (reduce min) (filter_same (λ uid. has_uid m uid && is_damaged (mail uid)) (λ uid. has_uid m uid && is_none (facts_of facts uid)) uids (recursion_from_All (λ uid. (has_uid m uid && is_damaged (mail uid)) ≡ (has_uid m uid && is_none (facts_of facts uid))) uids (All-weaker P (λ uid. (has_uid m uid && is_damaged (mail uid)) ≡ (has_uid m uid && is_none (facts_of facts uid))) unknown_is_damaged uids (supplied reads))))
+        sym (ap (λ b. cond b (filter (λ uid. has_uid m uid && is_damaged (mail uid)) uids) []) reads ∙ filter_same (λ uid. has_uid m uid && is_damaged (mail uid)) (λ uid. has_uid m uid && is_none (facts_of facts uid)) uids (recursion_from_All (λ uid. (has_uid m uid && is_damaged (mail uid)) ≡ (has_uid m uid && is_none (facts_of facts uid))) uids (All-weaker P (λ uid. (has_uid m uid && is_damaged (mail uid)) ≡ (has_uid m uid && is_none (facts_of facts uid))) unknown_is_damaged uids (supplied reads))))
 
-    -- and none where no message is read
-    pub damaged_as : AreSupplied mail c view m facts → damaged_uid mail c view m ≡ cond (reads_mail c) (reduce min (filter (λ uid. has_uid m uid && is_none (facts_of facts uid)) (uids_looked_at c view))) None
-    damaged_as supplied = by_test (reads_mail c) refl
-      where
-        by_test : (b : Bool) → reads_mail c ≡ b → damaged_uid mail c view m ≡ cond b (reduce min (filter (λ uid. has_uid m uid && is_none (facts_of facts uid)) (uids_looked_at c view))) None
-        by_test true reads = damaged_is supplied reads
-        by_test false reads = ap (λ b. cond b (reduce min (filter (λ uid. has_uid m uid && is_damaged (mail uid)) (uids_looked_at c view))) None) reads
+  -- the smallest of them is the damaged one
+  pub smallest_is : damaged_uid mail c view m ≡ reduce min (damaged_uids mail c view m)
+  smallest_is = by_test (reads_mail c) refl
+    where
+      by_test : (b : Bool) → reads_mail c ≡ b → damaged_uid mail c view m ≡ reduce min (damaged_uids mail c view m)
+      by_test true reads = rw reads refl
+      by_test false reads = rw reads refl
 
   module _ (met : Mailbox) (mark : Mark) where
     pub ends_gone : (uid : ℕ) → gone_uid c view m ≡ Some uid → ending_of mail c view met m mark ≡ reply.Gone uid mark (modified_of c view met)

@@ -1,7 +1,7 @@
 mod Closing
 pub mod Having
 pub mod Items
-mod Lines
+pub mod Lines
 mod Naming
 mod Standing
-mod Searched
+pub mod Searched

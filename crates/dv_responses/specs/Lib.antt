@@ -1,3 +1,4 @@
+pub mod Damaged
 pub mod Depth
 pub mod Asked
 pub mod Supplied

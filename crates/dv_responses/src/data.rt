@@ -13,8 +13,8 @@ use dv_search::Mail;
 use dv_view::View;
 use std::alloc::Global;
 
-/// Adds the data that a command asked, over the view before it moves on (RFC 3501, sections 6.4.4 and
-/// 6.4.5), from the facts of the messages that it reads. Names of keywords are those of the
+/// Adds the data that a command asked, over the view before it moves on (RFC 3501, sections 6.4.4
+/// and 6.4.5), from the facts of the messages that it reads. Names of keywords are those of the
 /// mailbox. `NoMemory` is the only error. The time of a FETCH is that of its set and of what it
 /// prints, that of a SEARCH is `eval`'s.
 pub fn add_data_lines<R: Responses>(

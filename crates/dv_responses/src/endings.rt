@@ -1,19 +1,16 @@
-ghost use Rattle.std.specs.Prelude.{◌≡◌, ◌&&◌, ℕ, None, cond, filter, is_none, min, not, option_map};
+ghost use Rattle.std.specs.Prelude.{◌≡◌, ℕ, filter, min, not, option_map};
 ghost use Rattle.std.specs.List.{reduce};
 ghost use Rattle.dv_model.specs.declared.types.Mailbox.{Mailbox};
 ghost use Rattle.dv_model.specs.Journals.{Mail as Message};
-ghost use Rattle.dv_model.specs.Sessions.{ending_of, has_uid, reads_mail, uids_looked_at};
+ghost use Rattle.dv_model.specs.Sessions.{ending_of, has_uid, uids_looked_at};
 ghost use Rattle.dv_model.specs.Views.{View as ShownRows};
-ghost use Rattle.dv_search.specs.Facts.{facts_of};
-ghost use Rattle.dv_responses.specs.Depth.{IsShallow};
+ghost use Rattle.dv_responses.specs.Damaged.{damaged_uids};
 ghost use Rattle.dv_responses.specs.Met.{met_of};
-ghost use Rattle.dv_responses.specs.Supplied.{AreSupplied};
 
-use crate::kinds::{reads_mail, word_of};
+use crate::kinds::word_of;
 use crate::meeting::{Met, has_uid};
 use dv_apply::Live;
 use dv_model::{Command, List, Mark, Reply};
-use dv_search::Mail;
 
 // The smallest of these UIDs that the mailbox lacks.
 fn first_gone(uids: &[u32], live: &Live) -> Option<u32>
@@ -25,28 +22,11 @@ fn first_gone(uids: &[u32], live: &Live) -> Option<u32>
         .min()
 }
 
-// The smallest of these UIDs that the mailbox has and no facts are known of.
-fn first_unknown(uids: &[u32], live: &Live, facts: &Mail) -> Option<u32>
-    ensures { result ≡ reduce min (filter
-        (λ uid. has_uid live.now.mailbox uid && is_none (facts_of facts.now uid)) uids.now) }
+// The smallest of these UIDs.
+fn smallest(uids: &[u32]) -> Option<u32>
+    ensures { result ≡ reduce min uids.now }
 {
-    uids.iter()
-        .copied()
-        .filter(|uid| has_uid(live, *uid) && facts.of(*uid).is_none())
-        .min()
-}
-
-// The smallest such UID, where the command reads messages.
-fn first_damaged(c: &Command, uids: &[u32], live: &Live, facts: &Mail) -> Option<u32>
-    requires { IsShallow c.now }
-    ensures { result ≡ cond (reads_mail c.now) (reduce min (filter
-        (λ uid. has_uid live.now.mailbox uid && is_none (facts_of facts.now uid)) uids.now)) None }
-{
-    if reads_mail(c) {
-        first_unknown(uids, live, facts)
-    } else {
-        None
-    }
+    uids.iter().copied().min()
 }
 
 // The UIDVALIDITY and the UID of a message that was appended.
@@ -60,22 +40,20 @@ fn appended_in(live: &Live, uid: Option<u32>) -> Option<(u32, u32)>
 }
 
 /// The last line of the answer to a command that looked at these UIDs: Gone with the smallest that
-/// the mailbox lacks (RFC 5530, EXPUNGEISSUED); or else Damaged with the smallest whose message it
-/// reads and isn't there (RFC 5530, CORRUPTION); or else Done. It has the mark that the session is
-/// told to, and what the command took from the mailbox that it met. Takes no memory.
+/// the mailbox lacks (RFC 5530, EXPUNGEISSUED); or else Damaged with the smallest of the damaged
+/// (RFC 5530, CORRUPTION); or else Done. It has the mark that the session is told to, and what the
+/// command took from the mailbox that it met. Takes no memory.
 pub fn ending(
     c: &Command,
     looked_at: &List<u32>,
-    facts: &Mail,
+    damaged: &[u32],
     live: &Live,
     met: Met,
     mark: Mark,
 ) -> Reply
-    requires { IsShallow c.now }
-    // So it is for all messages that have these facts, and where those without facts aren't there.
     ensures { (mail : ℕ → Message) (view : ShownRows) (met_mailbox : Mailbox)
         → looked_at.now ≡ uids_looked_at c.now view → met ≡ met_of c.now view met_mailbox
-        → AreSupplied mail c.now view live.now.mailbox facts.now
+        → damaged.now ≡ damaged_uids mail c.now view live.now.mailbox
         → result ≡ ending_of mail c.now view met_mailbox live.now.mailbox mark }
 {
     let uids = looked_at.as_slice();
@@ -87,7 +65,7 @@ pub fn ending(
             modified,
         };
     }
-    if let Some(uid) = first_damaged(c, uids, live, facts) {
+    if let Some(uid) = smallest(damaged) {
         return Reply::Damaged { uid, mark };
     }
     Reply::Done {

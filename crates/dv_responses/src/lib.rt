@@ -3,6 +3,7 @@
 #![tactic(auto)]
 
 mod asking;
+mod damaged;
 mod data;
 mod endings;
 mod facts;
@@ -17,6 +18,7 @@ mod selecting;
 mod taking;
 
 pub use asking::{Asked, asked_by};
+pub use damaged::damaged_among;
 pub use data::add_data_lines;
 pub use endings::ending;
 pub use facts::facts_from;
@@ -25,5 +27,6 @@ pub use kinds::{is_append, is_select, is_shallow, is_write, reads_mail, step_of,
 pub use looking::{named_uids, uids_looked_at};
 pub use meeting::{Met, meet};
 pub use room::data_room;
+pub use rows::{named, row_at};
 pub use selecting::add_select_lines;
 pub use taking::Responses;

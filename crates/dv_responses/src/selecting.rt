@@ -8,8 +8,8 @@ use dv_model::{NoMemory, Reply};
 use dv_view::{Replies, View, add_changes};
 use std::alloc::Global;
 
-/// Adds what SELECT says of the mailbox that the view now shows: EXISTS, UIDVALIDITY and UIDNEXT (RFC
-/// 3501, section 6.3.1), and then the flags of each message. `NoMemory` is the only error.
+/// Adds what SELECT says of the mailbox that the view now shows: EXISTS, UIDVALIDITY and UIDNEXT
+/// (RFC 3501, section 6.3.1), and then the flags of each message. `NoMemory` is the only error.
 pub fn add_select_lines<R: Replies>(
     alloc: Global,
     live: &Live,

@@ -2,8 +2,8 @@ use crate::mailboxes::live_of;
 use dv_apply::Live;
 use dv_model::{Boxed, Bytes, Command, End, How, Item, Key, List, Mark, NoMemory, Span};
 use dv_responses::{
-    add_data_lines, add_select_lines, asked_by, ending, facts_from, is_shallow, meet,
-    uids_looked_at,
+    add_data_lines, add_select_lines, asked_by, damaged_among, ending, facts_from, is_shallow,
+    meet, uids_looked_at,
 };
 use dv_script::replies_text;
 use dv_search::Mail;
@@ -52,13 +52,14 @@ fn answer(
     let view = View::of(alloc, met)?;
     let taken = meet(alloc, c, &view, met)?;
     let uids = uids_looked_at(alloc, c, &view)?;
+    let damaged = damaged_among(alloc, c, uids.as_slice(), live, &facts)?;
     let mut lines = List::new(alloc);
     add_data_lines(alloc, c, &view, live, &facts, &mut lines)?;
     let mark = Mark {
         file_seq: 1,
         offset,
     };
-    lines.push(ending(c, &uids, &facts, live, taken, mark))?;
+    lines.push(ending(c, &uids, damaged.as_slice(), live, taken, mark))?;
     replies_text(alloc, b"a", &lines)
 }
 

@@ -1,6 +1,6 @@
 //! A session's replies, of which only the text is kept.
 
-ghost use Rattle.std.specs.Prelude.{◌≡◌, []};
+ghost use Rattle.std.specs.Prelude.{◌≡◌, [], length};
 
 use crate::lines::{put_fetch_line, put_flags_line};
 use dv_apply::Live;
@@ -16,6 +16,9 @@ use std::mem;
 
 // About what stands in a line around its session and the bytes of a message.
 const AROUND: usize = 56;
+
+// A message of so many bytes or more has its room alone, and not some for others too.
+const LARGE: usize = 65536;
 
 /// The text of the replies of a session, each on a line that begins with the session's name, while
 /// they are taken one by one. Contracts see the name and the text.
@@ -59,6 +62,8 @@ impl Replies for ReplyText {
 
     ghost with = { λ t replies. with_replies t replies };
 
+    ghost size = { λ t. length t.text };
+
     ghost none = { λ t. none_taken t };
 
     ghost more = { λ t a b. more_taken t a b };
@@ -90,6 +95,16 @@ impl Replies for ReplyText {
         let session = self.session.as_slice();
         put_flags_line(alloc, &mut self.text, session, names, number, s)
     }
+
+    fn length(&self) -> usize {
+        self.text.len()
+    }
+
+    fn cut(&mut self, alloc: Global, length: usize) {
+        let mut text = mem::replace(&mut self.text, Bytes::new(alloc)).into_vec();
+        text.truncate(length);
+        self.text = Bytes::from_vec(text);
+    }
 }
 
 impl Responses for ReplyText {
@@ -102,6 +117,11 @@ impl Responses for ReplyText {
         items: &[Item],
         facts: &MailFacts,
     ) -> Result<(), NoMemory> {
+        if let Some(body) = &facts.body {
+            if body.len() >= LARGE {
+                self.expect(1, body.len())?;
+            }
+        }
         let session = self.session.as_slice();
         put_fetch_line(
             alloc,

@@ -1,6 +1,6 @@
 //! Where the replies of an answer go.
 
-ghost use Rattle.std.specs.Prelude.{◌≡◌, ◌++◌, ◌∷◌, [], List as Listed, OnOk};
+ghost use Rattle.std.specs.Prelude.{◌≡◌, ◌++◌, ◌∷◌, [], ℕ, List as Listed, OnOk, length};
 ghost use Rattle.dv_model.specs.declared.types.Reply.{Reply as Said};
 ghost use Rattle.dv_view.specs.Tells.{fetch_of};
 
@@ -8,11 +8,15 @@ use crate::copies::fetch_of;
 use dv_keywords::Table;
 use dv_model::{List, NoMemory, Reply, Shown};
 use std::alloc::Global;
+use std::mem;
 
 /// What takes the replies of an answer, one after another: a list of them, or their text.
 pub trait Replies {
     /// What it is with more replies.
     ghost with: { Self → Listed Said → Self };
+
+    /// How long it is.
+    ghost size: { Self → ℕ };
 
     /// Makes room for so many replies with so many bytes of messages in all, as far as it needs any.
     /// `NoMemory` is the only error. Memory and time alone go by it.
@@ -23,8 +27,8 @@ pub trait Replies {
     fn take(&mut self, reply: Reply) -> Result<(), NoMemory>
         ensures { OnOk result (self.new ≡ with self.old (reply ∷ [])) };
 
-    /// Takes the FETCH with UID and flags of a row of this number, whose keywords have names in this
-    /// table (RFC 3501, section 7.4.2). `NoMemory` is the only error.
+    /// Takes the FETCH with UID and flags of a row of this number, whose keywords have names in
+    /// this table (RFC 3501, section 7.4.2). `NoMemory` is the only error.
     fn take_flags(
         &mut self,
         alloc: Global,
@@ -34,6 +38,15 @@ pub trait Replies {
     ) -> Result<(), NoMemory>
         ensures { OnOk result
             (self.new ≡ with self.old (fetch_of names.now.names (number, s.now) ∷ [])) };
+
+    /// How long it is, which `cut` goes by.
+    fn length(&self) -> usize
+        ensures { result ≡ size self.now };
+
+    /// Takes back the replies that came since it was so long. It takes no memory.
+    fn cut(&mut self, alloc: Global, length: usize)
+        ensures { (x : Self) (told : Listed Said)
+            → self.old ≡ with x told → length ≡ size x → self.new ≡ x };
 
     /// No replies leave it as it is.
     ghost none: { (x : Self) → with x [] ≡ x };
@@ -46,6 +59,8 @@ impl Replies for List<Reply> {
     ghost use Rattle.std.proofs.Common.{append_assoc, append-nil};
 
     ghost with = { λ replies more. replies ++ more };
+
+    ghost size = { λ replies. length replies };
 
     ghost none = { λ x. append-nil x };
 
@@ -69,5 +84,15 @@ impl Replies for List<Reply> {
     ) -> Result<(), NoMemory> {
         self.push(fetch_of(alloc, names, number, s)?)?;
         Ok(())
+    }
+
+    fn length(&self) -> usize {
+        self.len()
+    }
+
+    fn cut(&mut self, alloc: Global, length: usize) {
+        let mut replies = mem::replace(self, List::new(alloc)).into_vec();
+        replies.truncate(length);
+        *self = List::from_vec(replies);
     }
 }

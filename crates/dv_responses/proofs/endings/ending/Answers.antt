@@ -1,34 +1,31 @@
-use Rattle.std.proofs.Common.{◌≡◌, ◌∙◌, ◌&&◌, ℕ, List, Some, None, cond, not, sym, ap}
-use Rattle.std.specs.Prelude.{filter, is_none, min, option_map}
+use Rattle.std.proofs.Common.{◌≡◌, ◌∙◌, ℕ, List, Some, None, not, sym, ap}
+use Rattle.std.specs.Prelude.{filter, min, option_map}
 use Rattle.std.specs.List.{reduce}
 use Rattle.dv_model.specs.declared.types.Reply.TheVariants as reply
 use Rattle.dv_model.specs.declared.types.Word.{Word}
-use Rattle.dv_model.specs.Sessions.{appended_of, damaged_uid, gone_uid, has_uid, modified_of, reads_mail, uids_looked_at, word_of}
-use Rattle.dv_search.specs.Facts.{facts_of}
+use Rattle.dv_model.specs.Sessions.{appended_of, damaged_uid, gone_uid, has_uid, modified_of, uids_looked_at, word_of}
 use Rattle.dv_responses.specs.declared.meeting.Met.{Met}
-use Rattle.dv_responses.proofs.Closing.{appended_is, damaged_as, ends_damaged, ends_done}
+use Rattle.dv_responses.proofs.Closing.{appended_is, ends_damaged, ends_done, smallest_is}
 use Rattle.dv_responses.proofs.endings.ending.Goals as goal
 
-pub returns-in-Some-first_damaged : goal.returns-in-Some-first_damaged
-returns-in-Some-first_damaged c = λ mail view met looked taken supplied.
+pub returns-in-Some-smallest : goal.returns-in-Some-smallest
+returns-in-Some-smallest c = λ mail view met looked taken are.
     let m = c.args.live.now.mailbox in
     let command = c.args.c.now in
-    let facts = c.args.facts.now in
     let same : c.as_slice-uids.result.now ≡ uids_looked_at command view = c.as_slice-uids.ensures ∙ looked in
     let none : gone_uid command view m ≡ None = ap (λ (us : List ℕ). reduce min (filter (λ uid. not (has_uid m uid)) us)) (sym same) ∙ sym c.first_gone.ensures ∙ c.in_default.is in
-    let damaged : damaged_uid mail command view m ≡ Some c.in-Some-first_damaged.uid =
-    damaged_as mail command view m facts supplied ∙ ap (λ (us : List ℕ). cond (reads_mail command) (reduce min (filter (λ uid. has_uid m uid && is_none (facts_of facts uid)) us)) None) (sym same) ∙ sym c.first_damaged.ensures ∙ c.in-Some-first_damaged.is in
-    sym (ends_damaged mail command view m met c.args.mark c.in-Some-first_damaged.uid none damaged)
+    let damaged : damaged_uid mail command view m ≡ Some c.in-Some-smallest.uid =
+    smallest_is mail command view m ∙ ap (reduce min) (sym are) ∙ sym c.smallest.ensures ∙ c.in-Some-smallest.is in
+    sym (ends_damaged mail command view m met c.args.mark c.in-Some-smallest.uid none damaged)
 
 pub returns : goal.returns
-returns c = λ mail view met looked taken supplied.
+returns c = λ mail view met looked taken are.
     let m = c.args.live.now.mailbox in
     let command = c.args.c.now in
-    let facts = c.args.facts.now in
     let same : c.as_slice-uids.result.now ≡ uids_looked_at command view = c.as_slice-uids.ensures ∙ looked in
     let none : gone_uid command view m ≡ None = ap (λ (us : List ℕ). reduce min (filter (λ uid. not (has_uid m uid)) us)) (sym same) ∙ sym c.first_gone.ensures ∙ c.in_default.is in
     let whole : damaged_uid mail command view m ≡ None =
-    damaged_as mail command view m facts supplied ∙ ap (λ (us : List ℕ). cond (reads_mail command) (reduce min (filter (λ uid. has_uid m uid && is_none (facts_of facts uid)) us)) None) (sym same) ∙ sym c.first_damaged.ensures ∙ c.in_default-first_damaged.is in
+    smallest_is mail command view m ∙ ap (reduce min) (sym are) ∙ sym c.smallest.ensures ∙ c.in_default-smallest.is in
     let appended : c.appended_in.result ≡ appended_of command met m = c.appended_in.ensures ∙ ap (λ (t : Met). option_map (λ uid. (m.uid_validity, uid)) t.appended) taken ∙ appended_is command view met m in
     let modified : c.args.met.modified ≡ modified_of command view met = ap (λ (t : Met). t.modified) taken in
     ap (λ (w : Word). reply.Done w c.args.mark c.appended_in.result c.args.met.modified) c.word_of.ensures

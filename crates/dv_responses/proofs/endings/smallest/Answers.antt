@@ -1,0 +1,9 @@
+use Rattle.std.proofs.Common.{◌∙◌, ap, sym}
+use Rattle.std.specs.Slice.Iter.{iter_rest}
+use Rattle.std.proofs.lemmas.Iterator.{YieldsList-from_slice}
+use Rattle.std.proofs.lemmas.Iterator.Adapters.{option_map_id}
+use Rattle.std.proofs.lemmas.Iterator.Consumers.{YieldsList-from_copied, min_from_yields_List}
+use Rattle.dv_responses.proofs.endings.smallest.Goals as goal
+
+pub returns : goal.returns
+returns c = sym (option_map_id c.min.result) ∙ min_from_yields_List c.copied.result c.min.result c.min.ensures.ran (YieldsList-from_copied (YieldsList-from_slice c.args.uids.now (ap iter_rest c.copied.ensures.source ∙ c.iter.ensures.rest)))
