@@ -4,5 +4,7 @@ pub mod Economies
 pub mod Looked
 pub mod Supplying
 pub mod Stepping
-pub mod Rising
 pub mod Holding
+pub mod RowSteps
+pub mod Told
+pub mod Picking

@@ -132,13 +132,18 @@ row_has m uid has = of_row (Any-from_list_any (λ row. nat_eq row.uid uid && tru
     of_row : Any (λ row. (nat_eq row.uid uid && true) ≡ true) m.rows → (row : Row) × Contains m.rows row × (row.uid ≡ uid)
     of_row (k, row, less, at, same) = (row, (k, less, at), eqb-true row.uid uid (by_test (nat_eq row.uid uid) same))
 
+-- a message of a row that the mailbox has
+pub mail_same : (folder : Folder) (m : Mailbox) (mail : ℕ → Mail) → AreMessages folder m mail → (uid : ℕ) → has_uid m uid ≡ true → mail_at folder uid ≡ mail uid
+mail_same folder m mail same uid has =
+    let row = row_has m uid has in
+    subst (λ (u : ℕ). mail_at folder u ≡ mail u) row.2 (same row.0 row.1)
+
 -- the messages of the mailbox's rows are what a command reads
 pub message_same : (folder : Folder) (m : Mailbox) (mail : ℕ → Mail) → AreMessages folder m mail → (uid : ℕ) → message_in (mail_at folder) m uid ≡ message_in mail m uid
 message_same folder m mail same uid = by_test (has_uid m uid) refl
   where
     by_test : (b : Bool) → has_uid m uid ≡ b → message_in (mail_at folder) m uid ≡ message_in mail m uid
     by_test true has =
-        let row = row_has m uid has in
-        let e : mail_at folder uid ≡ mail uid = subst (λ (u : ℕ). mail_at folder u ≡ mail u) row.2 (same row.0 row.1) in
+        let e : mail_at folder uid ≡ mail uid = mail_same folder m mail same uid has in
         rw (has, e) refl
     by_test false lacks = rw (lacks) refl

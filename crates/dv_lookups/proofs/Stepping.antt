@@ -1,65 +1,16 @@
 -- One UID more of those that a command looks at.
-use Rattle.std.proofs.Common.{◌≡◌, ℕ, ◌+◌, ◌<◌, ◌≤◌, Bool, true, false, ◌&&◌, cond, List, [], ◌∷◌, ◌++◌, length, get_or, take, All, refl, sym, ◌∙◌, ap, subst, arith}
-use Rattle.std.specs.Prelude.{count_by, flat_map, not}
-use Rattle.std.specs.List.Sorted.{IsStrictlyIncreasing}
+use Rattle.std.proofs.Common.{◌≡◌, ℕ, ◌+◌, ◌<◌, ◌≤◌, Bool, true, false, ◌&&◌, cond, List, length, get_or, take, refl, sym, ◌∙◌, ap, subst, arith}
+use Rattle.std.specs.Prelude.{count_by, not}
 use Rattle.std.proofs.lemmas.Bool.{false≢true}
-use Rattle.std.proofs.lemmas.Grind.{flat_map-append}
-use Rattle.std.proofs.lemmas.List.{append-nil, take_more}
-use Rattle.std.proofs.lemmas.List.Elements.{All-append, All-cons, All-nil, All-weaker}
-use Rattle.std.proofs.lemmas.List.Kept.{AllPairs-from_increasing}
 use Rattle.std.proofs.lemmas.List.Sums.{count_by_more_no, count_by_more_yes, sum_by-take-le}
 use Rattle.dv_model.specs.declared.types.Mailbox.{Mailbox}
 use Rattle.dv_model.specs.Sessions.{has_uid}
 use Rattle.dv_shelf.specs.Folders.{Folder}
-use Rattle.dv_search.specs.declared.facts.MailFacts.{MailFacts}
 use Rattle.dv_responses.specs.declared.asking.Asked.{Asked}
-use Rattle.dv_lookups.specs.declared.found.FactsFound.{FactsFound}
-use Rattle.dv_lookups.specs.declared.found.FactsFound.TheVariants as facts
-use Rattle.dv_lookups.specs.Commands.{IsNamed, ReadsBut, SparesEach, facts_of_all, known_facts}
-use Rattle.dv_lookups.specs.Founds.{facts_found, mail_of}
+use Rattle.dv_lookups.specs.Commands.{ReadsBut, SparesEach}
 use Rattle.dv_lookups.specs.declared.cache_file.CacheFile.{CacheFile}
 use Rattle.dv_lookups.specs.Kept.{CountsReads, CountsUpTo, Economy, IsFileOf, IsSpared, Spares, can_stand}
 use Rattle.dv_lookups.proofs.Economies.{same_read}
-
--- ---- facts
-
--- the facts are of UIDs below this one
-abbrev pub AreBelow : ℕ → List MailFacts → Type 0
-AreBelow bound mail = All (λ f. f.uid < bound) mail
-
--- those so far are of UIDs below the next
-abbrev pub AreBehind : List ℕ → ℕ → List MailFacts → Type 0
-AreBehind uids i mail = i < length uids → AreBelow (get_or uids i 0) mail
-
-known_below : (uid bound : ℕ) (found : FactsFound) → IsNamed uid found → uid < bound → AreBelow bound (known_facts found)
-known_below uid bound (facts.Known f) named less = All-cons (λ (x : MailFacts). x.uid < bound) f [] (omega (arith, named, less)) (All-nil (λ (x : MailFacts). x.uid < bound))
-known_below uid bound facts.Gone named less = All-nil (λ (x : MailFacts). x.uid < bound)
-known_below uid bound facts.Damaged named less = All-nil (λ (x : MailFacts). x.uid < bound)
-
-pub below_with : (uid bound : ℕ) (mail : List MailFacts) (found : FactsFound) → AreBelow uid mail → IsNamed uid found → uid < bound → AreBelow bound (mail ++ known_facts found)
-below_with uid bound mail found below named less =
-    All-append (λ (f : MailFacts). f.uid < bound) mail (known_facts found)
-    (All-weaker (λ (f : MailFacts). f.uid < uid) (λ f. f.uid < bound) (λ f lower. omega (arith, lower, less)) mail below)
-    (known_below uid bound found named less)
-
--- UIDs that rise stand below the next
-pub next_above : (uids : List ℕ) (i : ℕ) → IsStrictlyIncreasing uids → i + 1 < length uids → get_or uids i 0 < get_or uids (i + 1) 0
-next_above uids i rising next = AllPairs-from_increasing uids rising i (i + 1) 0 (omega arith) next
-
--- the facts of one message more
-pub facts_more : (folder other : Folder) (m : Mailbox) (asked : Asked) (uids : List ℕ) (i : ℕ) (old new : List MailFacts) → i < length uids → other ≡ folder
-    → old ≡ facts_of_all folder m asked (take i uids)
-    → new ≡ old ++ known_facts (facts_found asked (get_or uids i 0) (mail_of other m (get_or uids i 0)))
-    → new ≡ facts_of_all folder m asked (take (i + 1) uids)
-facts_more folder other m asked uids i old new less same before is =
-    let each : Folder → ℕ → List MailFacts = λ f u. known_facts (facts_found asked u (mail_of f m u)) in
-    let uid = get_or uids i 0 in
-    let so_far = take i uids in
-    let here : new ≡ flat_map (each folder) so_far ++ each folder uid =
-    is ∙ ap (λ (f : Folder). old ++ each f uid) same ∙ ap (λ (xs : List MailFacts). xs ++ each folder uid) before in
-    let all : flat_map (each folder) (take (i + 1) uids) ≡ flat_map (each folder) so_far ++ each folder uid =
-    ap (flat_map (each folder)) (take_more uids i 0 less) ∙ flat_map-append (each folder) so_far (uid ∷ []) ∙ ap (λ (xs : List MailFacts). flat_map (each folder) so_far ++ xs) (append-nil (each folder uid)) in
-    here ∙ sym all
 
 -- ---- reads
 

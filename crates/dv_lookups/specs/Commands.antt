@@ -1,16 +1,14 @@
 -- What a command asks of many messages.
-use Rattle.std.specs.Prelude.{◌≡◌, ℕ, ◌&&◌, Bool, true, false, not, List, [], ◌∷◌, flat_map, count_by, if◌then◌else◌, ⊤}
+use Rattle.std.specs.Prelude.{◌≡◌, ℕ, ◌&&◌, Bool, true, false, not, List, [], count_by, if◌then◌else◌, ⊤}
 use Rattle.dv_model.specs.declared.types.Command.{Command}
 use Rattle.dv_model.specs.declared.types.Mailbox.{Mailbox}
 use Rattle.dv_model.specs.Sessions.{has_uid, reads_mail, uids_looked_at}
 use Rattle.dv_model.specs.Views.{View}
 use Rattle.dv_shelf.specs.Folders.{Folder}
-use Rattle.dv_search.specs.declared.facts.MailFacts.{MailFacts}
 use Rattle.dv_responses.specs.Asked.{Asks}
 use Rattle.dv_responses.specs.declared.asking.Asked.{Asked}
 use Rattle.dv_lookups.specs.declared.found.FactsFound.{FactsFound}
 use Rattle.dv_lookups.specs.declared.found.FactsFound.TheVariants as facts
-use Rattle.dv_lookups.specs.Founds.{facts_found, mail_of}
 use Rattle.dv_lookups.specs.Kept.{CountsUpTo, IsSpared, can_stand}
 
 -- ---- facts
@@ -19,16 +17,6 @@ use Rattle.dv_lookups.specs.Kept.{CountsUpTo, IsSpared, can_stand}
 abbrev pub IsNamed : ℕ → FactsFound → Type 0
 IsNamed uid (facts.Known known) = known.uid ≡ uid
 IsNamed uid other = ⊤
-
--- the facts that are known
-abbrev pub known_facts : FactsFound → List MailFacts
-known_facts (facts.Known known) = known ∷ []
-known_facts other = []
-
--- those of each message that is there
-abbrev pub facts_of_all : Folder → Mailbox → Asked → List ℕ → List MailFacts
-facts_of_all folder m asked uids =
-    flat_map (λ uid. known_facts (facts_found asked uid (mail_of folder m uid))) uids
 
 -- ---- reads
 

@@ -5,3 +5,4 @@ pub mod Founds
 pub mod Memory
 pub mod Commands
 pub mod Checks
+pub mod Reads

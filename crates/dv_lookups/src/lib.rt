@@ -4,12 +4,14 @@
 
 mod cache_file;
 mod checking;
-mod commands;
 mod facts;
+mod fetching;
 mod found;
 mod known;
 mod looks;
 mod memory;
+mod reading;
+mod searching;
 mod singles;
 mod source;
 

@@ -1,8 +1,7 @@
 use crate::{BodyFound, CacheFile, FactsFound, FieldFound, SizesFound, body, cache_of_messages};
 use dv_chain::{Chain, open};
-use dv_model::{Bytes, Command, End, Item, List, Span};
-use dv_responses::Asked;
-use dv_search::{Mail, MailFacts};
+use dv_model::{Bytes, Command, End, Item, List, Reply, Span, Value};
+use dv_responses::{Asked, reads_mail};
 use dv_shelf::{MemShelf, Name, ShelfFault};
 use dv_view::View;
 use std::alloc::Global;
@@ -181,20 +180,22 @@ fn items(alloc: Global) -> Result<List<Item>, Fail> {
     Ok(items)
 }
 
-fn has_subject(facts: &MailFacts, value: &[u8]) -> bool {
-    match facts.fields.as_slice() {
-        [field] => match &field.1 {
-            Some(found) => found.as_slice() == value,
-            None => false,
+// Whether this is the one line of a FETCH, of the message of UID 1 with this size and subject.
+fn is_line(lines: &List<Reply>, size: u64, subject: &[u8]) -> bool {
+    let [
+        Reply::Fetch {
+            number: 1,
+            uid: 1,
+            values,
         },
-        _ => false,
-    }
-}
-
-// Whether the message of UID 1 has these facts, and that of UID 2 none.
-fn are_facts(found: &Mail, size: u64, subject: &[u8]) -> bool {
-    match (found.of(1), found.of(2)) {
-        (Some(facts), None) => facts.size == size && has_subject(facts, subject),
+    ] = lines.as_slice()
+    else {
+        return false;
+    };
+    match values.as_slice() {
+        [Value::Size(found), Value::Field(_, Some(value))] => {
+            *found == size && value.as_slice() == subject
+        }
         _ => false,
     }
 }
@@ -216,11 +217,15 @@ fn only_rows_that_are_not_in_the_cache_file_are_read(rt: HostRuntime) -> Result<
         set: List::from_slice(alloc, &[span])?,
         items: items(alloc)?,
     };
-    let found = cache
-        .facts_for(alloc, &mut shelf, &chain, &fetch, &view)
+    if !reads_mail(&fetch) {
+        return Err(Fail::from("no message is read"));
+    }
+    let mut lines = List::new(alloc);
+    let damaged = cache
+        .read_for(alloc, &mut shelf, &chain, &fetch, &view, &mut lines)
         .ok()
         .ok_or("a fault")?;
-    assert!(rt; are_facts(&found, 20, b"Hi"));
+    assert!(rt; is_line(&lines, 20, b"Hi") && damaged.as_slice() == [2].as_slice());
     assert_eq!(rt; shelf.call_count(), calls.saturating_add(2));
     Ok(())
 }

@@ -2,3 +2,4 @@ pub mod Facts
 pub mod Laws
 pub mod Nesting
 pub mod Prepared
+pub mod Sought

@@ -114,9 +114,8 @@ fn meets_all(alloc: Global, keys: &Items<Key>, c: &Candidate) -> Result<bool, No
 
 /// Whether the row is found; where the key needs mail, `reads`, one without facts isn't.
 pub fn is_found(alloc: Global, k: &Key, c: &Candidate, reads: bool) -> Result<bool, NoMemory>
-    requires apart { HasApart k.now }
-    requires reads { reads ≡ needs_mail k.now }
-    ensures { (message : Option (List ℕ)) → AreKnown k.now message (option_copied c.now.facts)
+    ensures { HasApart k.now → reads ≡ needs_mail k.now
+        → (message : Option (List ℕ)) → AreKnown k.now message (option_copied c.now.facts)
         → IfOk result (λ found. found ≡ is_found k.now (candidate_of c.now) message) }
 {
     if reads && c.facts.is_none() {

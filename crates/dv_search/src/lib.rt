@@ -9,6 +9,7 @@ mod levels;
 mod mail;
 mod prepared;
 mod search;
+mod sought;
 mod text;
 
 pub use facts::MailFacts;
@@ -17,3 +18,4 @@ pub use law::{search_says_found, sought_is_shallow};
 pub use levels::is_shallow;
 pub use mail::needs_mail;
 pub use search::eval;
+pub use sought::Sought;

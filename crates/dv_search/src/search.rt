@@ -1,50 +1,35 @@
 ghost use Rattle.std.specs.Prelude.{◌≡◌, ◌≤◌, ℕ, List, Option, map, IfOk};
 ghost use Rattle.dv_model.specs.declared.types.Key.{Key as Searched};
-ghost use Rattle.dv_model.specs.Searches.{needs_mail};
-ghost use Rattle.dv_model.specs.Sets.{largest_uid};
 ghost use Rattle.dv_search.specs.Facts.{AreAllKnown, found_rows};
 ghost use Rattle.dv_search.specs.Nesting.{levels_of, most_levels};
-ghost use Rattle.dv_search.specs.Prepared.{HasApart, IsPrepared};
+ghost use Rattle.dv_search.specs.Sought.{IsSought};
 
-use crate::keys::{Candidate, is_found};
 use crate::known::Mail;
-use crate::mail::needs_mail;
-use crate::prepared::prepared;
+use crate::sought::Sought;
 use dv_apply::Live;
 use dv_model::{Key, List, NoMemory};
-use dv_sets::largest_uid;
 use dv_view::View;
 use std::alloc::Global;
 
-// The numbers of the view's rows that meet a key whose sets are ready.
-fn eval_prepared(
+// The numbers of the view's rows that meet a key that was made ready.
+fn numbers_found(
     alloc: Global,
-    key: &Key,
-    reads: bool,
+    sought: &Sought,
     v: &View,
     live: &Live,
     mail: &Mail,
 ) -> Result<List<u32>, NoMemory>
-    requires apart { HasApart key.now }
-    requires reads { reads ≡ needs_mail key.now }
     // So it is for each key that was made ready so.
-    ensures { (k : Searched) → IsPrepared (largest_uid v.now) k key.now
+    ensures { (k : Searched) → IsSought k v.now sought.now
         → (message : ℕ → Option (List ℕ)) → AreAllKnown k message mail.now v.now.rows
         → IfOk result (λ numbers. numbers
         ≡ map (λ row. row.0) (found_rows message k v.now live.now.mailbox)) }
 {
-    let names = live.names().names();
     let mut numbers = List::new(alloc);
     let mut number = 0;
     for shown in v.rows().as_slice() {
         number += 1;
-        let facts = mail.of(shown.uid);
-        let c = Candidate {
-            shown,
-            names,
-            facts,
-        };
-        if is_found(alloc, key, &c, reads)? {
+        if sought.finds(alloc, live, shown, mail.of(shown.uid))? {
             numbers.push(number)?;
         }
     }
@@ -70,7 +55,6 @@ pub fn eval(
         → IfOk result (λ numbers. numbers
         ≡ map (λ row. row.0) (found_rows message k.now v.now live.now.mailbox)) }
 {
-    let reads = needs_mail(k);
-    let key = prepared(alloc, k, largest_uid(v.rows().as_slice()))?;
-    eval_prepared(alloc, &key, reads, v, live, mail)
+    let sought = Sought::new(alloc, k, v)?;
+    numbers_found(alloc, &sought, v, live, mail)
 }

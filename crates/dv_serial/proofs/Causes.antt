@@ -1,5 +1,5 @@
 -- A failure of the disk is told only where its count rose.
-use Rattle.std.proofs.Common.{◌≡◌, ℕ, ◌≤◌, false, List, [], ◌∷◌, Result, Ok, Err, refl, sym, ap, subst}
+use Rattle.std.proofs.Common.{◌≡◌, ℕ, ◌≤◌, false, List, [], ◌∷◌, Result, Ok, Err, refl, sym, ◌∙◌, ap, subst}
 use Rattle.std.specs.Prelude.{IfOk, OnOk}
 use Rattle.std.proofs.lemmas.Result.{on_ok_weaker}
 use Rattle.dv_model.specs.declared.types.Command.{Command}
@@ -14,12 +14,28 @@ use Rattle.dv_model.specs.Transcripts.{is_unavailable, unavailable_count}
 use Rattle.dv_plans.specs.declared.fault.StoreFault.{StoreFault}
 use Rattle.dv_plans.specs.declared.fault.StoreFault.TheVariants as fault
 use Rattle.dv_plans.specs.Faults.{HasStoreCause}
+use Rattle.dv_store.specs.Faults.{IsFailure}
 use Rattle.dv_answer.specs.Answers.{IsAnswered}
 use Rattle.dv_serial.specs.Lines.{IsFaultLine, fault_lines}
 use Rattle.dv_serial.specs.Serves.{HasFailures}
 use Rattle.dv_serial.specs.Taking.{Takes, given}
 use Rattle.dv_serial.proofs.Counting.{AreAvailable, answer_available, counts_none, one_available, rose_none}
 use Rattle.dv_serial.proofs.Taken.{always, given_answer, given_has}
+
+abbrev failed_with : (A : Type 0) → StoreFault → Result A StoreFault
+failed_with A f = Err f
+
+pub disk_of : {A : Type 0} (f : StoreFault) (count : ℕ) → f ≡ fault.Disk count → failed_with A f ≡ failed_with A (fault.Disk count)
+disk_of {A} f count e = ap (failed_with A) e
+
+-- where the disk's failure left no lines, its own line alone is there
+pub fault_alone : {R E : Type 0} (with : R → List Reply → R) (old mid new : R) (f : StoreFault) (result : Result (Unit {0}) E) → IsFailure f → ((count : ℕ) → f ≡ fault.Disk count → mid ≡ old)
+    → OnOk result ((new ≡ with mid (fault_lines f)) × IsFaultLine f (fault_lines f)) → OnOk result ((new ≡ with old (fault_lines f)) × IsFaultLine f (fault_lines f))
+fault_alone with old mid new (fault.Disk count) (Ok done) failure back is = (is.0 ∙ ap (λ x. with x (fault_lines (fault.Disk count))) (back count refl), is.1)
+fault_alone with old mid new fault.NoMemory (Ok done) failure back is = absurd is.1
+fault_alone with old mid new fault.UidsUsedUp (Ok done) failure back is = absurd failure
+fault_alone with old mid new (fault.TooLong bytes) (Ok done) failure back is = absurd failure
+fault_alone with old mid new f (Err e) failure back is = tt
 
 module _ (before now : ℕ) where
   -- lines that tell of none

@@ -7,6 +7,7 @@ use Rattle.dv_model.specs.declared.types.Command.TheVariants as command
 use Rattle.dv_model.specs.declared.types.Mailbox.{Mailbox}
 use Rattle.dv_model.specs.Journals.{Log, Mail}
 use Rattle.dv_model.specs.Sessions.{State as SessionState, is_write, reads_mail}
+use Rattle.dv_model.specs.Views.{View}
 use Rattle.dv_shelf.specs.Folders.{Folder}
 use Rattle.dv_shelf.proofs.Moments.{started}
 use Rattle.dv_chain.specs.declared.chain.Chain.{Chain}
@@ -59,11 +60,10 @@ module _ {S C : Type 0} (old mid : Serving S C) (looks : OnlyLooksAt old mid) wh
   pub looked_met : (c : Command) (x : SessionState) (met : Met) → met ≡ met_of c x.view mid.store.chain.live.mailbox → met ≡ met_of c x.view old.store.chain.live.mailbox
   looked_met c x met is = is ∙ ap (λ (m : Mailbox). met_of c x.view m) looked_mailbox
 
-  pub looked_supplied : (mail : ℕ → Mail) (c : Command) (at : ℕ) (facts : List MailFacts) → AreSupplied mail c (seat_at old.seats at).state.view old.store.chain.live.mailbox facts
-      → AreSupplied mail c (seat_at mid.seats at).state.view mid.store.chain.live.mailbox facts
-  looked_supplied mail c at facts supplied =
-      subst (λ (m : Mailbox). AreSupplied mail c (seat_at mid.seats at).state.view m facts) (sym looked_mailbox)
-      (subst (λ (fs : List Follower). AreSupplied mail c (seat_at fs at).state.view old.store.chain.live.mailbox facts) (sym looks.seats) supplied)
+  -- what holds of a session's view and the mailbox holds then
+  pub looked_same : (P : View → Mailbox → Type 0) (at : ℕ) → P (seat_at old.seats at).state.view old.store.chain.live.mailbox → P (seat_at mid.seats at).state.view mid.store.chain.live.mailbox
+  looked_same P at is =
+      subst (P (seat_at mid.seats at).state.view) (sym looked_mailbox) (subst (λ (fs : List Follower). P (seat_at fs at).state.view old.store.chain.live.mailbox) (sym looks.seats) is)
 
   pub looked_abreast : AreAbreast old → AreAbreast mid
   looked_abreast all =

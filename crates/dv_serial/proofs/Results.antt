@@ -89,9 +89,9 @@ module _ {S C : Type 0} (files : S → Folder) (may_leave : S → Folder → Typ
           }
 
       -- its facts couldn't be had
-      pub read_failed : {A E : Type 0} (f : StoreFault) (result : Result (List Reply) E) → reads_mail line.1 ≡ true → IsFailure f → HasStoreCause {A = A} before faults (Err f) → IfOk result (IsFaultLine f) → IsResult result mid
+      pub read_failed : {A E : Type 0} (f : StoreFault) (result : Result (List Reply) E) → ((count : ℕ) → f ≡ fault.Disk count → reads_mail line.1 ≡ true) → IsFailure f → HasStoreCause {A = A} before faults (Err f) → IfOk result (IsFaultLine f) → IsResult result mid
       read_failed (fault.Disk count) (Ok lines) mails failure cause is =
-          let touches : touches_disk line.1 ≡ true = ap (λ (b : Bool). b || reads_mail line.1) read ∙ mails in
+          let touches : touches_disk line.1 ≡ true = ap (λ (b : Bool). b || reads_mail line.1) read ∙ mails count refl in
           failed_serves files may_leave moment left_since upcoming clock start base attempts before faults line old follows good later allowed count DueAgain mid lines touches cause.rose.0 cause.rose.1 looks.seats same_mailbox is (same_others clock start (files old.store.shelf) (files mid.store.shelf) (with_line attempts line (Failed count DueAgain)) reads.looks.same)
           (stands_on files may_leave moment left_since upcoming clock start base attempts line (Failed count DueAgain) (behind_failure here line DueAgain) old mid (failed_stays clock here line read DueAgain) (failed_nothing count touches) stands)
       read_failed fault.NoMemory (Ok lines) mails failure cause is = absurd is

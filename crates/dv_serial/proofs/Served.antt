@@ -1,6 +1,6 @@
 -- The line of the session at a place, read or written.
 use Rattle.std.proofs.Common.{◌≡◌, ℕ, ◌+◌, ◌^◌, ◌<◌, ◌≤◌, true, false, List, [], ◌∷◌, length, Option, Some, None, Result, Err, refl, sym, ◌∙◌, ap, subst, arith}
-use Rattle.std.specs.Prelude.{All, IfOk, OnErr, OnOk}
+use Rattle.std.specs.Prelude.{All, OnErr, OnOk}
 use Rattle.std.proofs.lemmas.Result.{on_ok_weaker}
 use Rattle.dv_model.specs.declared.types.Command.{Command}
 use Rattle.dv_model.specs.declared.types.Mailbox.{Mailbox}
@@ -11,6 +11,7 @@ use Rattle.dv_model.specs.Transcripts.{Line}
 use Rattle.dv_shelf.specs.declared.shelf.Name.{Name}
 use Rattle.dv_shelf.specs.Folders.{Folder}
 use Rattle.dv_responses.specs.Met.{met_of}
+use Rattle.dv_model.specs.Views.{View}
 use Rattle.dv_responses.specs.Supplied.{AreSupplied}
 use Rattle.dv_responses.specs.declared.meeting.Met.{Met}
 use Rattle.dv_search.specs.declared.facts.MailFacts.{MailFacts}
@@ -18,6 +19,7 @@ use Rattle.dv_answer.specs.Answers.{IsAnswered}
 use Rattle.dv_answer.specs.Following.{Follower, IsAbreast, new_follower}
 use Rattle.dv_answer.specs.Refusing.{own_refusal}
 use Rattle.dv_plans.specs.declared.fault.StoreFault.{StoreFault}
+use Rattle.dv_plans.specs.declared.fault.StoreFault.TheVariants as fault
 use Rattle.dv_plans.specs.Faults.{HasStoreCause}
 use Rattle.dv_playing.specs.Laws.{IsLine}
 use Rattle.dv_playing.specs.Playing.{Attempt, Play, refused_here, with_group_here}
@@ -32,7 +34,7 @@ use Rattle.dv_serial.specs.Serves.{OnlyLooksAt, Serves, seat_at, with_seat}
 use Rattle.dv_serial.specs.Servings.{Serving}
 use Rattle.dv_serial.specs.Taking.{Takes, given}
 use Rattle.dv_serial.specs.Writes.{Commits, IsDone}
-use Rattle.dv_serial.proofs.Looking.{looked_met, looked_supplied, unread_supplied, writes_unread}
+use Rattle.dv_serial.proofs.Looking.{looked_met, looked_same, unread_supplied, writes_unread}
 use Rattle.dv_serial.proofs.Refusals.{reads_allowed}
 use Rattle.dv_serial.proofs.Results.{ended_still, own_result, read_ended, read_failed, read_told, write_ended, write_failed, write_told}
 use Rattle.dv_serial.proofs.Seated.{state_at}
@@ -75,7 +77,7 @@ module _ {S C : Type 0} (files : S → Folder) (may_leave : S → Folder → Typ
     pub seat_ended : EndsAt files may_leave moment left_since clock start base attempts line old mid
     seat_ended = read_ended files may_leave moment left_since upcoming clock start base attempts before before line old follows good (omega arith) allowed read mid looks reads
 
-    pub seat_failed : {A E R : Type 0} (with : R → List Reply → R) (said said_now : R) (faults : ℕ) (f : StoreFault) (result : Result (Unit {0}) E) → reads_mail c ≡ true → IsFailure f → HasStoreCause {A = A} before faults (Err f)
+    pub seat_failed : {A E R : Type 0} (with : R → List Reply → R) (said said_now : R) (faults : ℕ) (f : StoreFault) (result : Result (Unit {0}) E) → ((count : ℕ) → f ≡ fault.Disk count → reads_mail c ≡ true) → IsFailure f → HasStoreCause {A = A} before faults (Err f)
         → OnOk result ((said_now ≡ with said (fault_lines f)) × IsFaultLine f (fault_lines f))
         → Takes with said said_now result (λ told. Serves files may_leave moment left_since upcoming clock start base faults attempts line told old mid)
     seat_failed with said said_now faults f result mails failure cause is = record {
@@ -85,15 +87,15 @@ module _ {S C : Type 0} (files : S → Folder) (may_leave : S → Folder → Typ
           (given_has (IsFaultLine f) (fault_lines f) result (on_ok_weaker result (λ (x : (said_now ≡ with said (fault_lines f)) × IsFaultLine f (fault_lines f)). x.1) is));
     }
 
-    pub seat_told : {E R : Type 0} (with : R → List Reply → R) (said said_now : R) (faults : ℕ) (new : Serving S C) (result : Result (Unit {0}) E) (facts : List MailFacts) (met : Met) → before ≤ faults → met ≡ met_of c (seat_at mid.seats at).state.view mid.store.chain.live.mailbox
-        → AreSupplied here.log.mail c (seat_at old.seats at).state.view old.store.chain.live.mailbox facts
-        → ((mail : ℕ → Mail) (m : Mailbox) → met ≡ met_of c (seat_at mid.seats at).state.view m → AreSupplied mail c (seat_at mid.seats at).state.view mid.store.chain.live.mailbox facts
+    pub seat_told : {E R : Type 0} (with : R → List Reply → R) (said said_now : R) (faults : ℕ) (new : Serving S C) (result : Result (Unit {0}) E) (P : (ℕ → Mail) → View → Mailbox → Type 0) (met : Met) → before ≤ faults → met ≡ met_of c (seat_at mid.seats at).state.view mid.store.chain.live.mailbox
+        → P here.log.mail (seat_at old.seats at).state.view old.store.chain.live.mailbox
+        → ((mail : ℕ → Mail) (m : Mailbox) → met ≡ met_of c (seat_at mid.seats at).state.view m → P mail (seat_at mid.seats at).state.view mid.store.chain.live.mailbox
         → OnOk result (IsAnswered with said said_now (seat_at new.seats at).state (answer mail (seat_at mid.seats at).state c m mid.groups mid.store.chain.live.mailbox mid.mark)))
         → IsAbreast new.store.chain.live.mailbox (seat_at new.seats at) → with_seat at (seat_at new.seats at) mid ≡ new → OnErr result (new ≡ mid)
         → Takes with said said_now result (λ r. Serves files may_leave moment left_since upcoming clock start base faults attempts line r old new)
-    seat_told with said said_now faults new result facts met later is supplied answered abreast only stays =
+    seat_told with said said_now faults new result P met later is supplied answered abreast only stays =
         let a = answer here.log.mail (seat_at mid.seats at).state c old.store.chain.live.mailbox mid.groups mid.store.chain.live.mailbox mid.mark in
-        let both = answered here.log.mail old.store.chain.live.mailbox (looked_met old mid looks c (seat_at mid.seats at).state met is) (looked_supplied old mid looks here.log.mail c at facts supplied) in
+        let both = answered here.log.mail old.store.chain.live.mailbox (looked_met old mid looks c (seat_at mid.seats at).state met is) (looked_same old mid looks (P here.log.mail) at supplied) in
         record {
           replies = a.replies;
           taken = on_ok_weaker result (λ (x : IsAnswered with said said_now (seat_at new.seats at).state a). x.0) both;

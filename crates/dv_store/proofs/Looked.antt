@@ -1,7 +1,9 @@
 -- A store that was only looked at stays at rest.
-use Rattle.std.proofs.Common.{◌≡◌, ℕ, ◌∙◌, ap, sym}
+use Rattle.std.proofs.Common.{◌≡◌, ℕ, Result, Ok, Err, ◌∙◌, ap, sym}
 use Rattle.dv_model.specs.Journals.{Log}
 use Rattle.dv_shelf.specs.declared.shelf.Name.TheVariants as name
+use Rattle.dv_shelf.specs.declared.shelf.ShelfFault.{ShelfFault}
+use Rattle.dv_shelf.specs.declared.shelf.ShelfFault.TheVariants as shelf_fault
 use Rattle.dv_shelf.specs.Folders.{Folder}
 use Rattle.dv_chain.specs.declared.chain.Chain.{Chain}
 use Rattle.dv_chain.specs.Openings.{OnlyLooks}
@@ -9,6 +11,9 @@ use Rattle.dv_keeping.specs.Debts.{Debt, Stands}
 use Rattle.dv_lookups.specs.declared.cache_file.CacheFile.{CacheFile}
 use Rattle.dv_lookups.specs.declared.cache_file.CacheFile.TheVariants as cache
 use Rattle.dv_lookups.specs.Kept.{IsFileOf}
+use Rattle.dv_plans.specs.declared.fault.StoreFault.{StoreFault}
+use Rattle.dv_plans.specs.declared.fault.StoreFault.TheVariants as fault
+use Rattle.dv_store.specs.Faults.{shelf_told}
 use Rattle.dv_store.specs.Rest.{OnlyReads}
 use Rattle.dv_store.specs.States.{State}
 
@@ -40,3 +45,12 @@ module _ {S : Type 0} (files : S → Folder) (may_leave : S → Folder → Type 
     where
       here : IsFileOf (files store.shelf) store.cache → IsFileOf (files shelf) file
       here is = file_stays file (files store.shelf) (files shelf) (ap (λ (f : Folder). f name.Cache) looks.same) (kept is)
+
+-- ---- where the disk failed
+
+pub disk_failed : {A B : Type 0} (count faults : ℕ) (f : ShelfFault) (e : StoreFault) (looked : Result A ShelfFault) (result : Result B StoreFault) → looked ≡ Err f → e ≡ shelf_told count f → result ≡ Err e → result ≡ Err (fault.Disk faults) → looked ≡ Err shelf_fault.Failed
+disk_failed count faults shelf_fault.Failed e looked result is told one other = is
+disk_failed {A} {B} count faults shelf_fault.NoMemory e looked result is told one other = let both : ◌≡◌ {A = Result B StoreFault} (Err e) (Err (fault.Disk faults)) = sym one ∙ other in absurd cc
+
+pub done_failed : {B : Type 0} (x : B) (e : StoreFault) (result : Result B StoreFault) → result ≡ Ok x → result ≡ Err e → ⊥
+done_failed {B} x e result done failed = let both : ◌≡◌ {A = Result B StoreFault} (Ok x) (Err e) = sym done ∙ failed in absurd cc

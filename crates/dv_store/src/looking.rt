@@ -1,26 +1,27 @@
 //! What is looked up of a mailbox's messages.
 
-ghost use Rattle.std.specs.Prelude.{◌≡◌, ℕ, IfErr, IfOk, count_by, false, true};
+ghost use Rattle.std.specs.Prelude.{◌≡◌, ℕ, Err, IfErr, IfOk, List as Listed, count_by, false, true};
+ghost use Rattle.dv_model.specs.declared.types.Reply.{Reply};
 ghost use Rattle.dv_model.specs.Journals.{Log, Mail as Message};
-ghost use Rattle.dv_model.specs.Sessions.{has_uid};
+ghost use Rattle.dv_model.specs.Sessions.{has_uid, reads_mail};
 ghost use Rattle.dv_openings.specs.TrueCaches.{HasTrueCache};
 ghost use Rattle.dv_keeping.specs.Debts.{Debt};
 ghost use Rattle.dv_responses.specs.Depth.{IsShallow};
-ghost use Rattle.dv_responses.specs.Supplied.{AreSupplied};
 ghost use Rattle.dv_lookups.specs.Commands.{CanStand, CannotStand, IsNamed, SparesEach, uids_read};
 ghost use Rattle.dv_lookups.specs.Founds.{AreMessages, IsBody, facts_found, field_found, mail_of, sizes_found};
 ghost use Rattle.dv_lookups.specs.Kept.{CountsUpTo, Economy, IsFileOf, IsSpared, Spares, can_stand, is_kept, is_read};
+ghost use Rattle.dv_responses.specs.Damaged.{IsRead};
 ghost use Rattle.dv_plans.specs.Faults.{HasStoreCause};
+ghost use Rattle.dv_plans.specs.declared.fault.StoreFault.TheVariants as fault;
 ghost use Rattle.dv_store.specs.Faults.{IsFailure};
 ghost use Rattle.dv_store.specs.Rest.{IsAtRest, IsLookedAt, OnlyReads, RestKnows};
 
 use crate::Store;
 use crate::fault::told;
 use dv_lookups::{BodyFound, FactsFound, FieldFound, SizesFound, body};
-use dv_model::Command;
+use dv_model::{Command, List};
 use dv_plans::StoreFault;
-use dv_responses::Asked;
-use dv_search::Mail;
+use dv_responses::{Asked, Responses};
 use dv_shelf::Shelf;
 use dv_view::View;
 
@@ -159,18 +160,32 @@ impl<S: Shelf, C> Store<S, C> {
         }
     }
 
-    /// What a command is answered from: what it asks of each message that it reads, by rising
-    /// number, each as by `facts`. A message that the mailbox lacks, or whose file is missing or
-    /// not of the format, has no facts. Each message file is read once at most.
-    pub fn facts_for(&mut self, c: &Command, view: &View) -> Result<Mail, StoreFault>
+    /// Reads the messages that a command reads, one after another, and adds the data lines of its
+    /// answer (RFC 3501, sections 6.4.4 and 6.4.5). It gives the UIDs of those whose files are
+    /// missing or damaged. Each message file is read once at most. After an error some of the lines
+    /// may have been added.
+    pub fn read_for<R: Responses>(
+        &mut self,
+        c: &Command,
+        view: &View,
+        lines: &mut R,
+    ) -> Result<List<u32>, StoreFault>
         requires shallow { IsShallow c.now }
-        // The facts are those of the messages in their files, where the cache file is true.
+        requires reads { reads_mail c.now ≡ true }
+        // They are those of the messages in their files, where the cache file is true.
         ensures found { S.tells → IsFileOf (S.files self.old.shelf) self.old.cache →
             HasTrueCache (S.files self.old.shelf) self.old.chain.indexid
             self.old.chain.live.mailbox →
             (mail : ℕ → Message) →
             AreMessages (S.files self.old.shelf) self.old.chain.live.mailbox mail →
-            IfOk result (AreSupplied mail c.now view.now self.old.chain.live.mailbox) }
+            IfOk result (IsRead R.with lines.old lines.new mail c.now view.now
+            self.old.chain.live.mailbox) }
+        // What was added before the disk failed is some lines.
+        ensures failed { S.tells → IsFileOf (S.files self.old.shelf) self.old.cache →
+            HasTrueCache (S.files self.old.shelf) self.old.chain.indexid
+            self.old.chain.live.mailbox →
+            (faults : ℕ) → result ≡ Err (fault.Disk faults) →
+            (told : Listed Reply) × (lines.new ≡ R.with lines.old told) }
         // Nothing is changed; the cache file isn't read again, or without need.
         ensures stays { IsLookedAt self.old self.new }
         ensures reads { S.tells →
@@ -194,9 +209,9 @@ impl<S: Shelf, C> Store<S, C> {
     {
         match self
             .cache
-            .facts_for(self.alloc, &mut self.shelf, &self.chain, c, view)
+            .read_for(self.alloc, &mut self.shelf, &self.chain, c, view, lines)
         {
-            Ok(mail) => Ok(mail),
+            Ok(damaged) => Ok(damaged),
             Err(fault) => Err(told(&self.shelf, fault)),
         }
     }

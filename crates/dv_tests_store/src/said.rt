@@ -7,10 +7,10 @@ use dv_apply::Live;
 use dv_asks::{Ask, MemStore, range, write};
 use dv_groups::need;
 use dv_lookups::{BodyFound, FactsFound, FieldFound, SizesFound};
-use dv_model::{Body, Bytes, Command, Group, Item, List, Mark, Record};
+use dv_model::{Body, Bytes, Command, Group, Item, List, Mark, Record, Reply, Value};
 use dv_plans::StoreFault;
 use dv_responses::Asked;
-use dv_search::{Mail, MailFacts};
+use dv_search::MailFacts;
 use dv_store::Receipt;
 use dv_view::View;
 use std::alloc::Global;
@@ -207,17 +207,28 @@ fn are_facts_of(
     }
 }
 
-fn has_bytes(facts: &MailFacts, bytes: &[u8]) -> bool {
-    match &facts.body {
-        Some(body) => body.as_slice() == bytes,
-        None => false,
+// Whether this is the line of a FETCH of size and bytes of a message.
+fn is_line(line: &Reply, uid: u32, size: u64, bytes: &[u8]) -> bool {
+    let Reply::Fetch {
+        uid: found,
+        values,
+        ..
+    } = line
+    else {
+        return false;
+    };
+    match values.as_slice() {
+        [Value::Size(length), Value::Body(message)] => {
+            *found == uid && *length == size && message.as_slice() == bytes
+        }
+        _ => false,
     }
 }
 
-fn is_fetched(mail: &Mail, uid: u32, said: Said) -> bool {
-    match (mail.of(uid), said) {
-        (Some(facts), Said::Fetched(size, bytes)) => facts.size == size && has_bytes(facts, bytes),
-        (None, Said::Absent) => true,
+fn is_fetched(lines: &List<Reply>, uid: u32, said: Said) -> bool {
+    match (lines.as_slice(), said) {
+        ([line], Said::Fetched(size, bytes)) => is_line(line, uid, size, bytes),
+        ([], Said::Absent) => true,
         _ => false,
     }
 }
@@ -232,8 +243,9 @@ fn is_fetch_of(alloc: Global, store: &mut MemStore, uid: u32, said: Said) -> Res
         items,
     };
     let view = View::of(alloc, store.live())?;
-    match store.facts_for(&command, &view) {
-        Ok(mail) => Ok(is_fetched(&mail, uid, said)),
+    let mut lines = List::new(alloc);
+    match store.read_for(&command, &view, &mut lines) {
+        Ok(_) => Ok(is_fetched(&lines, uid, said)),
         Err(fault) => Ok(is_fault(fault, said)),
     }
 }

@@ -2,12 +2,13 @@ use Rattle.std.proofs.Common.{◌<◌, ◌≤◌, ◌+◌, List, [], length, ref
 use Rattle.std.proofs.lemmas.List.{get_or_read}
 use Rattle.std.proofs.lemmas.Result.{err_from_is_err_and}
 use Rattle.dv_responses.specs.Met.{met_of}
+use Rattle.dv_responses.specs.Damaged.{IsRead}
 use Rattle.dv_answer.specs.Following.{Follower, new_follower}
 use Rattle.dv_serial.specs.Places.{play_of}
 use Rattle.dv_serial.specs.Serves.{AreAbreast, seat_at}
 use Rattle.dv_serial.specs.Servings.{Serving}
-use Rattle.dv_serial.proofs.Causes.{taken_answer, taken_fault}
-use Rattle.dv_serial.proofs.Looking.{answered_abreast, answered_stays, looked_abreast, looked_supplied, on_ok}
+use Rattle.dv_serial.proofs.Causes.{disk_of, fault_alone, taken_answer, taken_fault}
+use Rattle.dv_serial.proofs.Looking.{answered_abreast, answered_stays, looked_abreast, looked_same, on_ok}
 use Rattle.dv_serial.proofs.Served.{seat_ended, seat_failed, seat_told}
 use Rattle.dv_serial.proofs.serial.Serial.serve_read.Goals as goal
 
@@ -20,7 +21,7 @@ returns-in_err-met-in-Ok-clause-serves g c =
       replies = [];
       taken = tt;
       holds = seat_ended S.files S.may_leave S.moment S.left_since g.C.Clock.upcoming clock start base attempts (S.fault_count c.args.self.now.store.shelf) c.args.self.now follows c.args.at (c.args.at + 1) refl c.args.c.now c.requires.at small
-          c.requires.line.command c.requires.allowed c.requires.read c.facts_for.new.self c.in-Ok.ensures.looks (c.in-Ok.ensures.reads tells);
+          c.requires.line.command c.requires.allowed c.requires.read c.add_data.new.self c.in-Ok.ensures.looks (c.in-Ok.ensures.reads tells);
     })
 
 pub returns-in_ok-met-in-Ok-clause-serves : goal.returns-in_ok-met-in-Ok-clause-serves
@@ -31,33 +32,37 @@ returns-in_ok-met-in-Ok-clause-serves g c =
     let less = subst (λ (fs : List Follower). at < length fs) (sym (ap (λ (s : Serving g.row.S.Denot g.row.C.Denot). s.seats) c.self.view_is ∙ did.looks.seats)) c.requires.at in
     let seen = c.view.ensures ∙ ap (λ (f : Follower). f.state.view) (get_or_read c.self.inside.seats.items at _ less c.index.ensures new_follower) in
     let met_is = (rw (seen, c.live.ensures) at c.in_ok-met-in-Ok.ensures) ∙ ap (λ (s : Serving g.row.S.Denot g.row.C.Denot). met_of c.args.c.now (seat_at s.seats at).state.view s.store.chain.live.mailbox) c.self.view_is in
-    let later = subst (λ (s : Serving g.row.S.Denot g.row.C.Denot). S.fault_count c.args.self.now.store.shelf ≤ S.fault_count s.store.shelf) c.answer.ensures.seats did.cause.later in
+    let later = subst (λ (s : Serving g.row.S.Denot g.row.C.Denot). S.fault_count c.args.self.now.store.shelf ≤ S.fault_count s.store.shelf) c.finish.ensures.seats did.cause.later in
     λ tells reads clock start base attempts small follows.
     seat_told S.files S.may_leave S.moment S.left_since g.C.Clock.upcoming clock start base attempts (S.fault_count c.args.self.now.store.shelf) c.args.self.now follows at (at + 1) refl c.args.c.now c.requires.at small
-    c.requires.line.command c.requires.allowed c.requires.read c.facts_for.new.self did.looks (did.reads tells) g.R.Replies.with c.args.replies.now c.answer.new.replies (S.fault_count c.answer.new.self.store.shelf) c.answer.new.self c.answer.result c.in-Ok.facts c.in_ok-met-in-Ok.met later met_is
-    (did.found tells (play_of clock start attempts).log follows.keeps.debt follows.keeps.rests) c.answer.ensures.answer c.answer.ensures.abreast c.answer.ensures.seats c.answer.ensures.err
+    c.requires.line.command c.requires.allowed c.requires.read c.add_data.new.self did.looks (did.reads tells) g.R.Replies.with c.args.replies.now c.finish.new.replies (S.fault_count c.finish.new.self.store.shelf) c.finish.new.self c.finish.result (λ mail view m. IsRead g.R.Replies.with c.args.replies.now c.add_data.new.replies mail c.args.c.now view m c.in-Ok.damaged) c.in_ok-met-in-Ok.met later met_is
+    (did.found tells (play_of clock start attempts).log follows.keeps.debt follows.keeps.rests)
+    (λ mail m met read. c.finish.ensures.answer mail m c.args.replies.now met (subst (IsRead g.R.Replies.with c.args.replies.now c.add_data.new.replies mail c.args.c.now (seat_at c.add_data.new.self.seats at).state.view c.add_data.new.self.store.chain.live.mailbox) (sym c.as_slice.ensures) read))
+    c.finish.ensures.abreast c.finish.ensures.seats c.finish.ensures.err
 
 pub returns-in_ok-met-in-Ok-clause-abreast : goal.returns-in_ok-met-in-Ok-clause-abreast
 returns-in_ok-met-in-Ok-clause-abreast g c =
-    let mid = c.facts_for.new.self in
-    on_ok c.answer.result (AreAbreast c.answer.new.self)
-    (answered_abreast c.args.at mid c.answer.new.self c.answer.ensures.seats (looked_abreast c.args.self.now mid c.in-Ok.ensures.looks c.requires.abreast) c.answer.ensures.abreast)
+    let mid = c.add_data.new.self in
+    on_ok c.finish.result (AreAbreast c.finish.new.self)
+    (answered_abreast c.args.at mid c.finish.new.self c.finish.ensures.seats (looked_abreast c.args.self.now mid c.in-Ok.ensures.looks c.requires.abreast) c.finish.ensures.abreast)
 
 pub returns-in_ok-met-in-Ok-clause-cause : goal.returns-in_ok-met-in-Ok-clause-cause
 returns-in_ok-met-in-Ok-clause-cause g c =
     let S = g.S.Shelf in
     let at = c.args.at in
     let did = c.in-Ok.ensures in
-    let mid = c.facts_for.new.self in
-    let new = c.answer.new.self in
+    let mid = c.add_data.new.self in
+    let new = c.finish.new.self in
     let m = mid.store.chain.live.mailbox in
     let less = subst (λ (fs : List Follower). at < length fs) (sym (ap (λ (s : Serving g.row.S.Denot g.row.C.Denot). s.seats) c.self.view_is ∙ did.looks.seats)) c.requires.at in
     let seen = c.view.ensures ∙ ap (λ (f : Follower). f.state.view) (get_or_read c.self.inside.seats.items at _ less c.index.ensures new_follower) in
     let met_is = (rw (seen, c.live.ensures) at c.in_ok-met-in-Ok.ensures) ∙ ap (λ (s : Serving g.row.S.Denot g.row.C.Denot). met_of c.args.c.now (seat_at s.seats at).state.view s.store.chain.live.mailbox) c.self.view_is in
-    let later = subst (λ (s : Serving g.row.S.Denot g.row.C.Denot). S.fault_count c.args.self.now.store.shelf ≤ S.fault_count s.store.shelf) c.answer.ensures.seats did.cause.later in
+    let later = subst (λ (s : Serving g.row.S.Denot g.row.C.Denot). S.fault_count c.args.self.now.store.shelf ≤ S.fault_count s.store.shelf) c.finish.ensures.seats did.cause.later in
     λ tells log debt rest.
-    taken_answer (S.fault_count c.args.self.now.store.shelf) (S.fault_count new.store.shelf) g.R.Replies.with c.args.replies.now c.answer.new.replies c.answer.result (seat_at new.seats at).state log.mail (seat_at mid.seats at).state c.args.c.now m mid.groups m mid.mark later
-    (c.answer.ensures.answer log.mail m met_is (looked_supplied c.args.self.now mid did.looks log.mail c.args.c.now at c.in-Ok.facts (did.found tells log debt rest)))
+    taken_answer (S.fault_count c.args.self.now.store.shelf) (S.fault_count new.store.shelf) g.R.Replies.with c.args.replies.now c.finish.new.replies c.finish.result (seat_at new.seats at).state log.mail (seat_at mid.seats at).state c.args.c.now m mid.groups m mid.mark later
+    (c.finish.ensures.answer log.mail m c.args.replies.now met_is
+    (subst (IsRead g.R.Replies.with c.args.replies.now c.add_data.new.replies log.mail c.args.c.now (seat_at mid.seats at).state.view m) (sym c.as_slice.ensures)
+    (looked_same c.args.self.now mid did.looks (λ view n. IsRead g.R.Replies.with c.args.replies.now c.add_data.new.replies log.mail c.args.c.now view n c.in-Ok.damaged) at (did.found tells log debt rest))))
 
 pub returns-in-Err-clause-serves : goal.returns-in-Err-clause-serves
 returns-in-Err-clause-serves g c =
@@ -65,15 +70,17 @@ returns-in-Err-clause-serves g c =
     let did = c.in-Err.ensures in
     λ tells reads clock start base attempts small follows.
     seat_failed S.files S.may_leave S.moment S.left_since g.C.Clock.upcoming clock start base attempts (S.fault_count c.args.self.now.store.shelf) c.args.self.now follows c.args.at (c.args.at + 1) refl c.args.c.now c.requires.at small
-    c.requires.line.command c.requires.allowed c.requires.read c.facts_for.new.self did.looks (did.reads tells) g.R.Replies.with c.args.replies.now c.take_fault.new.replies (S.fault_count c.facts_for.new.self.store.shelf) c.in-Err.fault c.take_fault.result did.touches did.err did.cause c.take_fault.ensures
+    c.requires.line.command c.requires.allowed c.requires.read c.add_data.new.self did.looks (did.reads tells) g.R.Replies.with c.args.replies.now c.take_fault.new.replies (S.fault_count c.add_data.new.self.store.shelf) c.in-Err.fault c.take_fault.result (λ count e. did.touches count (disk_of c.in-Err.fault count e)) did.err did.cause
+    (fault_alone g.R.Replies.with c.args.replies.now c.add_data.new.replies c.take_fault.new.replies c.in-Err.fault c.take_fault.result did.err (λ count e. did.failed tells (play_of clock start attempts).log follows.keeps.debt follows.keeps.rests count (disk_of c.in-Err.fault count e)) c.take_fault.ensures)
 
 pub returns-in-Err-clause-cause : goal.returns-in-Err-clause-cause
 returns-in-Err-clause-cause g c =
     let S = g.S.Shelf in
     λ tells log debt rest.
-    taken_fault (S.fault_count c.args.self.now.store.shelf) (S.fault_count c.facts_for.new.self.store.shelf) g.R.Replies.with c.args.replies.now c.take_fault.new.replies c.take_fault.result c.in-Err.fault c.in-Err.ensures.cause c.take_fault.ensures
+    taken_fault (S.fault_count c.args.self.now.store.shelf) (S.fault_count c.add_data.new.self.store.shelf) g.R.Replies.with c.args.replies.now c.take_fault.new.replies c.take_fault.result c.in-Err.fault c.in-Err.ensures.cause
+    (fault_alone g.R.Replies.with c.args.replies.now c.add_data.new.replies c.take_fault.new.replies c.in-Err.fault c.take_fault.result c.in-Err.ensures.err (λ count e. c.in-Err.ensures.failed tells log debt rest count (disk_of c.in-Err.fault count e)) c.take_fault.ensures)
 
 pub returns-in_ok-met-in-Ok-clause-stays : goal.returns-in_ok-met-in-Ok-clause-stays
 returns-in_ok-met-in-Ok-clause-stays g c =
     let looks = c.in-Ok.ensures.looks in
-    answered_stays c.args.at c.args.self.now c.facts_for.new.self c.answer.new.self looks c.answer.ensures.seats
+    answered_stays c.args.at c.args.self.now c.add_data.new.self c.finish.new.self looks c.finish.ensures.seats

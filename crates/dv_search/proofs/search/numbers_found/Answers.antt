@@ -2,13 +2,12 @@ use Rattle.std.proofs.Common.{◌≡◌, ◌<◌, ◌+◌, ◌^◌, ◌++◌, �
 use Rattle.std.specs.Option.{option_copied}
 use Rattle.std.proofs.lemmas.List.{take_all}
 use Rattle.dv_model.specs.declared.types.Key.{Key}
-use Rattle.dv_model.specs.Sets.{largest_uid}
-use Rattle.dv_search.specs.Prepared.{IsPrepared}
+use Rattle.dv_search.specs.Sought.{IsSought}
 use Rattle.dv_sets.proofs.Chosen.{chosen, chosen_in, chosen_out}
 use Rattle.dv_search.specs.Facts.{facts_of}
 use Rattle.dv_search.proofs.Found.{few_rows, finds, step}
-use Rattle.dv_search.proofs.search.eval_prepared.Goals as goal
-use Rattle.dv_search.proofs.search.eval_prepared.Goals.{then-branch+in_ok-push, else-branch}
+use Rattle.dv_search.proofs.search.numbers_found.Goals as goal
+use Rattle.dv_search.proofs.search.numbers_found.Goals.{then-branch+in_ok-push, else-branch}
 
 pub overflow_add-number : goal.overflow_add-number
 overflow_add-number c =
@@ -26,9 +25,8 @@ loop-shown-preserved c =
     let i = c.loop-shown.shown-index in
     let shown = c.shown-item.result in
     let all = c.as_slice-shown-items.ensures ∙ c.rows.ensures.is in
-    let names = c.names-names.ensures.is ∙ c.names.ensures in
-    let facts : option_copied c.of-facts.result ≡ facts_of mail shown.uid = c.of-facts.ensures in
-    let test = λ (k : Key) (ready : IsPrepared (largest_uid view) k c.args.key.now). step k view m mail c.args.key.now ready rows i shown c.names-names.result.now c.in_ok-is_found.field-0 (option_copied c.of-facts.result) all c.loop-shown-test.true c.shown-item.is names facts c.in_ok-is_found.ensures in
+    let facts : option_copied c.of.result ≡ facts_of mail shown.uid = c.of.ensures in
+    let test = λ (k : Key) (ready : IsSought k view c.args.sought.now). step k view m mail rows i shown c.in_ok-finds.field-0 (option_copied c.of.result) all c.loop-shown-test.true c.shown-item.is facts (c.in_ok-finds.ensures k view ready) in
     let number : c.loop-shown.number + 1 ≡ i + 1 = ap (λ n. n + 1) c.loop-shown.invariant.counted in
     elim c.if-branch.branch [
       | then-branch+in_ok-push w ↦ record {

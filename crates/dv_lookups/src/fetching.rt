@@ -1,0 +1,241 @@
+//! The lines of a FETCH that reads messages.
+
+ghost use Rattle.std.specs.Prelude.{◌≡◌, ◌++◌, ℕ, All, Err, IfOk, List as Listed, OnOk, Option, count_by, false, true};
+ghost use Rattle.dv_model.specs.declared.types.Command.TheVariants as command;
+ghost use Rattle.dv_model.specs.declared.types.Reply.{Reply};
+ghost use Rattle.dv_model.specs.Journals.{Mail as Message};
+ghost use Rattle.dv_model.specs.Sessions.{data_of, has_uid, reads_mail};
+ghost use Rattle.dv_shelf.specs.Causes.{HasCauseOf};
+ghost use Rattle.dv_chain.specs.Openings.{OnlyLooks};
+ghost use Rattle.dv_openings.specs.TrueCaches.{HasTrueCache};
+ghost use Rattle.dv_responses.specs.Asked.{fetch_asks};
+ghost use Rattle.dv_responses.specs.Damaged.{damaged_uids};
+ghost use Rattle.dv_responses.specs.Rows.{IsNumber, rows_at};
+ghost use Rattle.dv_lookups.specs.Commands.{SparesEach, uids_read};
+ghost use Rattle.dv_lookups.specs.Founds.{AreMessages, facts_found, mail_of};
+ghost use Rattle.dv_lookups.specs.Kept.{CountsUpTo, Economy, IsFileOf, IsSpared, Spares, can_stand, is_read};
+ghost use Rattle.dv_lookups.specs.Reads.{damaged_in, damaged_of, line_of, lines_of, uids_of};
+
+use crate::cache_file::CacheFile;
+use crate::found::FactsFound;
+use crate::memory::in_memory;
+use dv_apply::Live;
+use dv_chain::Chain;
+use dv_model::{Item, List, NoMemory, Shown, Span};
+use dv_responses::{Asked, Responses, named, row_at};
+use dv_shelf::{Shelf, ShelfFault};
+use dv_view::View;
+use std::alloc::Global;
+
+// About what stands around the value of an item.
+const AROUND: usize = 24;
+
+// Makes room for so many lines with these items, but for what messages have. Memory and time alone
+// go by it.
+fn make_room<R: Responses>(items: &List<Item>, count: usize, lines: &mut R) -> Result<(), NoMemory>
+    ensures { lines.new ≡ lines.old }
+{
+    let mut room: usize = 0;
+    for item in items.as_slice() {
+        let name = match item {
+            Item::Field(name) => name.len(),
+            _ => 0,
+        };
+        room = room.saturating_add(AROUND).saturating_add(name);
+    }
+    lines.expect(count, count.saturating_mul(room))
+}
+
+// Adds the line of a row, where its message is there, and its UID, where that is damaged.
+fn take_row<R: Responses>(
+    alloc: Global,
+    live: &Live,
+    items: &[Item],
+    number: u32,
+    s: &Shown,
+    found: FactsFound,
+    damaged: &mut List<u32>,
+    lines: &mut R,
+) -> Result<(), NoMemory>
+    ensures line { (mail : Option Message) →
+        found ≡ facts_found (fetch_asks items.now) s.now.uid mail →
+        OnOk result (lines.new ≡ R.with lines.old
+        (line_of live.now.mailbox items.now (number, s.now) mail)) }
+    ensures damaged { (mail : Option Message) →
+        found ≡ facts_found (fetch_asks items.now) s.now.uid mail →
+        OnOk result (damaged.new ≡ damaged.old ++ damaged_in s.now.uid mail) }
+{
+    match found {
+        FactsFound::Known(facts) => lines.take_fetch(alloc, live, number, s, items, &facts),
+        FactsFound::Damaged => {
+            damaged.push(s.uid)?;
+            Ok(())
+        }
+        FactsFound::Gone => Ok(()),
+    }
+}
+
+impl CacheFile {
+    // Reads what is asked of the message of a row, and takes its line or its damage.
+    fn fetch_row<S: Shelf, R: Responses>(
+        &mut self,
+        alloc: Global,
+        shelf: &mut S,
+        chain: &Chain,
+        asked: &Asked,
+        items: &[Item],
+        number: u32,
+        s: &Shown,
+        damaged: &mut List<u32>,
+        lines: &mut R,
+    ) -> Result<(), ShelfFault>
+        requires asks { asked.now ≡ fetch_asks items.now }
+        ensures line { S.tells → IsFileOf (S.files shelf.old) self.old →
+            HasTrueCache (S.files shelf.old) chain.now.indexid chain.now.live.mailbox →
+            OnOk result (lines.new ≡ R.with lines.old
+            (line_of chain.now.live.mailbox items.now (number, s.now)
+            (mail_of (S.files shelf.old) chain.now.live.mailbox s.now.uid))) }
+        ensures damaged { S.tells → IsFileOf (S.files shelf.old) self.old →
+            HasTrueCache (S.files shelf.old) chain.now.indexid chain.now.live.mailbox →
+            OnOk result (damaged.new ≡ damaged.old ++ damaged_in s.now.uid
+            (mail_of (S.files shelf.old) chain.now.live.mailbox s.now.uid)) }
+        ensures failed { result ≡ Err ShelfFault.Failed → lines.new ≡ lines.old }
+        ensures file { S.tells → IsFileOf (S.files shelf.old) self.old →
+            IsFileOf (S.files shelf.old) self.new }
+        // Nothing is changed, and the shelf is called no more than is due.
+        ensures looks { S.tells →
+            OnlyLooks S.files S.may_leave S.moment S.left_since shelf.old shelf.new }
+        ensures economy { Economy S.mail_reads chain.now.live.mailbox s.now.uid
+            (can_stand asked.now) self.old self.new shelf.old shelf.new }
+        ensures spares { S.tells → IsFileOf (S.files shelf.old) self.old →
+            can_stand asked.now ≡ true →
+            IsSpared (S.files shelf.old) chain.now.indexid chain.now.live.mailbox s.now.uid →
+            Spares S.mail_reads self.old shelf.old shelf.new }
+        ensures cause { HasCauseOf ShelfFault.Failed
+            (S.fault_count shelf.old) (S.fault_count shelf.new) result }
+    {
+        let found = self.facts(alloc, shelf, chain, asked, s.uid)?;
+        in_memory(take_row(alloc, &chain.live, items, number, s, found, damaged, lines))
+    }
+
+    // Adds the FETCH lines of the rows with these numbers, one message after another. The answer
+    // has the UIDs of those whose files are missing or damaged.
+    fn fetch_rows<S: Shelf, R: Responses>(
+        &mut self,
+        alloc: Global,
+        shelf: &mut S,
+        chain: &Chain,
+        asked: &Asked,
+        items: &[Item],
+        rows: &[Shown],
+        numbers: &[u32],
+        lines: &mut R,
+    ) -> Result<List<u32>, ShelfFault>
+        requires numbers { All (IsNumber rows.now) numbers.now }
+        requires asks { asked.now ≡ fetch_asks items.now }
+        ensures found { S.tells → IsFileOf (S.files shelf.old) self.old →
+            HasTrueCache (S.files shelf.old) chain.now.indexid chain.now.live.mailbox →
+            OnOk result (lines.new ≡ R.with lines.old (lines_of (S.files shelf.old)
+            chain.now.live.mailbox items.now (rows_at rows.now numbers.now))) ×
+            IfOk result (λ damaged. damaged ≡ damaged_of (S.files shelf.old)
+            chain.now.live.mailbox (uids_of (rows_at rows.now numbers.now))) }
+        ensures failed { S.tells → IsFileOf (S.files shelf.old) self.old →
+            HasTrueCache (S.files shelf.old) chain.now.indexid chain.now.live.mailbox →
+            result ≡ Err ShelfFault.Failed →
+            (told : Listed Reply) × (lines.new ≡ R.with lines.old told) }
+        ensures file { S.tells → IsFileOf (S.files shelf.old) self.old →
+            IsFileOf (S.files shelf.old) self.new }
+        ensures again { is_read self.old ≡ true → self.new ≡ self.old }
+        ensures aside { can_stand asked.now ≡ false → self.new ≡ self.old }
+        // Nothing is changed, and message files are read no more than is due.
+        ensures looks { S.tells →
+            OnlyLooks S.files S.may_leave S.moment S.left_since shelf.old shelf.new }
+        ensures most { CountsUpTo (count_by (has_uid chain.now.live.mailbox)
+            (uids_of (rows_at rows.now numbers.now)))
+            (S.mail_reads shelf.old) (S.mail_reads shelf.new) }
+        ensures spares { S.tells → IsFileOf (S.files shelf.old) self.old →
+            can_stand asked.now ≡ true →
+            SparesEach (S.files shelf.old) chain.now.indexid chain.now.live.mailbox
+            (uids_of (rows_at rows.now numbers.now))
+            (S.mail_reads shelf.old) (S.mail_reads shelf.new) }
+        ensures cause { HasCauseOf ShelfFault.Failed
+            (S.fault_count shelf.old) (S.fault_count shelf.new) result }
+    {
+        let mut damaged = List::new(alloc);
+        for number in numbers {
+            let s = row_at(rows, *number);
+            self.fetch_row(
+                alloc,
+                shelf,
+                chain,
+                asked,
+                items,
+                *number,
+                s,
+                &mut damaged,
+                lines,
+            )?;
+        }
+        Ok(damaged)
+    }
+
+    /// `read_for` of a FETCH.
+    pub(crate) fn fetch_for<S: Shelf, R: Responses>(
+        &mut self,
+        alloc: Global,
+        shelf: &mut S,
+        chain: &Chain,
+        asked: &Asked,
+        by_uid: bool,
+        set: &List<Span>,
+        items: &List<Item>,
+        view: &View,
+        lines: &mut R,
+    ) -> Result<List<u32>, ShelfFault>
+        requires asks { asked.now ≡ fetch_asks items.now }
+        requires reads { reads_mail (command.Fetch by_uid set.now items.now) ≡ true }
+        ensures found { S.tells → IsFileOf (S.files shelf.old) self.old →
+            HasTrueCache (S.files shelf.old) chain.now.indexid chain.now.live.mailbox →
+            (mail : ℕ → Message) →
+            AreMessages (S.files shelf.old) chain.now.live.mailbox mail →
+            OnOk result (lines.new ≡ R.with lines.old (data_of mail
+            (command.Fetch by_uid set.now items.now) view.now chain.now.live.mailbox)) ×
+            IfOk result (λ damaged. damaged ≡ damaged_uids mail
+            (command.Fetch by_uid set.now items.now) view.now chain.now.live.mailbox) }
+        ensures failed { S.tells → IsFileOf (S.files shelf.old) self.old →
+            HasTrueCache (S.files shelf.old) chain.now.indexid chain.now.live.mailbox →
+            result ≡ Err ShelfFault.Failed →
+            (told : Listed Reply) × (lines.new ≡ R.with lines.old told) }
+        ensures file { S.tells → IsFileOf (S.files shelf.old) self.old →
+            IsFileOf (S.files shelf.old) self.new }
+        ensures again { is_read self.old ≡ true → self.new ≡ self.old }
+        ensures aside { can_stand asked.now ≡ false → self.new ≡ self.old }
+        // Nothing is changed, and message files are read no more than is due.
+        ensures looks { S.tells →
+            OnlyLooks S.files S.may_leave S.moment S.left_since shelf.old shelf.new }
+        ensures most { CountsUpTo (count_by (has_uid chain.now.live.mailbox)
+            (uids_read (command.Fetch by_uid set.now items.now) view.now))
+            (S.mail_reads shelf.old) (S.mail_reads shelf.new) }
+        ensures spares { S.tells → IsFileOf (S.files shelf.old) self.old →
+            can_stand asked.now ≡ true →
+            SparesEach (S.files shelf.old) chain.now.indexid chain.now.live.mailbox
+            (uids_read (command.Fetch by_uid set.now items.now) view.now)
+            (S.mail_reads shelf.old) (S.mail_reads shelf.new) }
+        ensures cause { HasCauseOf ShelfFault.Failed
+            (S.fault_count shelf.old) (S.fault_count shelf.new) result }
+    {
+        let numbers = in_memory(named(alloc, by_uid, set, view))?;
+        in_memory(make_room(items, numbers.len(), lines))?;
+        let rows = view.rows().as_slice();
+        self.fetch_rows(
+            alloc,
+            shelf,
+            chain,
+            asked,
+            items.as_slice(),
+            rows,
+            numbers.as_slice(),
+            lines,
+        )
+    }
+}

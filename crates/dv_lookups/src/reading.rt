@@ -1,0 +1,90 @@
+//! The data lines of a command that reads messages, one message after another.
+
+ghost use Rattle.std.specs.Prelude.{◌≡◌, ℕ, Err, IfOk, List as Listed, OnOk, count_by, true};
+ghost use Rattle.dv_model.specs.declared.types.Reply.{Reply};
+ghost use Rattle.dv_model.specs.Journals.{Mail as Message};
+ghost use Rattle.dv_model.specs.Sessions.{data_of, has_uid, reads_mail};
+ghost use Rattle.dv_shelf.specs.Causes.{HasCauseOf};
+ghost use Rattle.dv_chain.specs.Openings.{OnlyLooks};
+ghost use Rattle.dv_openings.specs.TrueCaches.{HasTrueCache};
+ghost use Rattle.dv_responses.specs.Damaged.{damaged_uids};
+ghost use Rattle.dv_responses.specs.Depth.{IsShallow};
+ghost use Rattle.dv_lookups.specs.Commands.{CanStand, CannotStand, SparesEach, uids_read};
+ghost use Rattle.dv_lookups.specs.Founds.{AreMessages};
+ghost use Rattle.dv_lookups.specs.Kept.{CountsUpTo, IsFileOf, is_read};
+
+use crate::cache_file::CacheFile;
+use crate::memory::in_memory;
+use dv_chain::Chain;
+use dv_model::{Command, List};
+use dv_responses::{Responses, asked_by};
+use dv_shelf::{Shelf, ShelfFault};
+use dv_view::View;
+use std::alloc::Global;
+
+impl CacheFile {
+    /// Reads the messages that a command reads, one after another by rising number, each as by
+    /// `facts`, and adds the data lines of its answer (RFC 3501, sections 6.4.4 and 6.4.5). The
+    /// answer has the UIDs of those whose files are missing or damaged. The facts of one message
+    /// are held at a time, and each message file is read once at most. After an error what was read
+    /// of the cache file stays.
+    pub fn read_for<S: Shelf, R: Responses>(
+        &mut self,
+        alloc: Global,
+        shelf: &mut S,
+        chain: &Chain,
+        c: &Command,
+        view: &View,
+        lines: &mut R,
+    ) -> Result<List<u32>, ShelfFault>
+        requires shallow { IsShallow c.now }
+        requires reads { reads_mail c.now ≡ true }
+        // The lines and the damaged UIDs are those of the messages in their files, where the cache
+        // file is true.
+        ensures found { S.tells → IsFileOf (S.files shelf.old) self.old →
+            HasTrueCache (S.files shelf.old) chain.now.indexid chain.now.live.mailbox →
+            (mail : ℕ → Message) →
+            AreMessages (S.files shelf.old) chain.now.live.mailbox mail →
+            OnOk result (lines.new ≡ R.with lines.old
+            (data_of mail c.now view.now chain.now.live.mailbox)) ×
+            IfOk result (λ damaged. damaged
+            ≡ damaged_uids mail c.now view.now chain.now.live.mailbox) }
+        // What was taken before the disk failed is some replies more.
+        ensures failed { S.tells → IsFileOf (S.files shelf.old) self.old →
+            HasTrueCache (S.files shelf.old) chain.now.indexid chain.now.live.mailbox →
+            result ≡ Err ShelfFault.Failed →
+            (told : Listed Reply) × (lines.new ≡ R.with lines.old told) }
+        // The cache file is as it was read, and isn't read again, or without need.
+        ensures file { S.tells → IsFileOf (S.files shelf.old) self.old →
+            IsFileOf (S.files shelf.old) self.new }
+        ensures again { is_read self.old ≡ true → self.new ≡ self.old }
+        ensures aside { CannotStand c.now → self.new ≡ self.old }
+        // Nothing is changed.
+        ensures looks { S.tells →
+            OnlyLooks S.files S.may_leave S.moment S.left_since shelf.old shelf.new }
+        // A message file is read at most for each row that the mailbox has, and none for one that
+        // is found in the cache file.
+        ensures most { CountsUpTo (count_by (has_uid chain.now.live.mailbox)
+            (uids_read c.now view.now)) (S.mail_reads shelf.old) (S.mail_reads shelf.new) }
+        ensures spares { S.tells → IsFileOf (S.files shelf.old) self.old → CanStand c.now →
+            SparesEach (S.files shelf.old) chain.now.indexid chain.now.live.mailbox
+            (uids_read c.now view.now) (S.mail_reads shelf.old) (S.mail_reads shelf.new) }
+        // A fault of the disk has its cause.
+        ensures cause { HasCauseOf ShelfFault.Failed
+            (S.fault_count shelf.old) (S.fault_count shelf.new) result }
+    {
+        let asked = in_memory(asked_by(alloc, c))?;
+        match c {
+            Command::Fetch { by_uid, set, items } => {
+                self.fetch_for(
+                    alloc, shelf, chain, &asked, *by_uid, set, items, view, lines,
+                )
+            }
+            Command::Search { by_uid, key } => {
+                self.search_for(alloc, shelf, chain, &asked, *by_uid, key, view, lines)
+            }
+            // Nothing else reads messages.
+            _ => Ok(List::new(alloc)),
+        }
+    }
+}
