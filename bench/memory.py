@@ -7,8 +7,9 @@ PROGRAM is the built binary, crates/dv_cli/out/dv_cli. Folders and scripts are m
 (/dev/shm where none is given). Each line of the table is one run: the largest part of its memory that
 was resident at once, the time, and what the run has: the bytes of its script, the rows of the mailbox,
 the rows that its sessions are shown, and the bytes of the messages that one command reads or adds (of
-generated load, the rows at its end, and those shown to each of its sessions). A row counts 65 bytes, and 64 more where it has a place in the cache file (two blocks of the allocator);
-a row shown counts 40. `sum` is what all these have together, and `times` how often it goes into the
+generated load, the rows at its end, and those shown to each of its sessions). A row counts 65 bytes, 64
+more where it has a place in the cache file (two blocks of the allocator), and a row shown 40; either
+counts 32 more where it has a keyword. `sum` is what all these have together, and `times` how often it goes into the
 peak beyond that of a run of no lines over a mailbox without messages; it is to be 2 at most. Where the
 sum is less than a mebibyte it says little and is left out; the last lines tell the most of all others.
 Mailboxes are of short messages, and then of messages with fewer bytes than mail has, told apart there.
@@ -29,7 +30,7 @@ ROWS = (10_000, 100_000)
 SESSIONS = (1, 16)
 SIZES = (1_000_000, 30_000_000)
 LOADS = (5_000, 100_000)
-ROW, PLACE, SHOWN = 65, 64, 40
+ROW, PLACE, KEYWORD, SHOWN = 65, 64, 32, 40
 BOUND = 2
 # A short message, one of the fewest bytes that RFC 5322 (section 3.6) lets a message have, and one of none.
 SHORTEST = b"Date: Sun, 29 Nov 2026 00:00:00 +0000\nFrom: a@b\n\n"
@@ -38,6 +39,15 @@ SHORT = (
     b"Subject: Greetings\nMessage-ID: <20261129.1@example.org>\n\nHello Bob, how are you?\n"
 )
 NOTHING = b""
+FIELDS = b"FIELD date FIELD from FIELD to FIELD subject FIELD message-id"
+ITEMS = (
+    ("FLAGS", b"FLAGS"),
+    ("RFC822.SIZE", b"RFC822.SIZE"),
+    ("FIELD subject", b"FIELD subject"),
+    ("five fields", FIELDS),
+    ("BODY[]", b"BODY[]"),
+)
+KEYS = (b"ALL", b"LARGER 100", b'HEADER subject "greet"')
 QUANTITIES = ("script", "rows", "shown", "message", "sum")
 
 
@@ -45,7 +55,7 @@ class Bench:
     def __init__(self, program, place):
         self.program, self.place, self.base, self.boxes = program, place, 0, 0
         self.worst = {}
-        print(f"{'run':<34} {'peak KiB':>9} {'seconds':>8} " + " ".join(f"{q:>11}" for q in QUANTITIES) + "  times")
+        print(f"{'run':<36} {'peak KiB':>9} {'seconds':>8} " + " ".join(f"{q:>11}" for q in QUANTITIES) + "  times")
 
     def box(self):
         """The path of a new folder."""
@@ -67,12 +77,12 @@ class Bench:
         with open(told, encoding="ascii") as text:
             return int(text.read()), seconds, os.path.getsize(source)
 
-    def run(self, name, words, script=(), placed=False, kind="mail", **has):
+    def run(self, name, words, script=(), row=ROW, shown_row=SHOWN, kind="mail", **has):
         """One line of the table."""
         peak, seconds, has["script"] = self.peak(words, script)
-        row = ROW + PLACE if placed else ROW
-        has["sum"] = has["script"] + has.get("rows", 0) * row + has.get("shown", 0) * SHOWN + has.get("message", 0)
-        line = f"{name:<34} {peak:>9,} {seconds:>8.2f} " + " ".join(f"{has.get(q, 0):>11,}" for q in QUANTITIES)
+        kept = has.get("rows", 0) * row + has.get("shown", 0) * shown_row
+        has["sum"] = has["script"] + kept + has.get("message", 0)
+        line = f"{name:<36} {peak:>9,} {seconds:>8.2f} " + " ".join(f"{has.get(q, 0):>11,}" for q in QUANTITIES)
         if has["sum"] >= 1 << 20:
             times = (peak - self.base) * 1024 / has["sum"]
             self.worst[kind] = max(self.worst.get(kind, 0), times)
@@ -93,22 +103,25 @@ def mailbox(bench, rows, message):
     box, size, whole = bench.box(), len(message), rows * len(message)
     words, kind = (box, "run"), "mail" if message == SHORT else "fewer bytes"
 
-    def run(name, pieces, placed=True, shown=rows, read=0):
-        bench.run(name, words, pieces, placed, kind, rows=rows, shown=shown, message=read)
+    def run(name, pieces, row=ROW + PLACE, shown_row=SHOWN, shown=rows, read=0):
+        bench.run(name, words, pieces, row, shown_row, kind, rows=rows, shown=shown, message=read)
 
-    run(f"{rows:,} APPENDs of {size} bytes", [b"a SELECT\n", (b"a APPEND () {%d}\n%s\n" % (size, message)) * rows], False)
-    run("  SELECT", [b"a SELECT\n"], False)
+    run(f"{rows:,} APPENDs of {size} bytes", [b"a SELECT\n", (b"a APPEND () {%d}\n%s\n" % (size, message)) * rows], ROW)
+    run("  SELECT", [b"a SELECT\n"], ROW)
     run("  CHECK", [b"a SELECT\na CHECK\n"], read=whole)
     run("  opened", (), shown=0)
     for sessions in SESSIONS:
         run(f"  SELECT by {sessions}", [b"s%d SELECT\n" % i for i in range(sessions)], shown=rows * sessions)
     run("  CHECK again", [b"a SELECT\na CHECK\n"], read=whole)
-    for items in (b"FLAGS", b"RFC822.SIZE", b"BODY[]"):
+    for name, items in ITEMS:
         read = 0 if items == b"FLAGS" else whole
-        run(f"  FETCH 1:* ({items.decode()})", [b"a SELECT\na FETCH 1:* (%s)\n" % items], read=read)
-    store = [b"a SELECT\nb SELECT\na STORE 1:* +FLAGS (\\Deleted)\nb NOOP\n"]
-    run("  STORE 1:*, told to another", store, shown=2 * rows)
-    run("  EXPUNGE of all", [b"a SELECT\na EXPUNGE\n"], read=whole)
+        run(f"  FETCH 1:* ({name})", [b"a SELECT\na FETCH 1:* (%s)\n" % items], read=read)
+    for key in KEYS:
+        run(f"  SEARCH {key.decode()}", [b"a SELECT\na SEARCH %s\n" % key], read=0 if key == b"ALL" else whole)
+    store = b"a SELECT\nb SELECT\na STORE 1:* +FLAGS (%s)\nb NOOP\n"
+    run("  STORE 1:* +FLAGS (\\Deleted), told", [store % b"\\Deleted"], shown=2 * rows)
+    run("  STORE 1:* +FLAGS (work), told", [store % b"work"], ROW + PLACE + KEYWORD, SHOWN + KEYWORD, shown=2 * rows)
+    run("  EXPUNGE of all", [b"a SELECT\na EXPUNGE\n"], ROW + PLACE + KEYWORD, SHOWN + KEYWORD, read=whole)
     shutil.rmtree(box)
 
 
