@@ -10,6 +10,7 @@ pub mod PutParts
 pub mod Putting
 pub mod Rising
 pub mod TwoParts
+mod Stripped
 mod Bounds
 pub mod Walked
 pub mod Walking

@@ -3,6 +3,7 @@
 #![tactic(auto)]
 
 mod adding;
+mod bare;
 mod counts;
 mod flags;
 mod keywords;

@@ -5,6 +5,7 @@ ghost use Rattle.dv_model.specs.Effects.{grown_to, with_item, with_row_parts, ze
 ghost use Rattle.dv_rows.specs.Changed.{written_at_front};
 ghost use Rattle.dv_rows.specs.Kept.{AreRows};
 
+use crate::bare::{are_bare, fit_bare};
 use crate::places::place_of;
 use crate::replacing::put_each;
 use dv_model::{Bytes, Duplicate, Extension, List, NoMemory, Row};
@@ -48,7 +49,12 @@ fn fitted_part(alloc: Global, parts: &[Bytes], at: usize, size: u16) -> Result<B
     Ok(part)
 }
 
-fn fitted(alloc: Global, parts: &[Bytes], extensions: &[Extension]) -> Result<List<Bytes>, NoMemory>
+/// These parts, filled up with zero bytes to the extensions' sizes, a part for each.
+pub fn fitted(
+    alloc: Global,
+    parts: &[Bytes],
+    extensions: &[Extension],
+) -> Result<List<Bytes>, NoMemory>
     ensures { IfOk result (λ made. made ≡ fitted (sizes_of extensions.now) parts.now) }
 {
     let mut made = List::from_vec(Vec::with_capacity(alloc, extensions.len())?);
@@ -68,11 +74,24 @@ fn plan_fitted(
         (λ plan. AllZip (λ row parts. parts
         ≡ fitted (sizes_of extensions.now) row.parts) rows.now plan.items) }
 {
-    let mut plan = Vec::new(alloc);
+    let mut plan = Vec::with_capacity(alloc, rows.len())?;
     for row in rows {
         plan.push(fitted(alloc, row.parts.as_slice(), extensions)?)?;
     }
     Ok(plan)
+}
+
+// Gives each row parts that are all made before the first is put into its row.
+fn fit_by_plan(alloc: Global, rows: &mut Vec<Row>, extensions: &[Extension]) -> Result<(), NoMemory>
+    ensures ok { OnOk result (rows.new.items
+        ≡ map (with_row_parts (fitted (sizes_of extensions.now))) rows.old.items) }
+    ensures err { OnErr result (rows.new.items ≡ rows.old.items) }
+    ensures len { vec_len rows.new ≡ vec_len rows.old }
+    ensures capacity { vec_capacity rows.new ≡ vec_capacity rows.old }
+{
+    let plan = plan_fitted(alloc, rows, extensions)?;
+    put_each(rows.as_mut_slice(), plan, 0);
+    Ok(())
 }
 
 /// Gives each row a part for each extension, filled up with zero bytes to its size. After
@@ -88,9 +107,10 @@ pub fn fit_parts(
     ensures len { vec_len rows.new ≡ vec_len rows.old }
     ensures capacity { vec_capacity rows.new ≡ vec_capacity rows.old }
 {
-    let plan = plan_fitted(alloc, rows, extensions)?;
-    put_each(rows.as_mut_slice(), plan, 0);
-    Ok(())
+    if are_bare(rows) {
+        return fit_bare(alloc, rows.as_mut_slice(), extensions);
+    }
+    fit_by_plan(alloc, rows, extensions)
 }
 
 // ---- a part of zero bytes

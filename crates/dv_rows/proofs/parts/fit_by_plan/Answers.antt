@@ -4,7 +4,7 @@ use Rattle.dv_model.specs.declared.types.Row.{Row}
 use Rattle.dv_model.specs.Effects.{with_row_parts}
 use Rattle.dv_ext.specs.Sizes.{fitted, sizes_of}
 use Rattle.dv_rows.proofs.PutBack.{written_back, zip_length, zip_weaker}
-use Rattle.dv_rows.proofs.parts.fit_parts.Goals as goal
+use Rattle.dv_rows.proofs.parts.fit_by_plan.Goals as goal
 
 pub put_each-requires : goal.put_each-requires
 put_each-requires c =
