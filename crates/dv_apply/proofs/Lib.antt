@@ -10,4 +10,5 @@ mod Becoming
 mod Extending
 pub mod Keeping
 mod Naming
+mod Others
 pub mod Refusing

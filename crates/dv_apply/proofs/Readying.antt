@@ -37,6 +37,22 @@ pub if_ok : {A E : Type 0} (r : Result A E) (P Q : A → Type 0) → IfOk r P �
 if_ok (Ok a) P Q is then = then a is
 if_ok (Err e) P Q is then = is
 
+-- what is touched among some UIDs, and among others that are those of rows but for some of the first
+pub touched_in_either : {All Named Others Touched More OfRows Differing : Type 0} → All ↔ (Touched ⊎ More) → Touched ↔ (Named × Differing) → More ↔ (Others × Differing) → (Others → OfRows) → (OfRows → Named ⊎ Others) → All ↔ ((Named ⊎ OfRows) × Differing)
+touched_in_either {All} {Named} {Others} {Touched} {More} {OfRows} {Differing} both touched more of_rows rest = (λ h. from (both.0 h), λ h. both.1 (either h.0 h.1))
+  where
+    from : Touched ⊎ More → (Named ⊎ OfRows) × Differing
+    from (inl t) = let h = touched.0 t in (inl h.0, h.1)
+    from (inr t) = let h = more.0 t in (inr (of_rows h.0), h.1)
+
+    other : Named ⊎ Others → Differing → Touched ⊎ More
+    other (inl n) d = inl (touched.1 (n, d))
+    other (inr o) d = inr (more.1 (o, d))
+
+    either : Named ⊎ OfRows → Differing → Touched ⊎ More
+    either (inl n) d = inl (touched.1 (n, d))
+    either (inr r) d = other (rest r) d
+
 -- what refuses a record in a portion refuses it in the mailbox
 refused_same : (test : ℕ → Bool) (n : Mailbox) (body : Body) → refused_row (portion test n) body ≡ refused_row n body
 refused_same test n (Append rows) = refl

@@ -1,4 +1,4 @@
-ghost use Rattle.std.specs.Prelude.{◌≡◌, ◌↔◌, ◌⊎◌, ℕ, ◌<◌, ◌≤◌, ◌^◌, ⊤, All, Contains, IfOk, IsSomeAnd, OnErr, OnOk, Err, Some, count_by, length, max, nat_le};
+ghost use Rattle.std.specs.Prelude.{◌≡◌, ◌↔◌, ◌⊎◌, ℕ, ◌<◌, ◌≤◌, ◌^◌, ⊤, All, Contains, IfOk, IsSomeAnd, OnErr, OnOk, Err, Some, count_by, length, max, nat_le, true};
 ghost use Rattle.std.specs.List.Sorted.{IsStrictlyIncreasing};
 ghost use Rattle.dv_model.specs.declared.types.Mailbox.{Mailbox};
 ghost use Rattle.dv_model.specs.Effects.{applied};
@@ -42,21 +42,29 @@ fn count_new(rows: &Rows, bound: u32) -> u32
     count_from(rows.as_slice(), bound)
 }
 
-// These UIDs and those of the rows, rising.
-fn all_uids(alloc: Global, uids: &[u32], rows: &[Row]) -> Result<Vec<u32>, NoMemory>
-    ensures rising { IfOk result (λ all. IsStrictlyIncreasing all.items) }
-    ensures is { IfOk result (λ all. (uid : ℕ) →
-        Contains all.items uid ↔ (Contains uids.now uid ⊎ HasUid rows.now uid)) }
+// Whether a UID is found among rising ones, by halves.
+fn is_found(uids: &[u32], uid: u32) -> bool
+    ensures { result ≡ true → Contains uids.now uid }
 {
-    let mut all = Vec::with_capacity(alloc, uids.len().saturating_add(rows.len()))?;
-    for uid in uids {
-        all.push(*uid)?;
-    }
+    uids.binary_search(&uid).is_ok()
+}
+
+// The UIDs of the rows but for such as are found among these, rising.
+fn other_uids(alloc: Global, uids: &[u32], rows: &[Row]) -> Result<Vec<u32>, NoMemory>
+    ensures rising { IfOk result (λ others. IsStrictlyIncreasing others.items) }
+    ensures of_rows { IfOk result (λ others. (uid : ℕ) →
+        Contains others.items uid → HasUid rows.now uid) }
+    ensures all { IfOk result (λ others. (uid : ℕ) →
+        HasUid rows.now uid → (Contains uids.now uid ⊎ Contains others.items uid)) }
+{
+    let mut others = Vec::new(alloc);
     for row in rows {
-        all.push(row.uid)?;
+        if !is_found(uids, row.uid) {
+            others.push(row.uid)?;
+        }
     }
-    sort_uids(&mut all);
-    Ok(all)
+    sort_uids(&mut others);
+    Ok(others)
 }
 
 // Those of these UIDs, and of the rows behind, of which another row is shown than before.
@@ -66,13 +74,16 @@ fn find_touched(
     before: &Rows,
     behind: &Rows,
 ) -> Result<Touched, NoMemory>
+    requires { IsStrictlyIncreasing uids.now }
     ensures { IfOk result (λ touched. (uid : ℕ) →
         Contains touched uid
         ↔ ((Contains uids.now uid ⊎ HasUid behind.now.rows uid)
         × Differs before.now.rows behind.now.rows uid)) }
 {
-    let all = all_uids(alloc, uids, behind.as_slice())?;
-    Touched::between(alloc, &all, before, behind)
+    let touched = Touched::between(alloc, uids, before, behind)?;
+    let others = other_uids(alloc, uids, behind.as_slice())?;
+    let more = Touched::between(alloc, &others, before, behind)?;
+    touched.with(alloc, &more)
 }
 
 // Takes the memory that records need, in a share of the rows with these UIDs.
@@ -140,6 +151,7 @@ fn make_ready(state: &mut State, records: &[Record]) -> Result<Way, ApplyFault>
 {
     let mut uids = named_rows(state.alloc, &state.rows, &state.extensions, records)?;
     sort_uids(&mut uids);
+    uids.shrink_to_fit();
     if are_light(&state.extensions, records) {
         return match make_light(state, uids, records) {
             Ok(light) => Ok(Way::Records(light)),

@@ -24,13 +24,23 @@ fn add_numbers(from: u32, to: u32, numbers: &mut List<u32>) -> Result<(), NoMemo
     Ok(())
 }
 
+// How many places the intervals have at most. Memory alone goes by it.
+fn most_places(intervals: &[Interval], count: u32) -> u32 {
+    let mut most: u32 = 0;
+    for interval in intervals {
+        most = most.saturating_add(interval.to.saturating_sub(interval.from));
+    }
+    most.min(count)
+}
+
 // The message numbers of the places in intervals that begin in rising order.
 fn sweep(alloc: Global, intervals: &[Interval], count: u32) -> Result<List<u32>, NoMemory>
     requires rising { IsNonDecreasingBy (λ interval. interval.from) intervals.now }
     requires inside { AreInside count intervals.now }
     ensures { IfOk result (λ numbers. numbers ≡ numbers_where (is_covered intervals.now) count) }
 {
-    let mut numbers = List::new(alloc);
+    let room = most_places(intervals, count) as usize;
+    let mut numbers = List::from_vec(Vec::with_capacity(alloc, room)?);
     let mut next = 0;
     for interval in intervals {
         add_numbers(interval.from.max(next), interval.to, &mut numbers)?;

@@ -93,7 +93,7 @@ pub fn merged(alloc: Global, xs: &[u32], ys: &[u32]) -> Result<Vec<u32>, NoMemor
     ensures is { IfOk result (λ made. (x : ℕ) →
         Contains made.items x ↔ (Contains xs.now x ⊎ Contains ys.now x)) }
 {
-    let mut made = Vec::new(alloc);
+    let mut made = Vec::with_capacity(alloc, xs.len().saturating_add(ys.len()))?;
     let mut i = 0;
     let mut j = 0;
     while i < xs.len() || j < ys.len() {
