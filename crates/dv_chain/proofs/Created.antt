@@ -1,5 +1,5 @@
 -- What making a mailbox folder leaves.
-use Rattle.std.proofs.Common.{◌≡◌, ◌≢◌, ℕ, ◌^◌, ◌+◌, ◌<◌, ◌≤◌, All, List, [], ◌∷◌, length, map, Option, Some, None, refl, sym, ◌∙◌, ap, subst, arith}
+use Rattle.std.proofs.Common.{◌≡◌, ℕ, ◌^◌, ◌<◌, ◌≤◌, All, List, [], ◌∷◌, length, map, Option, Some, None, refl, sym, ◌∙◌, ap, subst, arith}
 use Rattle.std.specs.Prelude.{unwrap_or}
 use Rattle.std.proofs.lemmas.List.{length-map}
 use Rattle.std.proofs.lemmas.List.Elements.{All-cons, All-nil}
@@ -14,10 +14,9 @@ use Rattle.dv_shelf.specs.declared.shelf.Name.TheVariants as name
 use Rattle.dv_shelf.specs.Crashes.{Only}
 use Rattle.dv_shelf.specs.Folders.{Folder, contents, with_file}
 use Rattle.dv_shelf.proofs.FolderLemmas.{with_else, with_here}
-use Rattle.dv_logfile.specs.declared.commit.Debt.TheVariants as debt
 use Rattle.dv_logfile.specs.declared.commit.LogFile.{LogFile}
 use Rattle.dv_logfile.specs.declared.header.LogHeader.{LogHeader}
-use Rattle.dv_logfile.specs.Layout.{last_end, log_end, log_text, new_header}
+use Rattle.dv_logfile.specs.Layout.{log_end, new_header}
 use Rattle.dv_logfile.specs.Reading.{HasShutGate}
 use Rattle.dv_logfile.specs.Scans.{Good, GoodLog, IsGood, IsScanned, Missing, Spot, spots_of}
 use Rattle.dv_logfile.proofs.Logs.{good_new_header}
@@ -25,7 +24,7 @@ use Rattle.dv_logfile.proofs.Reading.{written_gate}
 use Rattle.dv_logfile.proofs.Spots.{written_good}
 use Rattle.dv_openings.specs.Openings.{Finds, Gives, IsFound, IsIndex, at_end, end_mark, file_applied, from_nothing, raised, spots_applied}
 use Rattle.dv_chain.specs.declared.chain.Chain.{Chain}
-use Rattle.dv_chain.specs.Creations.{HasNone, IsFirst, created, first_log, first_mailbox}
+use Rattle.dv_chain.specs.Creations.{HasNone, IsFirst, first_log, first_mailbox}
 use Rattle.dv_chain.specs.Openings.{HasBounds, IsChainOf, found_of}
 use Rattle.dv_chain.specs.Rest.{HoldsAlone, Nothing, Rests}
 use Rattle.dv_chain.proofs.Joins.{nothing_first}

@@ -1,17 +1,15 @@
 -- What is read of a file.
-use Rattle.std.proofs.Common.{◌≡◌, ℕ, ◌+◌, ◌-◌, ◌≤◌, min, max, true, false, Bool, nat_eq, List, length, drop, Option, Some, None, Result, Ok, Err, refl, sym, ◌∙◌, ap, subst, arith}
+use Rattle.std.proofs.Common.{◌≡◌, ℕ, max, true, Bool, List, drop, Some, Result, Ok, Err, refl, sym, ◌∙◌, ap, subst, arith}
 use Rattle.std.specs.Prelude.{if◌then◌else◌}
 use Rattle.std.proofs.lemmas.Bool.{eq-eqb, ne_eqb}
-use Rattle.std.proofs.lemmas.List.{length-drop}
 use Rattle.dv_model.specs.declared.types.Mailbox.{Mailbox}
 use Rattle.dv_model.specs.declared.types.OpenFault.{OpenFault}
 use Rattle.dv_model.specs.declared.types.OpenFault.TheVariants as fault
-use Rattle.dv_model.specs.Mailboxes.{last_modseq}
 use Rattle.dv_model.specs.Spelling.{is_closed}
 use Rattle.dv_logfile.specs.declared.header.LogHeader.{LogHeader}
 use Rattle.dv_logfile.specs.Layout.{IsHeader}
 use Rattle.dv_logfile.specs.Scans.{Spot}
-use Rattle.dv_openings.specs.Openings.{Applied, applied_from, file_applied, file_number, raised, records_from, spots_applied}
+use Rattle.dv_openings.specs.Openings.{applied_from, file_applied, file_number, records_from, spots_applied}
 use Rattle.dv_apply.specs.States.{Held}
 use Rattle.dv_chain.specs.declared.file.File.{File}
 use Rattle.dv_chain.specs.Files.{HasSpots, ReadsFile, good_file}

@@ -1,18 +1,17 @@
 -- What is found, by the files that were read.
-use Rattle.std.proofs.Common.{◌≡◌, ◌≢◌, ℕ, ◌+◌, ◌≤◌, true, false, Bool, nat_eq, List, Option, Some, None, Result, Ok, Err, refl, sym, ◌∙◌, ap, subst, arith}
+use Rattle.std.proofs.Common.{◌≡◌, ℕ, true, false, Bool, List, Option, Some, None, Result, Ok, Err, refl, sym, ◌∙◌, ap, subst}
 use Rattle.std.specs.Prelude.{if◌then◌else◌, IfErr}
-use Rattle.dv_model.specs.declared.types.Mailbox.{Mailbox}
 use Rattle.dv_model.specs.declared.types.OpenFault.{OpenFault}
 use Rattle.dv_model.specs.declared.types.OpenFault.TheVariants as fault
 use Rattle.dv_shelf.specs.declared.shelf.Name.TheVariants as name
 use Rattle.dv_shelf.specs.Folders.{Folder}
 use Rattle.dv_logfile.specs.Scans.{BadHeader, BadSpot, Good, IsGood, IsScanned, Missing, Spot}
-use Rattle.dv_openings.specs.Openings.{Finds, Found, IsFound, NoLog, end_mark, from_either, joining, joins}
+use Rattle.dv_openings.specs.Openings.{Found, IsFound, NoLog, from_either, joining, joins}
 use Rattle.dv_apply.specs.States.{Held}
 use Rattle.dv_chain.specs.declared.file.File.{File}
 use Rattle.dv_chain.specs.declared.opening.Files.{Files}
-use Rattle.dv_chain.specs.Files.{HasHeader, HasSpots, IsFileOf, ReadsFile, good_file, snapshot_in}
-use Rattle.dv_chain.specs.Openings.{AreFilesOf, FaultFound, IsEndOf, IsLogOf, IsRotatedOf, Joins}
+use Rattle.dv_chain.specs.Files.{HasSpots, ReadsFile, good_file, snapshot_in}
+use Rattle.dv_chain.specs.Openings.{AreFilesOf, FaultFound, IsEndOf, IsRotatedOf, Joins}
 
 -- ---- faults
 

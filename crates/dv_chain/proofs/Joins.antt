@@ -1,5 +1,5 @@
 -- Which records of which files stand behind a snapshot.
-use Rattle.std.proofs.Common.{◌≡◌, ℕ, ◌+◌, ◌-◌, ◌≤◌, min, true, false, Bool, ◌&&◌, nat_eq, List, length, Option, Some, None, Result, Ok, Err, refl, sym, ◌∙◌, ap, subst, arith}
+use Rattle.std.proofs.Common.{◌≡◌, ℕ, ◌+◌, min, true, false, Bool, ◌&&◌, nat_eq, List, length, Option, Some, None, Result, Ok, Err, refl, sym, ◌∙◌, ap, subst, arith}
 use Rattle.std.specs.Prelude.{if◌then◌else◌}
 use Rattle.std.proofs.lemmas.Bool.{eq-eqb, ne_eqb}
 use Rattle.dv_model.specs.declared.types.Mailbox.{Mailbox}
@@ -7,7 +7,7 @@ use Rattle.dv_model.specs.declared.types.OpenFault.{OpenFault}
 use Rattle.dv_model.specs.declared.types.OpenFault.TheVariants as fault
 use Rattle.dv_model.specs.Mailboxes.{empty_mailbox, last_modseq}
 use Rattle.dv_logfile.specs.Scans.{GoodLog, Spot}
-use Rattle.dv_openings.specs.Openings.{Applied, BadIndex, Found, Gap, Gives, Refused, Snapshot, applied_from, at_end, before_log, file_applied, file_number, first_mark, from_index, from_nothing, in_log, in_rotated, number_before, records_from, then_file, with_numbers}
+use Rattle.dv_openings.specs.Openings.{Applied, BadIndex, Found, Gap, Gives, Snapshot, applied_from, at_end, before_log, file_applied, file_number, first_mark, from_index, from_nothing, in_log, in_rotated, number_before, records_from, then_file, with_numbers}
 use Rattle.dv_apply.specs.States.{Held}
 use Rattle.dv_chain.specs.Openings.{Joins}
 use Rattle.dv_chain.specs.Walks.{Applies, Counts}

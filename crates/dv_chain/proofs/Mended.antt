@@ -1,20 +1,19 @@
 -- A log whose end is mended holds what it held.
-use Rattle.std.proofs.Common.{◌≡◌, ◌≢◌, ◌⊎◌, inl, inr, ⊎_elim, ℕ, ◌+◌, ◌-◌, ◌≤◌, true, false, Bool, ◌||◌, nat_eq, nat_le, List, [], ◌∷◌, ◌++◌, length, take, drop, Option, Some, None, refl, sym, ◌∙◌, ap, subst, arith, append_assoc, length-append}
+use Rattle.std.proofs.Common.{◌≡◌, ⊎_elim, ℕ, ◌+◌, ◌≤◌, true, false, Bool, ◌||◌, nat_eq, nat_le, List, [], ◌∷◌, ◌++◌, length, take, drop, Option, Some, refl, sym, ◌∙◌, ap, subst, arith, append_assoc, length-append}
 use Rattle.std.specs.Prelude.{if◌then◌else◌, slice_index}
-use Rattle.std.proofs.lemmas.Bool.{eq-eqb, eqb-true, eqb-false, leb-true, le-leb}
-use Rattle.std.proofs.lemmas.List.{append-nil, drop_at, drop-append-le, drop-drop, drop-take, length-drop, length-take, take_all, take_at, take-append-le}
-use Rattle.dv_shelf.specs.declared.shelf.Name.{Name}
+use Rattle.std.proofs.lemmas.Bool.{eqb-true, eqb-false, leb-true, le-leb}
+use Rattle.std.proofs.lemmas.List.{drop_at, drop-append-le, drop-drop, drop-take, length-drop, length-take, take_all, take_at, take-append-le}
 use Rattle.dv_shelf.specs.declared.shelf.Name.TheVariants as name
-use Rattle.dv_shelf.specs.Folders.{Folder, contents, with_file}
-use Rattle.dv_shelf.proofs.FolderLemmas.{with_else, with_same}
-use Rattle.dv_logfile.specs.Layout.{IsHeader, closing, last_end, longest_log}
+use Rattle.dv_shelf.specs.Folders.{Folder, with_file}
+use Rattle.dv_shelf.proofs.FolderLemmas.{with_else}
+use Rattle.dv_logfile.specs.Layout.{IsHeader, closing, last_end}
 use Rattle.dv_logfile.specs.Scans.{AreSpots, Good, GoodLog, IsGood, IsScanned, Scanned, Spot}
 use Rattle.dv_logfile.proofs.Logs.{header_front}
 use Rattle.dv_logfile.proofs.OneScan.{scans_one}
 use Rattle.dv_openings.specs.Numbers.{IsNamed}
 use Rattle.dv_openings.specs.Openings.{Found, IfGood, IsFound, IsIndex, found_in, mended}
 use Rattle.dv_chain.specs.declared.file.File.{File}
-use Rattle.dv_chain.specs.Files.{HasSpots, good_file}
+use Rattle.dv_chain.specs.Files.{good_file}
 use Rattle.dv_chain.specs.Openings.{IsLogOf, IsMended, IsQuiet}
 use Rattle.dv_chain.proofs.Named.{file_named}
 

@@ -1,6 +1,5 @@
 -- What opening leaves.
-use Rattle.std.proofs.Common.{◌≡◌, ◌⊎◌, inl, ℕ, Some, refl, sym, ◌∙◌, ap, subst, Option, List, Result, Ok, Err}
-use Rattle.dv_model.specs.declared.types.Mailbox.{Mailbox}
+use Rattle.std.proofs.Common.{◌≡◌, inl, ℕ, Some, refl, sym, ◌∙◌, ap, subst, Option, List, Err}
 use Rattle.dv_model.specs.declared.types.OpenFault.{OpenFault}
 use Rattle.dv_model.specs.declared.types.OpenFault.TheVariants as fault
 use Rattle.dv_shelf.specs.declared.shelf.Name.TheVariants as name

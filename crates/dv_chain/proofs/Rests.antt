@@ -1,9 +1,8 @@
 -- A chain that was opened is at rest.
 use Rattle.std.proofs.Common.{◌≡◌, ℕ, ◌+◌, ◌≤◌, true, false, Bool, nat_eq, List, [], ◌∷◌, ◌++◌, length, take, drop, map, Option, Some, None, refl, sym, ◌∙◌, ap, subst, arith, add-zero, length-append}
 use Rattle.std.specs.Prelude.{if◌then◌else◌, slice_index, unwrap_or, Ok}
-use Rattle.std.proofs.lemmas.Bool.{eqb-true, eqb-false, eq-eqb}
+use Rattle.std.proofs.lemmas.Bool.{eqb-true, eqb-false}
 use Rattle.std.proofs.lemmas.List.{get_or-append-add, length-map, length-take, take_all}
-use Rattle.dv_model.specs.declared.types.Record.{Record}
 use Rattle.dv_shelf.specs.declared.shelf.Name.TheVariants as name
 use Rattle.dv_shelf.specs.Crashes.{Only}
 use Rattle.dv_shelf.specs.Folders.{Folder, contents, with_file}

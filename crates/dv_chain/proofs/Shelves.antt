@@ -1,5 +1,5 @@
 -- What calls on a shelf that only look leave, and what a replace of the log leaves.
-use Rattle.std.proofs.Common.{◌≡◌, ◌≢◌, ◌⊎◌, inl, inr, ⊎_elim, ℕ, ◌+◌, ◌≤◌, min, Option, Some, None, List, refl, sym, ◌∙◌, ap, subst, arith}
+use Rattle.std.proofs.Common.{◌≡◌, ◌≢◌, ◌⊎◌, inl, inr, ⊎_elim, ℕ, Option, List, refl, sym, ◌∙◌, subst, arith}
 use Rattle.std.proofs.Math.Path.{fun_ext}
 use Rattle.dv_model.specs.Counts.{Rose}
 use Rattle.dv_model.specs.declared.types.OpenFault.{OpenFault}
@@ -8,7 +8,7 @@ use Rattle.std.specs.Prelude.{Result, Ok, Err}
 use Rattle.dv_shelf.specs.declared.shelf.Name.{Name}
 use Rattle.dv_shelf.specs.declared.shelf.Name.TheVariants as name
 use Rattle.dv_shelf.specs.Crashes.{Elapses, Follows, FollowsNone, LeavesOnly, Only}
-use Rattle.dv_shelf.specs.Folders.{ChangesOnly, Folder, IsEither, counted, with_file}
+use Rattle.dv_shelf.specs.Folders.{ChangesOnly, Folder, IsEither, with_file}
 use Rattle.dv_shelf.proofs.FolderLemmas.{with_else}
 use Rattle.dv_shelf.proofs.Moments.{goes_on, joined, started, weaker}
 use Rattle.dv_chain.specs.Openings.{HasCause, OnlyLooks}

@@ -5,7 +5,7 @@ use Rattle.std.proofs.lemmas.Option.{same_Some}
 use Rattle.dv_model.specs.declared.types.Mailbox.{Mailbox}
 use Rattle.dv_model.specs.Effects.{after_record, applied}
 use Rattle.dv_logfile.specs.Scans.{Spot}
-use Rattle.dv_openings.specs.Openings.{Applied, Gives, Refused, spots_applied}
+use Rattle.dv_openings.specs.Openings.{Gives, Refused, spots_applied}
 
 same_Gives : (m n : Mailbox) → Gives m ≡ Gives n → m ≡ n
 same_Gives m n is = cc

@@ -1,5 +1,5 @@
 -- Walks over the records of a file's bytes.
-use Rattle.std.proofs.Common.{◌≡◌, ℕ, suc, ◌+◌, ◌-◌, ◌*◌, ◌<◌, ◌≤◌, true, false, Bool, nat_eq, List, [], ◌∷◌, ◌++◌, length, take, drop, Option, Some, None, Result, Ok, Err, refl, sym, ◌∙◌, ap, subst, arith, length-append}
+use Rattle.std.proofs.Common.{◌≡◌, ℕ, ◌+◌, ◌-◌, ◌*◌, ◌<◌, ◌≤◌, true, false, Bool, nat_eq, List, [], ◌∷◌, ◌++◌, length, take, drop, Some, None, Ok, Err, refl, sym, ◌∙◌, ap, subst, arith, length-append}
 use Rattle.std.specs.Prelude.{if◌then◌else◌}
 use Rattle.std.proofs.lemmas.Bool.{eq-eqb, eqb-true, ne_eqb}
 use Rattle.std.proofs.lemmas.Option.{same_Some}
@@ -17,8 +17,7 @@ use Rattle.dv_logfile.specs.Layout.{last_end}
 use Rattle.dv_logfile.specs.Scans.{Spot, AreSpots, IsFaulty}
 use Rattle.dv_logfile.proofs.OneScan.{readings_one}
 use Rattle.dv_logfile.proofs.Spots.{spots_end}
-use Rattle.dv_openings.specs.Openings.{Applied, Gives, Refused, spots_applied, spots_from}
-use Rattle.dv_apply.specs.States.{Held}
+use Rattle.dv_openings.specs.Openings.{Gives, Refused, spots_applied, spots_from}
 use Rattle.dv_chain.specs.Walks.{Applies, Counts, EndsAt, IsLeft, IsWalked, Measures, Skips}
 
 true_is_not_false : {A : Type 0} (b : Bool) → b ≡ true → b ≡ false → A

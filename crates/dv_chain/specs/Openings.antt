@@ -1,7 +1,6 @@
 -- What opening answers, and what it leaves of the folder.
-use Rattle.std.specs.Prelude.{◌≡◌, ◌≢◌, ◌⊎◌, ◌↔◌, ℕ, ◌*◌, ◌≤◌, List, [], length, Option, Some, None, Result, Ok, Err, IfSome, ⊤}
+use Rattle.std.specs.Prelude.{◌≡◌, ◌≢◌, ◌⊎◌, ◌↔◌, ℕ, ◌*◌, ◌≤◌, List, length, Option, Some, Result, Ok, Err, IfSome, ⊤}
 use Rattle.dv_model.specs.declared.types.Mailbox.{Mailbox}
-use Rattle.dv_model.specs.declared.types.Mark.{Mark}
 use Rattle.dv_model.specs.declared.types.OpenFault.{OpenFault}
 use Rattle.dv_model.specs.declared.types.OpenFault.TheVariants as fault
 use Rattle.dv_model.specs.Counts.{Rose}
@@ -12,7 +11,7 @@ use Rattle.dv_shelf.specs.Folders.{Folder, with_file, contents}
 use Rattle.dv_shelf.specs.Crashes.{FollowsNone, LeavesOnly}
 use Rattle.dv_logfile.specs.declared.commit.Debt.TheVariants as debt
 use Rattle.dv_logfile.specs.Layout.{last_end}
-use Rattle.dv_logfile.specs.Scans.{Spot, GoodLog, Scanned, Good, IsGood, IsScanned}
+use Rattle.dv_logfile.specs.Scans.{Spot, GoodLog, Scanned, Good, IsScanned}
 use Rattle.dv_openings.specs.Numbers.{IsNamed}
 use Rattle.dv_openings.specs.Openings as found
 use Rattle.dv_openings.specs.Openings.{Found, Finds, IsFound, end_mark, IsIndex, Snapshot, mended, joining, counted}

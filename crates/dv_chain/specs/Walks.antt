@@ -1,10 +1,8 @@
 -- What a walk over the records of a file's bytes answers.
 use Rattle.std.specs.Prelude.{◌≡◌, ℕ, ◌+◌, ◌-◌, ◌*◌, ◌≤◌, true, List, length, drop, Option, Some, None, Result, Ok, Err, ⊤}
-use Rattle.dv_model.specs.declared.types.Mailbox.{Mailbox}
 use Rattle.dv_model.specs.declared.types.OpenFault.{OpenFault}
 use Rattle.dv_model.specs.declared.types.OpenFault.TheVariants as fault
 use Rattle.dv_model.specs.declared.types.Record.{Record}
-use Rattle.dv_model.specs.Effects.{after_record}
 use Rattle.dv_model.specs.Spelling.{is_closed}
 use Rattle.dv_records.specs.Faults.{IsRecordAt}
 use Rattle.dv_logfile.specs.Layout.{last_end}

@@ -151,28 +151,31 @@ fn from_earlier(
     }
 }
 
-/// From a snapshot.
+/// From a snapshot. The rotated log is freed before the log is applied where it isn't needed.
 fn from_index(
     alloc: Global,
     log: &File,
-    rotated: &Option<File>,
+    rotated: Option<File>,
     index: Index,
 ) -> Result<Live, OpenFault>
     requires log { HasHeader log.now }
-    requires rotated { IfSome rotated.now HasHeader }
+    requires rotated { IfSome rotated HasHeader }
     requires valid { IsValid index.mailbox }
     ensures given { (spots : List Spot) (before : Option GoodLog) → HasSpots spots log.now →
-        IsFileOf rotated.now before → Joins (good_file log.now spots) result
+        IsFileOf rotated before → Joins (good_file log.now spots) result
         (from_index (good_file log.now spots) before (snapshot_of index)) }
     ensures disk { NoDisk result }
 {
     let mark = index.mark;
     if mark.file_seq != log.header.file_seq {
-        return from_earlier(alloc, log, rotated, index);
+        return from_earlier(alloc, log, &rotated, index);
     }
     match log.records_before(mark.offset)? {
-        Some(before) => resume(alloc, log, index, before),
-        None => from_earlier(alloc, log, rotated, index),
+        Some(before) => {
+            drop(rotated);
+            resume(alloc, log, index, before)
+        }
+        None => from_earlier(alloc, log, &rotated, index),
     }
 }
 
@@ -206,19 +209,19 @@ fn from_nothing(alloc: Global, log: &File, rotated: &Option<File>) -> Result<Liv
 pub fn join(
     alloc: Global,
     log: &File,
-    rotated: &Option<File>,
+    rotated: Option<File>,
     index: Option<Index>,
 ) -> Result<Live, OpenFault>
     requires log { HasHeader log.now }
-    requires rotated { IfSome rotated.now HasHeader }
+    requires rotated { IfSome rotated HasHeader }
     requires valid { IfSome index (λ i. IsValid i.mailbox) }
     ensures given { (spots : List Spot) (before : Option GoodLog) → HasSpots spots log.now →
-        IsFileOf rotated.now before → Joins (good_file log.now spots) result
+        IsFileOf rotated before → Joins (good_file log.now spots) result
         (from_either (good_file log.now spots) before (snapshot_in index)) }
     ensures disk { NoDisk result }
 {
     match index {
         Some(index) => from_index(alloc, log, rotated, index),
-        None => from_nothing(alloc, log, rotated),
+        None => from_nothing(alloc, log, &rotated),
     }
 }

@@ -159,7 +159,7 @@ fn find<S: Shelf>(alloc: Global, shelf: &mut S) -> Result<(File, Live), OpenFaul
         rotated,
         index,
     } = read_files(alloc, shelf)?;
-    let live = join(alloc, &log, &rotated, index)?;
+    let live = join(alloc, &log, rotated, index)?;
     Ok((log, live))
 }
 

@@ -62,7 +62,8 @@ fn offsets(alloc: Global, live: &Live, from: u32, to: u32) -> Result<Bytes, NoMe
     ensures { IfOk result (λ bytes. bytes ≡ flat_map offset_row
         (take (to - from) (drop from (enumerate_from 0 live.now.mailbox.rows)))) }
 {
-    let mut bytes = List::new(alloc);
+    let room = 8 * (to - from) as usize;
+    let mut bytes = List::from_vec(Vec::with_capacity(alloc, room)?);
     for at in from..to {
         bytes.extend(&live.row(at).uid.to_le_bytes())?;
         bytes.extend(&offset_of(at))?;

@@ -1,9 +1,9 @@
-ghost use Rattle.std.specs.Prelude.{◌≡◌, ◌↔◌, ◌+◌, ◌++◌, ◌^◌, ◌<◌, ◌≤◌, [], List, IfOk, IsTrue};
+ghost use Rattle.std.specs.Prelude.{◌≡◌, ◌↔◌, ◌+◌, ◌++◌, ◌^◌, ◌<◌, ◌≤◌, [], List, IfOk, IsTrue, length};
 ghost use Rattle.dv_model.specs.Mailboxes.{IsValid};
 ghost use Rattle.dv_formats.specs.Snapshots.{Fits, IsSnapshot, header_text, tables_text};
 ghost use Rattle.dv_index.specs.Fronts.{HasCounts, with_rows};
 
-use crate::header::write_header;
+use crate::header::{row_size, write_header};
 use crate::rows::write_rows;
 use crate::tables::tables_text;
 use crate::tally::{Tally, tally_of};
@@ -15,6 +15,17 @@ fn has_room(tables: usize) -> bool
     ensures { IsTrue result ↔ (120 + tables < 2 ^ 32) }
 {
     tables <= (u32::MAX - 120) as usize
+}
+
+// How many bytes a snapshot of so many rows has, with so many bytes of tables. Memory alone goes by
+// it.
+fn room_for(m: &Mailbox, counts: Tally, tables: usize) -> usize
+    requires valid { IsValid (with_rows [] m.now) }
+    requires tables { tables ≡ length (tables_text m.now) }
+    requires room { 120 + tables < 2 ^ 32 }
+{
+    let rows = (counts.rows as usize).saturating_mul(row_size(m) as usize);
+    rows.saturating_add(tables).saturating_add(120)
 }
 
 /// The front of a snapshot in the layout of version 2, behind which `write_row` adds each row. The
@@ -37,7 +48,8 @@ pub fn begin(
     if !has_room(tables.len()) {
         return Err(NoMemory);
     }
-    let mut text = List::new(alloc);
+    let room = room_for(m, counts, tables.len());
+    let mut text = List::from_vec(Vec::with_capacity(alloc, room)?);
     write_header(m, counts, indexid, mark, tables.len() as u32, &mut text)?;
     text.extend(tables.as_slice())?;
     Ok(text)

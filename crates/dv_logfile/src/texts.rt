@@ -7,7 +7,7 @@ ghost use Rattle.dv_logfile.specs.Layout.{IsGroupText, IsGoodHeader, IsLog, IsOn
 
 use crate::LogHeader;
 use dv_model::{Bytes, Group, List, NoMemory, Record};
-use dv_records::encode;
+use dv_records::{encode, room_for};
 use std::alloc::Global;
 
 /// The bytes of a log file with these records, and four zero bytes behind them. `NoMemory` is the
@@ -34,7 +34,8 @@ pub fn group_text(alloc: Global, group: &Group) -> Result<Bytes, NoMemory>
     ensures text { IfOk result (λ text. text ≡ group_text group.now ++ closing) }
     ensures group { IfOk result IsGroupText }
 {
-    let mut text = List::new(alloc);
+    let room = room_for(group.records.as_slice()).saturating_add(4);
+    let mut text = List::from_vec(Vec::with_capacity(alloc, room)?);
     write_records(alloc, group.records.as_slice(), &mut text)?;
     text.extend(&[0; 4])?;
     Ok(text)

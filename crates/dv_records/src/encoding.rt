@@ -65,6 +65,23 @@ fn code_of(body: &Body) -> u32
     }
 }
 
+// Adds a record with this payload. After `NoMemory` `out` is as before.
+fn write_record(alloc: Global, r: &Record, payload: &[u8], out: &mut Bytes) -> Result<(), NoMemory>
+    requires record { IsRecord r.now }
+    requires payload { payload.now ≡ payload_text r.now.body }
+    ensures ok { OnOk result (out.new ≡ out.old ++ written r.now) }
+    ensures err { OnErr result (out.new ≡ out.old) }
+{
+    let size = 8 + payload.len();
+    let kind = code_of(&r.body) + 0x1000_0000 * u32::from(r.top);
+    let mut text = List::new(alloc);
+    text.extend(&size_code(size as u32))?;
+    text.extend(&kind.to_le_bytes())?;
+    text.extend(payload)?;
+    out.extend(text.as_slice())?;
+    Ok(())
+}
+
 /// Adds the written spelling of a record: zero padding, and a reset with its `preserve`.
 /// After `NoMemory`, the only error, `out` is as before.
 pub fn encode(alloc: Global, r: &Record, out: &mut Bytes) -> Result<(), NoMemory>
@@ -72,14 +89,39 @@ pub fn encode(alloc: Global, r: &Record, out: &mut Bytes) -> Result<(), NoMemory
     ensures ok { OnOk result (out.new ≡ out.old ++ written r.now) }
     ensures err { OnErr result (out.new ≡ out.old) }
 {
-    let mut payload = List::new(alloc);
-    write_payload(&r.body, &mut payload)?;
-    let size = 8 + payload.len();
-    let kind = code_of(&r.body) + 0x1000_0000 * u32::from(r.top);
-    let mut text = List::new(alloc);
-    text.extend(&size_code(size as u32))?;
-    text.extend(&kind.to_le_bytes())?;
-    text.extend(payload.as_slice())?;
-    out.extend(text.as_slice())?;
-    Ok(())
+    match &r.body {
+        // These have the bytes of their payload.
+        Body::ExtRecordUpdate(bytes) => write_record(alloc, r, bytes.as_slice(), out),
+        Body::Carried { code: _, bytes } => write_record(alloc, r, bytes.as_slice(), out),
+        body => {
+            let mut payload = List::new(alloc);
+            write_payload(body, &mut payload)?;
+            write_record(alloc, r, payload.as_slice(), out)
+        }
+    }
+}
+
+// About how many bytes the payload of a record with this body has.
+fn payload_room(body: &Body) -> usize {
+    let (items, size) = match body {
+        Body::Expunge(pairs) => (pairs.len(), 8),
+        Body::Append(rows) => (rows.len(), 8),
+        Body::FlagUpdate(changes) => (changes.len(), 12),
+        Body::KeywordUpdate { pairs, .. } => (pairs.len(), 8),
+        Body::KeywordReset(pairs) => (pairs.len(), 8),
+        Body::ExpungeGuid(rows) => (rows.len(), 20),
+        Body::ExtRecordUpdate(bytes) => (bytes.len(), 1),
+        Body::Carried { bytes, .. } => (bytes.len(), 1),
+        _ => (1, 40),
+    };
+    items.saturating_mul(size)
+}
+
+/// About how many bytes the spellings of records have. Memory and time alone go by it.
+pub fn room_for(records: &[Record]) -> usize {
+    let mut room: usize = 0;
+    for r in records {
+        room = room.saturating_add(8).saturating_add(payload_room(&r.body));
+    }
+    room
 }

@@ -14,6 +14,6 @@ mod writing;
 
 pub use checking::check;
 pub use decoding::{decode, one_reading, spelled_is_valid};
-pub use encoding::encode;
+pub use encoding::{encode, room_for};
 pub use fault::{DecodeEnd, RecordFault};
 pub use keyword::is_name;

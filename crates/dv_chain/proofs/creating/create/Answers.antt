@@ -1,6 +1,6 @@
-use Rattle.std.proofs.Common.{◌≡◌, ◌⊎◌, ◌≤◌, ◌<◌, ◌^◌, ◌∙◌, ℕ, List, Some, ap, arith, sym, subst}
+use Rattle.std.proofs.Common.{◌≡◌, ◌⊎◌, ◌∙◌, ℕ, List, Some, ap, arith, subst}
 use Rattle.dv_shelf.specs.Crashes.{LeavesOnly}
-use Rattle.dv_shelf.specs.Folders.{Folder, with_file}
+use Rattle.dv_shelf.specs.Folders.{with_file}
 use Rattle.dv_shelf.specs.declared.shelf.Name.TheVariants.{Log}
 use Rattle.dv_openings.specs.Rebuilds.{stamp_of}
 use Rattle.dv_chain.specs.Creations.{IsFirst, first_log}

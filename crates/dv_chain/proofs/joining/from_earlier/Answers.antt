@@ -1,4 +1,4 @@
-use Rattle.std.proofs.Common.{◌≡◌, ◌∙◌, Option, ap, sym}
+use Rattle.std.proofs.Common.{◌∙◌, Option, ap, sym}
 use Rattle.std.proofs.lemmas.Result.{err_from_is_err_and}
 use Rattle.dv_logfile.specs.Scans.{GoodLog}
 use Rattle.dv_openings.specs.Openings.{in_rotated}

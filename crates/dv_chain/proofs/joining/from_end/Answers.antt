@@ -1,4 +1,4 @@
-use Rattle.std.proofs.Common.{◌∙◌, ap, sym}
+use Rattle.std.proofs.Common.{◌∙◌, sym}
 use Rattle.dv_chain.specs.Files.{good_file, snapshot_of}
 use Rattle.dv_chain.proofs.Joins.{from_named_end}
 use Rattle.dv_chain.proofs.joining.from_end.Goals as goal

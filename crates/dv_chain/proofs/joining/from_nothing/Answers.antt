@@ -1,6 +1,6 @@
 use Rattle.std.proofs.Common.{ap}
 use Rattle.dv_apply.specs.States.{Held}
-use Rattle.dv_chain.specs.Files.{IsFileOf, good_file}
+use Rattle.dv_chain.specs.Files.{good_file}
 use Rattle.dv_chain.proofs.Joins.{both_applied, too_late}
 use Rattle.dv_chain.proofs.joining.from_nothing.Goals as goal
 

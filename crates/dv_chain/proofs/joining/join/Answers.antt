@@ -1,1 +1,0 @@
-use Rattle.dv_chain.proofs.joining.join.Goals as goal

@@ -1,7 +1,7 @@
 use Rattle.std.proofs.Common.{◌≡◌, ◌⊎◌, ◌∙◌, ◌++◌, ◌||◌, true, List, ℕ, Some, ap, sym, subst, take, length, nat_eq, nat_le, ◌≤◌}
 use Rattle.std.specs.Prelude.{slice_index}
 use Rattle.dv_shelf.specs.Crashes.{LeavesOnly}
-use Rattle.dv_shelf.specs.Folders.{Folder, with_file}
+use Rattle.dv_shelf.specs.Folders.{with_file}
 use Rattle.dv_shelf.specs.declared.shelf.Name.TheVariants.{Log}
 use Rattle.dv_logfile.specs.Layout.{closing}
 use Rattle.dv_openings.specs.Openings.{mended}

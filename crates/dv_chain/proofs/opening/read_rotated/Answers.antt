@@ -1,1 +1,0 @@
-use Rattle.dv_chain.proofs.opening.read_rotated.Goals as goal

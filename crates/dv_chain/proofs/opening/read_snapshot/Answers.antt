@@ -1,1 +1,0 @@
-use Rattle.dv_chain.proofs.opening.read_snapshot.Goals as goal

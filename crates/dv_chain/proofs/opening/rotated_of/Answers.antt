@@ -1,4 +1,4 @@
-use Rattle.std.proofs.Common.{◌∙◌, List, refl, sym}
+use Rattle.std.proofs.Common.{◌∙◌, List, sym}
 use Rattle.dv_logfile.specs.Scans.{Spot}
 use Rattle.dv_chain.specs.Files.{HasSpots}
 use Rattle.dv_chain.proofs.Found.{rotated_apart, rotated_bad, rotated_joins}

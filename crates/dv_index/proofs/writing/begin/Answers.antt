@@ -9,7 +9,7 @@ use Rattle.dv_index.proofs.writing.begin.Goals as goal
 
 pub returns-clause-text : goal.returns-clause-text
 returns-clause-text c = λ rows has.
-    front_written (with_rows rows c.args.m.now) c.args.indexid c.args.mark c.as_slice.result.now c.write_header.new.out c.extend.new.self (search rules) (c.in_ok-write_header.ensures.text rows has ∙ ap (λ t. t ++ header_text 2 (with_rows rows c.args.m.now) c.args.indexid c.args.mark) c.new-text.ensures) (search rules)
+    front_written (with_rows rows c.args.m.now) c.args.indexid c.args.mark c.as_slice.result.now c.write_header.new.out c.extend.new.self (search rules) (c.in_ok-write_header.ensures.text rows has ∙ ap (λ t. t ++ header_text 2 (with_rows rows c.args.m.now) c.args.indexid c.args.mark) (c.from_vec-text.ensures ∙ c.in_ok-with_capacity.ensures.items)) (search rules)
 
 pub returns-clause-fits : goal.returns-clause-fits
 returns-clause-fits c = record {

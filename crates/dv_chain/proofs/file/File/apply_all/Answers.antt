@@ -1,4 +1,4 @@
-use Rattle.std.proofs.Common.{◌∙◌, List, ℕ, sym, subst}
+use Rattle.std.proofs.Common.{List, ℕ, sym, subst}
 use Rattle.dv_chain.specs.Walks.{IsLeft}
 use Rattle.dv_chain.proofs.Files.{all_applied, has_left}
 use Rattle.dv_chain.proofs.file.File.apply_all.Goals as goal

@@ -1,1 +1,0 @@
-use Rattle.dv_chain.proofs.file.File.read.Goals as goal
