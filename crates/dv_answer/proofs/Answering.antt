@@ -9,7 +9,7 @@ use Rattle.dv_model.specs.declared.types.Reply.{Reply}
 use Rattle.dv_model.specs.declared.types.Step.{Step}
 use Rattle.dv_model.specs.declared.types.Step.TheVariants.{Full}
 use Rattle.dv_model.specs.Journals.{Mail}
-use Rattle.dv_model.specs.Sessions.{Answer, State, answer, data_of, ending_of, is_select, step_of, told_of, uids_looked_at, view_before}
+use Rattle.dv_model.specs.Sessions.{Answer, State, answer, data_of, ending_of, gone_uid, is_select, step_of, told_of, view_before}
 use Rattle.dv_model.specs.Views.{View, empty_view, moved, said}
 use Rattle.dv_model.proofs.Clients.{false_is_not_true}
 use Rattle.dv_responses.specs.Damaged.{damaged_uids}
@@ -28,9 +28,9 @@ select_is (command.Store by_uid set how flags keywords since) e = false_is_not_t
 select_is (command.Search by_uid key) e = false_is_not_true e
 select_is (command.UidRemove set) e = false_is_not_true e
 
--- what SELECT looks at and takes, and what is damaged of that, has nothing to do with the view
-pub select_looks : (c : Command) → is_select c ≡ true → (v w : View) → uids_looked_at c v ≡ uids_looked_at c w
-select_looks c e v w = let is = select_is c e in rw is refl
+-- what SELECT takes, and what is gone or damaged of what it looks at, has nothing to do with the view
+pub select_gone : (c : Command) → is_select c ≡ true → (v w : View) (m : Mailbox) → gone_uid c v m ≡ gone_uid c w m
+select_gone c e v w m = let is = select_is c e in rw is refl
 
 pub select_met : (c : Command) → is_select c ≡ true → (v w : View) (m : Mailbox) → met_of c v m ≡ met_of c w m
 select_met c e v w m = let is = select_is c e in rw is refl

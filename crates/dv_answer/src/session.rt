@@ -18,8 +18,8 @@ use crate::numbers::missing_number;
 use dv_apply::Live;
 use dv_model::{Command, Mark, NoMemory, Reply, Step};
 use dv_responses::{
-    Met, Responses, add_data_lines, add_select_lines, damaged_among, data_room, ending, is_select,
-    step_of, uids_looked_at,
+    Met, Responses, add_data_lines, add_select_lines, damaged_among, data_room, ending, gone_uid,
+    is_select, step_of, uids_looked_at,
 };
 use dv_search::Mail;
 use dv_touched::Touched;
@@ -163,10 +163,10 @@ impl Session {
         Ok(())
     }
 
-    /// Moves the view on to the mailbox, behind so many entries of the log, and adds what is told of
-    /// the move, and then this last line. After `NoMemory`, which is the only error, the session is
-    /// as before. The time is that of the touched UIDs and of the lines; only where rows leave are
-    /// all gone through.
+    /// Moves the view on to the mailbox, behind so many entries of the log, and adds what is told
+    /// of the move, and then this last line. After `NoMemory`, which is the only error, the session
+    /// is as before. The time is that of the touched UIDs and of the lines; only where rows leave
+    /// are all gone through.
     pub fn move_on<R: Replies>(
         &mut self,
         live: &Live,
@@ -270,8 +270,8 @@ impl Session {
         ensures abreast { OnOk result (IsAbreast live.now.mailbox self.new) }
         ensures err { OnErr result (self.new ≡ self.old) }
     {
-        let looked_at = uids_looked_at(self.alloc, c, &self.view)?;
-        let last = ending(c, &looked_at, damaged, live, met, mark);
+        let gone = gone_uid(self.alloc, c, &self.view, live)?;
+        let last = ending(c, gone, damaged, live, met, mark);
         if is_select(c) {
             self.select(live, told, last, replies)
         } else {

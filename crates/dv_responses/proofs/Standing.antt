@@ -27,6 +27,11 @@ module _ (rows : List Shown) where
         is = ap (λ k. get_or rows k no_row) at ∙ get_or_default rows i no_row d.1 inside;
       })
 
+  -- the UIDs of rows by their numbers
+  pub uids_of_numbers : (numbers : List ℕ) → map (λ (row : ℕ × Shown). row.1.uid) (rows_at rows numbers) ≡ map (λ number. (row_at rows number).uid) numbers
+  uids_of_numbers [] = refl
+  uids_of_numbers (n ∷ ns) = ap (λ (uids : List ℕ). (row_at rows n).uid ∷ uids) (uids_of_numbers ns)
+
   as_they_stand : (xs : List (ℕ × Shown)) → AllByRecursion (StandsIn rows) xs → rows_at rows (map (λ row. row.0) xs) ≡ xs
   as_they_stand [] all = refl
   as_they_stand (x ∷ xs) all =

@@ -34,8 +34,8 @@ pub fn named(
     }
 }
 
-// The UID of the row of a message number, or 0 where there is no row.
-fn uid_at(rows: &[Shown], number: u32) -> u32
+/// The UID of the row of a message number, or 0 where there is no row.
+pub fn uid_at(rows: &[Shown], number: u32) -> u32
     ensures { result ≡ (row_at rows.now number).uid }
 {
     match rows.get(number.saturating_sub(1) as usize) {
@@ -49,7 +49,7 @@ pub fn uids_at(alloc: Global, rows: &[Shown], numbers: &[u32]) -> Result<List<u3
     ensures { IfOk result (λ uids.
         uids ≡ map (λ row. row.1.uid) (rows_at rows.now numbers.now)) }
 {
-    let mut uids = List::new(alloc);
+    let mut uids = List::from_vec(Vec::with_capacity(alloc, numbers.len())?);
     for number in numbers {
         uids.push(uid_at(rows, *number))?;
     }
@@ -60,7 +60,7 @@ pub fn uids_at(alloc: Global, rows: &[Shown], numbers: &[u32]) -> Result<List<u3
 pub fn all_uids(alloc: Global, rows: &[Shown]) -> Result<List<u32>, NoMemory>
     ensures { IfOk result (λ uids. uids ≡ map (λ row. row.uid) rows.now) }
 {
-    let mut uids = List::new(alloc);
+    let mut uids = List::from_vec(Vec::with_capacity(alloc, rows.len())?);
     for row in rows {
         uids.push(row.uid)?;
     }

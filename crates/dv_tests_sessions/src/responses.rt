@@ -2,8 +2,8 @@ use crate::mailboxes::live_of;
 use dv_apply::Live;
 use dv_model::{Boxed, Bytes, Command, End, How, Item, Key, List, Mark, NoMemory, Span};
 use dv_responses::{
-    add_data_lines, add_select_lines, asked_by, damaged_among, ending, facts_from, is_shallow,
-    meet, uids_looked_at,
+    add_data_lines, add_select_lines, asked_by, damaged_among, ending, facts_from, gone_uid,
+    is_shallow, meet, uids_looked_at,
 };
 use dv_script::replies_text;
 use dv_search::Mail;
@@ -59,7 +59,8 @@ fn answer(
         file_seq: 1,
         offset,
     };
-    lines.push(ending(c, &uids, damaged.as_slice(), live, taken, mark))?;
+    let gone = gone_uid(alloc, c, &view, live)?;
+    lines.push(ending(c, gone, damaged.as_slice(), live, taken, mark))?;
     replies_text(alloc, b"a", &lines)
 }
 

@@ -1,29 +1,27 @@
-use Rattle.std.proofs.Common.{◌≡◌, ◌∙◌, ℕ, List, Some, None, not, sym, ap}
-use Rattle.std.specs.Prelude.{filter, min, option_map}
+use Rattle.std.proofs.Common.{◌≡◌, ◌∙◌, ℕ, List, Some, None, sym, ap}
+use Rattle.std.specs.Prelude.{min, option_map}
 use Rattle.std.specs.List.{reduce}
 use Rattle.dv_model.specs.declared.types.Reply.TheVariants as reply
 use Rattle.dv_model.specs.declared.types.Word.{Word}
-use Rattle.dv_model.specs.Sessions.{appended_of, damaged_uid, gone_uid, has_uid, modified_of, uids_looked_at, word_of}
+use Rattle.dv_model.specs.Sessions.{appended_of, damaged_uid, gone_uid, modified_of, word_of}
 use Rattle.dv_responses.specs.declared.meeting.Met.{Met}
 use Rattle.dv_responses.proofs.Closing.{appended_is, ends_damaged, ends_done, smallest_is}
 use Rattle.dv_responses.proofs.endings.ending.Goals as goal
 
 pub returns-in-Some-smallest : goal.returns-in-Some-smallest
-returns-in-Some-smallest c = λ mail view met looked taken are.
+returns-in-Some-smallest c = λ mail view met gone taken are.
     let m = c.args.live.now.mailbox in
     let command = c.args.c.now in
-    let same : c.as_slice-uids.result.now ≡ uids_looked_at command view = c.as_slice-uids.ensures ∙ looked in
-    let none : gone_uid command view m ≡ None = ap (λ (us : List ℕ). reduce min (filter (λ uid. not (has_uid m uid)) us)) (sym same) ∙ sym c.first_gone.ensures ∙ c.in_default.is in
+    let none : gone_uid command view m ≡ None = sym gone ∙ c.in_default.is in
     let damaged : damaged_uid mail command view m ≡ Some c.in-Some-smallest.uid =
     smallest_is mail command view m ∙ ap (reduce min) (sym are) ∙ sym c.smallest.ensures ∙ c.in-Some-smallest.is in
     sym (ends_damaged mail command view m met c.args.mark c.in-Some-smallest.uid none damaged)
 
 pub returns : goal.returns
-returns c = λ mail view met looked taken are.
+returns c = λ mail view met gone taken are.
     let m = c.args.live.now.mailbox in
     let command = c.args.c.now in
-    let same : c.as_slice-uids.result.now ≡ uids_looked_at command view = c.as_slice-uids.ensures ∙ looked in
-    let none : gone_uid command view m ≡ None = ap (λ (us : List ℕ). reduce min (filter (λ uid. not (has_uid m uid)) us)) (sym same) ∙ sym c.first_gone.ensures ∙ c.in_default.is in
+    let none : gone_uid command view m ≡ None = sym gone ∙ c.in_default.is in
     let whole : damaged_uid mail command view m ≡ None =
     smallest_is mail command view m ∙ ap (reduce min) (sym are) ∙ sym c.smallest.ensures ∙ c.in_default-smallest.is in
     let appended : c.appended_in.result ≡ appended_of command met m = c.appended_in.ensures ∙ ap (λ (t : Met). option_map (λ uid. (m.uid_validity, uid)) t.appended) taken ∙ appended_is command view met m in
