@@ -63,7 +63,7 @@ impl<S: Shelf, C: Clock> Serial<S, C> {
     {
         let mut text = ReplyText::new(self.alloc, line.session);
         self.serve(session, &line.command, &mut text)?;
-        match out.write_all(text.as_slice()) {
+        match text.write_to(out) {
             Ok(()) => Ok(()),
             Err(_) => Err(LineEnd::Sink(out.faults())),
         }

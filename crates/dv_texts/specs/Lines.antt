@@ -11,6 +11,10 @@ pub record Lines : Type 0 where
   pub session : List ℕ
   pub text : List ℕ
 
+-- pieces of a text, one behind another
+abbrev pub joined : List (List ℕ) → List ℕ
+joined pieces = flat_map (λ piece. piece) pieces
+
 -- the lines of these replies behind the ones so far
 abbrev pub with_replies : Lines → List Reply → Lines
 with_replies t replies = record { session = t.session; text = t.text ++ flat_map (line_text t.session) replies }

@@ -3,6 +3,7 @@
 
 mod items;
 mod lines;
+mod pieces;
 mod reply_text;
 
 pub use reply_text::ReplyText;

@@ -1,14 +1,19 @@
-//! A session's replies, of which only the text is kept.
+//! A session's replies, of which only the text is kept, in pieces: a long one finds room between
+//! what else is in memory, and isn't copied where it grows.
 
-ghost use Rattle.std.specs.Prelude.{◌≡◌, [], length};
+ghost use Rattle.std.specs.Prelude.{◌≡◌, ◌++◌, [], OnOk, length};
+ghost use Rattle.dv_shelf.specs.Causes.{HasCause};
+ghost use Rattle.dv_shelf.specs.Streams.{Appends, AppendsFront};
 
 use crate::lines::{put_fetch_line, put_flags_line};
+use crate::pieces::{cut_pieces, write_pieces};
 use dv_apply::Live;
 use dv_keywords::Table;
 use dv_model::{Bytes, Item, NoMemory, Reply, Shown};
 use dv_responses::Responses;
 use dv_script::put_line;
 use dv_search::MailFacts;
+use dv_shelf::{Failed, Sink};
 use dv_view::Replies;
 use std::alloc::Global;
 use std::marker::Model;
@@ -17,8 +22,17 @@ use std::mem;
 // About what stands in a line around its session and the bytes of a message.
 const AROUND: usize = 56;
 
+// From so many bytes on a piece of the text is whole.
+const PIECE: usize = 32768;
+
+// The room of a piece, for most lines that pass its end.
+const PIECE_ROOM: usize = PIECE + 1024;
+
 // A message of so many bytes or more has its room alone, and not some for others too.
 const LARGE: usize = 65536;
+
+// The most bytes that whole pieces have in sum.
+const MOST: usize = 1 << 62;
 
 /// The text of the replies of a session, each on a line that begins with the session's name, while
 /// they are taken one by one. Contracts see the name and the text.
@@ -26,15 +40,22 @@ const LARGE: usize = 65536;
 pub struct ReplyText {
     alloc: Global,
     session: Bytes,
+    // The pieces that are whole, and how many bytes they have.
+    pieces: Vec<Bytes>,
+    whole: usize,
+    // The piece behind them.
     text: Bytes,
 }
 
 impl Model for ReplyText {
-    ghost use Rattle.dv_texts.specs.Lines.{Lines};
+    ghost use Rattle.std.specs.Prelude.{◌≡◌, ◌++◌, ◌≤◌, ◌^◌, length};
+    ghost use Rattle.dv_texts.specs.Lines.{Lines, joined};
 
     ghost Value = { Lines };
 
-    ghost view = { λ t. record { session = t.session; text = t.text } };
+    ghost view = { λ t. record { session = t.session; text = joined t.pieces.items ++ t.text } };
+
+    ghost invariant = { λ t. (t.whole ≡ length (joined t.pieces.items)) × (t.whole ≤ 2 ^ 62) };
 }
 
 impl ReplyText {
@@ -45,15 +66,60 @@ impl ReplyText {
         ReplyText {
             alloc,
             session,
+            pieces: Vec::new(alloc),
+            whole: 0,
             text: Bytes::new(alloc),
         }
     }
 
-    /// The lines so far.
-    pub fn as_slice(&self) -> &[u8]
-        ensures { result.now ≡ self.now.text }
+    /// Writes the lines so far, piece by piece, or after a failure some from the front.
+    pub fn write_to<O: Sink>(&self, out: &mut O) -> Result<(), Failed>
+        ensures ok { O.tells →
+            OnOk result (Appends (O.taken out.old) (O.taken out.new) self.now.text) }
+        ensures err { O.tells → AppendsFront (O.taken out.old) (O.taken out.new) self.now.text }
+        ensures cause { HasCause (O.fault_count out.old) (O.fault_count out.new) result }
     {
-        self.text.as_slice()
+        write_pieces(&self.pieces, out)?;
+        out.write_all(self.text.as_slice())
+    }
+
+    // Makes room for so many bytes in the last piece.
+    fn reserve(&mut self, room: usize) -> Result<(), NoMemory>
+        ensures { self.new ≡ self.old }
+    {
+        let mut text = mem::replace(&mut self.text, Bytes::new(self.alloc)).into_vec();
+        let reserved = text.reserve_exact(room);
+        self.text = Bytes::from_vec(text);
+        reserved?;
+        Ok(())
+    }
+
+    // Makes room for a message where it is large.
+    fn make_room(&mut self, facts: &MailFacts) -> Result<(), NoMemory>
+        ensures { self.new ≡ self.old }
+    {
+        match &facts.body {
+            Some(body) if body.len() >= LARGE => self.reserve(body.len().saturating_add(AROUND)),
+            _ => Ok(()),
+        }
+    }
+
+    // Begins another piece where the last one is whole.
+    fn settle(&mut self) -> Result<(), NoMemory>
+        ensures { OnOk result (self.new ≡ self.old) }
+    {
+        if self.text.len() < PIECE {
+            return Ok(());
+        }
+        let whole = self.whole.saturating_add(self.text.len());
+        if whole > MOST {
+            return Err(NoMemory);
+        }
+        let next = Bytes::from_vec(Vec::with_capacity(self.alloc, PIECE_ROOM)?);
+        let piece = mem::replace(&mut self.text, next);
+        self.pieces.push(piece)?;
+        self.whole = whole;
+        Ok(())
     }
 }
 
@@ -74,15 +140,12 @@ impl Replies for ReplyText {
             .saturating_add(1)
             .saturating_mul(line)
             .saturating_add(bytes);
-        let mut text = mem::replace(&mut self.text, Bytes::new(self.alloc)).into_vec();
-        let reserved = text.reserve_exact(room);
-        self.text = Bytes::from_vec(text);
-        reserved?;
-        Ok(())
+        self.reserve(room.min(PIECE_ROOM))
     }
 
     fn take(&mut self, reply: Reply) -> Result<(), NoMemory> {
-        put_line(&mut self.text, self.session.as_slice(), &reply)
+        put_line(&mut self.text, self.session.as_slice(), &reply)?;
+        self.settle()
     }
 
     fn take_flags(
@@ -93,16 +156,20 @@ impl Replies for ReplyText {
         s: &Shown,
     ) -> Result<(), NoMemory> {
         let session = self.session.as_slice();
-        put_flags_line(alloc, &mut self.text, session, names, number, s)
+        put_flags_line(alloc, &mut self.text, session, names, number, s)?;
+        self.settle()
     }
 
     fn length(&self) -> usize {
-        self.text.len()
+        self.whole + self.text.as_slice().len()
     }
 
     fn cut(&mut self, alloc: Global, length: usize) {
-        let mut text = mem::replace(&mut self.text, Bytes::new(alloc)).into_vec();
-        text.truncate(length);
+        let last = mem::replace(&mut self.text, Bytes::new(alloc));
+        let (whole, last) = cut_pieces(&mut self.pieces, self.whole, last, length);
+        let mut text = last.into_vec();
+        text.truncate(length.saturating_sub(whole));
+        self.whole = whole;
         self.text = Bytes::from_vec(text);
     }
 }
@@ -117,11 +184,7 @@ impl Responses for ReplyText {
         items: &[Item],
         facts: &MailFacts,
     ) -> Result<(), NoMemory> {
-        if let Some(body) = &facts.body {
-            if body.len() >= LARGE {
-                self.expect(1, body.len())?;
-            }
-        }
+        self.make_room(facts)?;
         let session = self.session.as_slice();
         put_fetch_line(
             alloc,
@@ -132,6 +195,7 @@ impl Responses for ReplyText {
             s,
             items,
             facts,
-        )
+        )?;
+        self.settle()
     }
 }
