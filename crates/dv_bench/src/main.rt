@@ -1,5 +1,5 @@
-//! Applies the records of a log to a live mailbox, and says how long it took; sessions may be told of
-//! each record. Or plays sessions over one log, whose steps come in any order.
+//! Applies the records of a log to a live mailbox, and says how long it took; sessions may be told
+//! of each record. Or plays sessions over one log, whose steps come in any order.
 #![tactic(auto)]
 
 mod fault;

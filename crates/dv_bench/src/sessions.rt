@@ -139,8 +139,8 @@ fn tell_all(
     Ok(lines)
 }
 
-/// Applies them all to a new mailbox. Behind the first so many of them, where there are as many, four
-/// sessions select it, and each is then told of each record by its NOOP.
+/// Applies them all to a new mailbox. Behind the first so many of them, where there are as many,
+/// four sessions select it, and each is then told of each record by its NOOP.
 pub fn time_sessions(rt: HostRuntime, records: &[Record], first: usize) -> Result<Told, Fault>
     requires { All IsRecord records.now }
 {

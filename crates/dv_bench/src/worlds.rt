@@ -133,8 +133,8 @@ fn time_in(rt: HostRuntime, world: &mut World, rows: u32) -> Result<Times, Fault
     Ok(Times { first, others })
 }
 
-/// A session appends so many messages to the mailbox of a new folder. Then a second one selects it, and
-/// both change a flag of the message in the middle by turns. The appends are timed first.
+/// A session appends so many messages to the mailbox of a new folder. Then a second one selects it,
+/// and both change a flag of the message in the middle by turns. The appends are timed first.
 pub fn time_world(rt: HostRuntime, rows: u32) -> Result<Times, Fault> {
     let alloc = rt.alloc();
     let mut world = run_events(alloc, &List::new(alloc))?;

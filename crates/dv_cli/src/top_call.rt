@@ -253,8 +253,8 @@ pub fn run<S: Shelf + Send, I: Source, O: Sink, C: Clock + Send, G: Gate + Sync>
         (C.upcoming clock) (S.files shelf) text }
 
     // The script is read for `run` alone, and at most one byte more than the longest script is. The
-    // clock is read once at most for a mailbox that is made, and twice at most for each line; not at
-    // all where the words, the script or the folder are refused, and once at most where the disk
+    // clock is read once at most for a mailbox that is made, and twice at most for each line; not
+    // at all where the words, the script or the folder are refused, and once at most where the disk
     // fails before the first line.
     ensures bound { (I.tells → TakesFront (I.left script.old) (I.left script.new))
         × ((HasScript (task_of (map string_bytes words.now)) → ⊥) → script.new ≡ script.old) }

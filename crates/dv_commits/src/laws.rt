@@ -9,8 +9,8 @@ pub fn rest_opens()
     ensures { RestOpens }
 {}
 
-/// Where nothing is owed, a chain that is opened equals the one that is kept, but for spare rows and
-/// hidden names.
+/// Where nothing is owed, a chain that is opened equals the one that is kept, but for spare rows
+/// and hidden names.
 pub fn opened_is_kept()
     ensures { OpenedAreKept }
 {}

@@ -123,7 +123,8 @@ impl<Y: System + Drop> Shelf for Folder<Y> {
         self.faults
     }
 
-    ghost leaves_files = { λ s tells. left_as_read (Y.disk s.files.system) (Y.readable s.files.system tells) };
+    ghost leaves_files = { λ s tells.
+        left_as_read (Y.disk s.files.system) (Y.readable s.files.system tells) };
 
     ghost counts_now = { λ s t c le left. Y.counts_now s.files.system t c le left };
 

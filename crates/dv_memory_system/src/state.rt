@@ -120,7 +120,8 @@ impl State {
     }
 
     fn removed(self, is_seen: bool) -> Result<State, NoMemory>
-        ensures { (at : At) → IsShown at self → IfOk result (IsShown (replaced_at is_seen Gone at)) }
+        ensures { (at : At) → IsShown at self →
+            IfOk result (IsShown (replaced_at is_seen Gone at)) }
     {
         self.replaced(Samples::none(), is_seen)
     }

@@ -128,8 +128,8 @@ fn read_sized(alloc: Global, b: &[u8]) -> Result<(Bytes, Reply, usize), ParseEnd
 }
 
 /// The reply whose line begins the bytes, with its session and the line's number of bytes, its line
-/// feed among them (RFC 3501, section 7); what follows is not looked at. `Bad` where the bytes begin
-/// with the line of no reply.
+/// feed among them (RFC 3501, section 7); what follows is not looked at. `Bad` where the bytes
+/// begin with the line of no reply.
 pub fn parse_reply(alloc: Global, b: &[u8]) -> Result<(Bytes, Reply, usize), ParseEnd>
     // What is read begins the bytes.
     ensures found { IfOk result (λ x. Begins x.0 x.1 x.2 b.now) }

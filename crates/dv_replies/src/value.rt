@@ -105,7 +105,8 @@ fn read_value(alloc: Global, b: &[u8]) -> Result<(Value, &[u8]), ParseEnd>
 
 /// Values with a space before each, and what stands behind them.
 pub(crate) fn read_values(alloc: Global, b: &[u8]) -> Result<(List<Value>, &[u8]), ParseEnd>
-    ensures { Gives (λ x. (x.0, x.1.now)) result (each_behind (32 ∷ []) value_at (length b.now) [] b.now) }
+    ensures { Gives (λ x. (x.0, x.1.now)) result
+        (each_behind (32 ∷ []) value_at (length b.now) [] b.now) }
 {
     let mut values = List::new(alloc);
     let mut rest = b;

@@ -34,8 +34,8 @@ impl<S: Shelf, C> Store<S, C> {
             RestKnows (S.files self.now.shelf) log self.now }
     {}
 
-    /// The message of a UID: `Gone` exactly where the mailbox has no such row, and `Damaged` exactly
-    /// where its message file is missing or not of the format. The file is read once.
+    /// The message of a UID: `Gone` exactly where the mailbox has no such row, and `Damaged`
+    /// exactly where its message file is missing or not of the format. The file is read once.
     pub fn body(&mut self, uid: u32) -> Result<BodyFound, StoreFault>
         // The message, as its file has it.
         ensures found { S.tells →
@@ -124,9 +124,9 @@ impl<S: Shelf, C> Store<S, C> {
         }
     }
 
-    /// What a command asks of the message of a UID. Where all of it can stand in the cache file, and
-    /// the row has a place there, the cache file is looked at first; a row that is found there costs
-    /// no read, and else its message file is read once.
+    /// What a command asks of the message of a UID. Where all of it can stand in the cache file,
+    /// and the row has a place there, the cache file is looked at first; a row that is found there
+    /// costs no read, and else its message file is read once.
     pub fn facts(&mut self, asked: &Asked, uid: u32) -> Result<FactsFound, StoreFault>
         // The facts are those of the message file, where the cache file is true.
         ensures found { S.tells → IsFileOf (S.files self.old.shelf) self.old.cache →

@@ -67,7 +67,8 @@ impl<S: Shelf, C> Store<S, C> {
         requires { All (IsFree self.old.chain.live.mailbox) uids.now }
         // The mailbox stays, and nothing is owed behind Ok.
         ensures value { PaysDebts self.old self.new result }
-        // Behind Ok the files are gone. All others stay, where nothing was owed those of the log too.
+        // Behind Ok the files are gone. All others stay, where nothing was owed those of the log
+        // too.
         ensures mails { S.tells → SweepsMails uids.now result
             (S.files self.old.shelf) (S.files self.new.shelf) }
         ensures log { S.tells → OwesNothing self.old →

@@ -18,8 +18,8 @@ pub trait Replies {
     /// How long it is.
     ghost size: { Self → ℕ };
 
-    /// Makes room for so many replies with so many bytes of messages in all, as far as it needs any.
-    /// `NoMemory` is the only error. Memory and time alone go by it.
+    /// Makes room for so many replies with so many bytes of messages in all, as far as it needs
+    /// any. `NoMemory` is the only error. Memory and time alone go by it.
     fn expect(&mut self, replies: usize, bytes: usize) -> Result<(), NoMemory>
         ensures { self.new ≡ self.old };
 

@@ -35,8 +35,8 @@ pub fn records_of(alloc: Global, logged: &[Logged]) -> Result<Vec<Record>, NoMem
     Ok(records)
 }
 
-/// Takes all the memory that these records need, which are those of entries. After `NoMemory`, which
-/// is the only error, the mailbox is as before.
+/// Takes all the memory that these records need, which are those of entries. After `NoMemory`,
+/// which is the only error, the mailbox is as before.
 pub fn ready(live: &mut Live, records: &[Record]) -> Result<Prepared, NoMemory>
     requires { All IsRecord records.now }
     ensures mailbox { live.new.mailbox ≡ live.old.mailbox }

@@ -57,8 +57,8 @@ fn answer(
         → OnOk result (seated seat.new ≡ (
           seat.old.number,
           answered (session_of seat.old) c.now
-              (answer (mail_of (map stored_of stored.now)) (state_of seat.old) c.now met seat.old.seen
-              seat.old.live.mailbox mark),
+              (answer (mail_of (map stored_of stored.now)) (state_of seat.old) c.now met
+              seat.old.seen seat.old.live.mailbox mark),
         )) }
     ensures live { seat.new.live ≡ seat.old.live }
     ensures abreast { IsAbreast seat.new.live.mailbox seat.new.session }
