@@ -10,7 +10,7 @@ of five such turns counts. Dovecot runs by itself, without a server, in sdbox fo
 mail_fsync=always, and its client waits for each answer. This program reads a script and syncs each
 command's group before it answers. Then, in the first directory, 200,000 NOOPs, and 2,000 and 42,000
 STOREs, over a mailbox of 100 messages and one of 100,000, less what SELECT alone takes, the shortest
-of nine runs of each in turn.
+of 25 runs of each in turn.
 
 Where Debian's dovecot-imapd isn't installed, or this isn't run as root, Dovecot is left out.
 """
@@ -111,7 +111,7 @@ def filled(program, place, rows):
 def shortest(program, box, commands):
     """The seconds of some commands over a folder, less those of SELECT alone."""
     times = ([], [])
-    for _ in range(9):
+    for _ in range(25):
         for kept, script in zip(times, (b"", commands)):
             kept.append(play(program, box, b"a SELECT\n" + script))
     return min(times[1]) - min(times[0])
