@@ -3,7 +3,7 @@
 
 Usage: bench/beside_dovecot.py PROGRAM [DIRECTORY..]
 
-PROGRAM is the built binary, crates/dv_cli/out/dv_cli. In each DIRECTORY (/dev/shm and /var/tmp where
+PROGRAM is the built binary, crates/sdbox/out/sdbox. In each DIRECTORY (/dev/shm and /var/tmp where
 none is given: a file system in memory, and one on a disk) both programs in turn append 1,000 small
 messages to a new mailbox and then add a flag to one message after another, 10,000 times; the median
 of five such turns counts. Dovecot runs by itself, without a server, in sdbox format and with

@@ -3,7 +3,7 @@
 
 Usage: bench/from_dovecot.py PROGRAM [DIRECTORY]
 
-PROGRAM is the built binary, crates/dv_cli/out/dv_cli. In DIRECTORY (/dev/shm where none is given)
+PROGRAM is the built binary, crates/sdbox/out/sdbox. In DIRECTORY (/dev/shm where none is given)
 Dovecot's own imap makes an sdbox mailbox: messages of different line ends and sizes, flags and
 keywords, and three messages that were expunged, the last among them. What it lists is kept for
 comparison, and the folder with the message files is copied. The program is to refuse the copy and
@@ -25,6 +25,7 @@ import tempfile
 import time
 
 import dovecot
+from mailboxes import last_line, replies_in
 
 # APPENDed in this order; those of the places in GOING are expunged
 MESSAGES = (
@@ -43,7 +44,6 @@ MESSAGES = (
     (b"", b"Subject: the last, goes\r\n\r\n"),
 )
 GOING = (4, 7, 12)
-LITERAL = re.compile(rb"\{(\d+)\}$")
 ITEMS = re.compile(rb"\* \d+ FETCH \(UID (\d+) FLAGS \(([^)]*)\) RFC822.SIZE (\d+) MODSEQ \((\d+)\) BODY\[\] ")
 
 # settings by which a small mailbox gets a snapshot, and by which its log is rotated
@@ -227,28 +227,9 @@ def stored(folder, uid):
     return text[30:][: int(text[13:29], 16)]
 
 
-def last_line(said):
-    return said[-200:].decode(errors="replace").rstrip("\n").split("\n")[-1]
-
-
 def obey(program, folder, word, script=b""):
     done = subprocess.run([program, folder, word], input=script, capture_output=True, check=False)
     return done.returncode, done.stdout
-
-
-def replies_in(output, session=b"a"):
-    """The replies of a session: each line without its literals, and these."""
-    at = 0
-    while at < len(output):
-        end = output.index(b"\n", at)
-        line, literals, at = output[at:end], [], end + 1
-        while found := LITERAL.search(line):
-            size = int(found[1])
-            end = output.index(b"\n", at + size)
-            literals.append(output[at : at + size])
-            line, at = line + output[at + size : end], end + 1
-        if line.startswith(session + b" "):
-            yield line[len(session) + 1 :], literals
 
 
 SHOW = b"a SELECT\na UID FETCH 1:* (FLAGS RFC822.SIZE MODSEQ BODY[])\n"

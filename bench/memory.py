@@ -3,7 +3,7 @@
 
 Usage: bench/memory.py PROGRAM [DIRECTORY]
 
-PROGRAM is the built binary, crates/dv_cli/out/dv_cli. Folders and scripts are made in DIRECTORY
+PROGRAM is the built binary, crates/sdbox/out/sdbox. Folders and scripts are made in DIRECTORY
 (/dev/shm where none is given). Each line of the table is one run: the largest part of its memory that
 was resident at once, the time, and what the run has: the bytes of its script, the rows of the mailbox,
 the rows that its sessions are shown, and the bytes of the messages that one command reads or adds (of

@@ -3,7 +3,7 @@
 
 Usage: bench/refused_allocations.py PROGRAM [DIRECTORY]
 
-PROGRAM is the built binary, crates/dv_cli/out/dv_cli. Folders are made in DIRECTORY (/dev/shm where none is
+PROGRAM is the built binary, crates/sdbox/out/sdbox. Folders are made in DIRECTORY (/dev/shm where none is
 given). gcc makes a library that answers the n-th allocation as one that the system refuses; it is loaded
 before the C library. The script has commands of every kind, over a mailbox of two messages.
 

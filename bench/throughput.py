@@ -3,7 +3,7 @@
 
 Usage: bench/throughput.py PROGRAM [DIRECTORY]
 
-PROGRAM is the built binary, crates/dv_cli/out/dv_cli. The folders are made in DIRECTORY, which
+PROGRAM is the built binary, crates/sdbox/out/sdbox. The folders are made in DIRECTORY, which
 is /dev/shm (a file system in memory) where none is given. Each run is one SELECT and n APPENDs
 of no bytes and without a flag, and the shortest of five runs counts; the time for an APPEND is to stay about the
 same from n to 10 n.

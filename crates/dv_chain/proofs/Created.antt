@@ -30,6 +30,7 @@ use Rattle.dv_chain.specs.Rest.{HoldsAlone, Nothing, Rests}
 use Rattle.dv_chain.proofs.Joins.{nothing_first}
 use Rattle.dv_chain.proofs.Rests.{holds_good}
 use Rattle.dv_chain.proofs.Spots.{spots_give}
+use Rattle.dv_shelf.specs.Sees.{SeesFolder}
 
 -- ---- the first log
 
@@ -147,8 +148,8 @@ first_bounds n chain some is =
     let count : chain.log.count ≡ 1 = ap (λ (l : LogFile). l.count) is.log in
     record { end = omega (arith, end); count = omega (arith, end, count); named = omega (arith, some, is.indexid) }
 
-pub created_rests : {S : Type 0} (files : S → Folder) (may_leave : S → Folder → Type 0) (now : S) (n : ℕ) (chain : Chain) → 1 ≤ n → IsFirst n chain → HoldsAlone chain (files now) → Only (files now) (may_leave now) → Rests may_leave Nothing chain now
-created_rests files may_leave now n chain some is alone only =
+pub created_rests : {S : Type 0} (sees : SeesFolder S) (now : S) (n : ℕ) (chain : Chain) → 1 ≤ n → IsFirst n chain → HoldsAlone chain (sees.files now) → Only (sees.files now) (sees.may_leave now) → Rests sees Nothing chain now
+created_rests sees now n chain some is alone only =
     record {
       bounds = first_bounds n chain some is;
       owes = ap (λ (l : LogFile). l.debt) is.log;

@@ -14,6 +14,7 @@ use Rattle.dv_chain.specs.Files.{good_file}
 use Rattle.dv_chain.specs.Openings.{IsChainOf, IsLogOf, IsMended, IsQuiet, LeavesFolder, LeavesMended, OnlyLooks}
 use Rattle.dv_chain.proofs.Mended.{quiet}
 use Rattle.dv_chain.proofs.Shelves.{looked_then}
+use Rattle.dv_shelf.specs.Sees.{SeesFolder}
 
 pub chain_of : (folder : Folder) (log : File) (is : IsLogOf folder log) (chain : Chain) → chain.log.file_seq ≡ log.header.file_seq → chain.log.end ≡ log.end → chain.log.count ≡ log.count → chain.log.debt ≡ debt.None
     → chain.indexid ≡ log.header.indexid → chain.records ≡ log.header.initial_modseq → IsChainOf folder chain
@@ -37,14 +38,14 @@ fault_leaves old new log is (fault.BadRecord offset) leaves = absurd leaves
 fault_leaves old new log is fault.BadIndex leaves = absurd leaves
 fault_leaves old new log is (fault.Gap index mark) leaves = absurd leaves
 
-module _ {S : Type 0} (files : S → Folder) (may_leave : S → Folder → Type 0) (moment : S → ℕ) (left_since : S → ℕ → Folder → Type 0) where
-  pub opened_quiet : (old mid new : S) (log : File) (is : IsLogOf (files old) log) → Only (files old) (may_leave old) → OnlyLooks files may_leave moment left_since old mid
-      → LeavesOnly moment left_since mid new (IsMended (files mid) log) → LeavesOnly moment left_since old new (IsQuiet (files old))
+module _ {S : Type 0} (sees : SeesFolder S) where
+  pub opened_quiet : (old mid new : S) (log : File) (is : IsLogOf (sees.files old) log) → Only (sees.files old) (sees.may_leave old) → OnlyLooks sees old mid
+      → LeavesOnly sees mid new (IsMended (sees.files mid) log) → LeavesOnly sees old new (IsQuiet (sees.files old))
   opened_quiet old mid new log is only looks since =
-      looked_then files may_leave moment left_since old mid new (IsQuiet (files old)) only (quiet (files old) (files old) log is (inl refl)) looks
-      (weaker moment left_since mid new (IsMended (files mid) log) (IsQuiet (files old)) since
-      (λ c mend. quiet (files old) c log is (subst (λ (d : Folder). IsMended d log c) looks.same mend)))
+      looked_then sees old mid new (IsQuiet (sees.files old)) only (quiet (sees.files old) (sees.files old) log is (inl refl)) looks
+      (weaker sees mid new (IsMended (sees.files mid) log) (IsQuiet (sees.files old)) since
+      (λ c mend. quiet (sees.files old) c log is (subst (λ (d : Folder). IsMended d log c) looks.same mend)))
 
   -- the log is there behind the looks
-  pub still_there : (old mid : S) (log : File) → IsLogOf (files old) log → OnlyLooks files may_leave moment left_since old mid → files mid name.Log ≡ Some log.bytes
+  pub still_there : (old mid : S) (log : File) → IsLogOf (sees.files old) log → OnlyLooks sees old mid → sees.files mid name.Log ≡ Some log.bytes
   still_there old mid log is looks = ap (λ (d : Folder). d name.Log) looks.same ∙ is.file

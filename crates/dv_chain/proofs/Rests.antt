@@ -16,6 +16,7 @@ use Rattle.dv_chain.specs.declared.file.File.{File}
 use Rattle.dv_chain.specs.Openings.{HasBounds, IsChainOf, IsLogOf, LeavesMended, found_of}
 use Rattle.dv_chain.specs.Rest.{Holds, HoldsAlone, Nothing, Rests, cut_at}
 use Rattle.dv_chain.proofs.Mended.{cut_good, ends_of, found_again}
+use Rattle.dv_shelf.specs.Sees.{SeesFolder}
 
 -- ---- the records of a good file
 
@@ -126,10 +127,10 @@ opened_put old mid new log is same leaves =
     leaves ∙ ap (λ (d : Folder). with_file d name.Log (Some (mended log.bytes log.end))) same
     ∙ ap (λ (x : Option (List ℕ)). with_file old name.Log (Some (mended (unwrap_or x []) log.end))) (sym is.file)
 
-pub opened_rests : {S : Type 0} (files : S → Folder) (may_leave : S → Folder → Type 0) (old new : S) (chain : Chain) → IsChainOf (files old) chain → HasBounds chain → IsFound (files old) (found_of chain)
-    → files new ≡ with_file (files old) name.Log (Some (mended (contents (files old) name.Log) chain.log.end)) → Only (files new) (may_leave new) → Rests may_leave Nothing chain new
-opened_rests files may_leave old new chain is bounds found put only = record {
+pub opened_rests : {S : Type 0} (sees : SeesFolder S) (old new : S) (chain : Chain) → IsChainOf (sees.files old) chain → HasBounds chain → IsFound (sees.files old) (found_of chain)
+    → sees.files new ≡ with_file (sees.files old) name.Log (Some (mended (contents (sees.files old) name.Log) chain.log.end)) → Only (sees.files new) (sees.may_leave new) → Rests sees Nothing chain new
+opened_rests sees old new chain is bounds found put only = record {
   bounds = bounds;
   owes = is.debt;
-  each = λ c left. opened_image (files old) c chain is bounds found (only c left ∙ put);
+  each = λ c left. opened_image (sees.files old) c chain is bounds found (only c left ∙ put);
 }

@@ -13,6 +13,7 @@ use Rattle.dv_shelf.proofs.FolderLemmas.{with_else}
 use Rattle.dv_shelf.proofs.Moments.{goes_on, joined, started, weaker}
 use Rattle.dv_chain.specs.Openings.{HasCause, OnlyLooks}
 use Rattle.dv_chain.specs.Walks.{NoDisk, OnDisk}
+use Rattle.dv_shelf.specs.Sees.{SeesFolder}
 
 -- folders with the same files
 pub same_folders : (c old : Folder) → c name.Log ≡ old name.Log → ((n : Name) → n ≢ name.Log → c n ≡ old n) → c ≡ old
@@ -71,17 +72,17 @@ cause_still {A = A} before now first result cause none = record { later = cause.
     by_result (Err (fault.Gap index log)) none = tt
     by_result (Ok x) none = tt
 
-module _ {S : Type 0} (files : S → Folder) (may_leave : S → Folder → Type 0) (moment : S → ℕ) (left_since : S → ℕ → Folder → Type 0) where
+module _ {S : Type 0} (sees : SeesFolder S) where
   abbrev Looks : S → S → Type 0
-  Looks old new = OnlyLooks files may_leave moment left_since old new
+  Looks old new = OnlyLooks sees old new
 
   -- one read
-  pub looked : (old new : S) → ((c : Folder) → left_since old (moment old) c → may_leave old c) → files new ≡ files old → FollowsNone (may_leave old) (may_leave new)
-      → Elapses (moment old) (moment new) (left_since old) (left_since new) (may_leave new) → Looks old new
+  pub looked : (old new : S) → ((c : Folder) → sees.left_since old (sees.moment old) c → sees.may_leave old c) → sees.files new ≡ sees.files old → FollowsNone (sees.may_leave old) (sees.may_leave new)
+      → Elapses (sees.moment old) (sees.moment new) (sees.left_since old) (sees.left_since new) (sees.may_leave new) → Looks old new
   looked old new only same none time = record {
     same = same;
     crash = none;
-    since = goes_on moment left_since old old new (may_leave old) (may_leave new) (started moment left_since old (may_leave old) only) time none;
+    since = goes_on sees old old new (sees.may_leave old) (sees.may_leave new) (started sees old (sees.may_leave old) only) time none;
   }
 
   -- a look and the next
@@ -89,41 +90,41 @@ module _ {S : Type 0} (files : S → Folder) (may_leave : S → Folder → Type 
   looked_both old mid new one two = record {
     same = two.same ∙ one.same;
     crash = λ c left. one.crash c (two.crash c left);
-    since = joined moment left_since old mid new (may_leave old) one.since (weaker moment left_since mid new (may_leave mid) (may_leave old) two.since one.crash);
+    since = joined sees old mid new (sees.may_leave old) one.since (weaker sees mid new (sees.may_leave mid) (sees.may_leave old) two.since one.crash);
   }
 
   -- what was settled still is
-  pub settled_still : (old new : S) → Only (files old) (may_leave old) → Looks old new → Only (files new) (may_leave new)
+  pub settled_still : (old new : S) → Only (sees.files old) (sees.may_leave old) → Looks old new → Only (sees.files new) (sees.may_leave new)
   settled_still old new only looks c left = only c (looks.crash c left) ∙ sym looks.same
 
   -- a look, and what comes behind it
-  pub looked_then : (old mid new : S) (P : Folder → Type 0) → Only (files old) (may_leave old) → P (files old) → Looks old mid → LeavesOnly moment left_since mid new P → LeavesOnly moment left_since old new P
+  pub looked_then : (old mid new : S) (P : Folder → Type 0) → Only (sees.files old) (sees.may_leave old) → P (sees.files old) → Looks old mid → LeavesOnly sees mid new P → LeavesOnly sees old new P
   looked_then old mid new P only here looks since =
-      joined moment left_since old mid new P
-      (weaker moment left_since old mid (may_leave old) P looks.since (λ c left. subst P (sym (only c left)) here)) since
+      joined sees old mid new P
+      (weaker sees old mid (sees.may_leave old) P looks.since (λ c left. subst P (sym (only c left)) here)) since
 
-  pub looked_only : (old new : S) (P : Folder → Type 0) → Only (files old) (may_leave old) → P (files old) → Looks old new → LeavesOnly moment left_since old new P
-  looked_only old new P only here looks = weaker moment left_since old new (may_leave old) P looks.since (λ c left. subst P (sym (only c left)) here)
+  pub looked_only : (old new : S) (P : Folder → Type 0) → Only (sees.files old) (sees.may_leave old) → P (sees.files old) → Looks old new → LeavesOnly sees old new P
+  looked_only old new P only here looks = weaker sees old new (sees.may_leave old) P looks.since (λ c left. subst P (sym (only c left)) here)
 
   -- nothing was called
-  pub nothing_since : (old : S) (P : Folder → Type 0) → ((c : Folder) → left_since old (moment old) c → may_leave old c) → Only (files old) (may_leave old) → P (files old) → LeavesOnly moment left_since old old P
-  nothing_since old P now only here = started moment left_since old P (λ c left. subst P (sym (only c (now c left))) here)
+  pub nothing_since : (old : S) (P : Folder → Type 0) → ((c : Folder) → sees.left_since old (sees.moment old) c → sees.may_leave old c) → Only (sees.files old) (sees.may_leave old) → P (sees.files old) → LeavesOnly sees old old P
+  nothing_since old P now only here = started sees old P (λ c left. subst P (sym (only c (now c left))) here)
 
   -- the log was replaced, or the call failed
-  pub replaced_since : (old new : S) (file : Option (List ℕ)) → ((c : Folder) → left_since old (moment old) c → may_leave old c) → Only (files old) (may_leave old)
-      → Elapses (moment old) (moment new) (left_since old) (left_since new) (may_leave new) → Follows (ChangesOnly name.Log (IsEither file)) (may_leave old) (may_leave new)
-      → LeavesOnly moment left_since old new (λ c. (c ≡ files old) ⊎ (c ≡ with_file (files old) name.Log file))
+  pub replaced_since : (old new : S) (file : Option (List ℕ)) → ((c : Folder) → sees.left_since old (sees.moment old) c → sees.may_leave old c) → Only (sees.files old) (sees.may_leave old)
+      → Elapses (sees.moment old) (sees.moment new) (sees.left_since old) (sees.left_since new) (sees.may_leave new) → Follows (ChangesOnly name.Log (IsEither file)) (sees.may_leave old) (sees.may_leave new)
+      → LeavesOnly sees old new (λ c. (c ≡ sees.files old) ⊎ (c ≡ with_file (sees.files old) name.Log file))
   replaced_since old new file now only time follows =
-      goes_on moment left_since old old new (λ c. (c ≡ files old) ⊎ (c ≡ with_file (files old) name.Log file)) (may_leave new)
-      (nothing_since old (λ c. (c ≡ files old) ⊎ (c ≡ with_file (files old) name.Log file)) now only (inl refl)) time
+      goes_on sees old old new (λ c. (c ≡ sees.files old) ⊎ (c ≡ with_file (sees.files old) name.Log file)) (sees.may_leave new)
+      (nothing_since old (λ c. (c ≡ sees.files old) ⊎ (c ≡ with_file (sees.files old) name.Log file)) now only (inl refl)) time
       (λ c left.
       let from = follows c left in
-      either_put (files old) c file (subst (λ (d : Folder). ChangesOnly name.Log (IsEither file) d c) (only from.0 from.1) from.2))
+      either_put (sees.files old) c file (subst (λ (d : Folder). ChangesOnly name.Log (IsEither file) d c) (only from.0 from.1) from.2))
 
   -- behind Ok it is durable
-  pub replaced_settled : (old new : S) (file : Option (List ℕ)) → Only (files old) (may_leave old) → files new ≡ with_file (files old) name.Log file
-      → Follows (ChangesOnly name.Log (IsEither file)) (may_leave old) (may_leave new) → ((c : Folder) → may_leave new c → c name.Log ≡ file) → Only (files new) (may_leave new)
+  pub replaced_settled : (old new : S) (file : Option (List ℕ)) → Only (sees.files old) (sees.may_leave old) → sees.files new ≡ with_file (sees.files old) name.Log file
+      → Follows (ChangesOnly name.Log (IsEither file)) (sees.may_leave old) (sees.may_leave new) → ((c : Folder) → sees.may_leave new c → c name.Log ≡ file) → Only (sees.files new) (sees.may_leave new)
   replaced_settled old new file only is follows durable c left =
       let from = follows c left in
       let step = subst (λ (d : Folder). ChangesOnly name.Log (IsEither file) d c) (only from.0 from.1) from.2 in
-      log_put (files old) c file (durable c left) step.others ∙ sym is
+      log_put (sees.files old) c file (durable c left) step.others ∙ sym is

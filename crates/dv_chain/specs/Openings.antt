@@ -22,6 +22,7 @@ use Rattle.dv_chain.specs.declared.index.Index.{Index}
 use Rattle.dv_chain.specs.declared.opening.Files.{Files}
 use Rattle.dv_chain.specs.Walks.{OnDisk}
 use Rattle.dv_chain.specs.Files.{HasHeader, HasSpots, IsFileOf, IsWhole, good_file, snapshot_in}
+use Rattle.dv_shelf.specs.Sees.{SeesFolder}
 
 -- what a fault says is found; where memory ran out or the disk failed nothing is said
 abbrev pub FaultFound : OpenFault → (Found → Type 0) → Type 0
@@ -85,12 +86,11 @@ pub record HasCause {A : Type 0} (before now : ℕ) (result : Result A OpenFault
   pub rose : OnDisk result (λ faults. (faults ≡ now) × Rose before now)
 
 -- Nothing was changed: the files are as they were, and a crash leaves and left nothing more. It
--- takes the members of a shelf's type.
-pub record OnlyLooks {S : Type 0} (files : S → Folder) (may_leave : S → Folder → Type 0)
-    (moment : S → ℕ) (left_since : S → ℕ → Folder → Type 0) (old new : S) : Type 0 where
-  pub same : files new ≡ files old
-  pub crash : FollowsNone (may_leave old) (may_leave new)
-  pub since : LeavesOnly moment left_since old new (may_leave old)
+-- takes what a shelf shows.
+pub record OnlyLooks {S : Type 0} (sees : SeesFolder S) (old new : S) : Type 0 where
+  pub same : sees.files new ≡ sees.files old
+  pub crash : FollowsNone (sees.may_leave old) (sees.may_leave new)
+  pub since : LeavesOnly sees old new (sees.may_leave old)
 
 -- memory ran out, or the disk failed
 abbrev pub IsOutside : OpenFault → Type 0

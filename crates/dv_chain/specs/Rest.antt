@@ -16,6 +16,7 @@ use Rattle.dv_openings.specs.Numbers.{OpensAs}
 use Rattle.dv_openings.specs.Openings.{Finds, IsFound}
 use Rattle.dv_chain.specs.declared.chain.Chain.{Chain}
 use Rattle.dv_chain.specs.Openings.{HasBounds, found_of}
+use Rattle.dv_shelf.specs.Sees.{SeesFolder}
 
 -- ---- what is owed
 
@@ -57,8 +58,8 @@ abbrev pub cut_at : ℕ → Folder → Folder
 cut_at end folder =
     with_file folder name.Log (Some (take end (contents folder name.Log) ++ closing))
 
--- The folder's log begins with that of the chain, and cut at the chain's end it opens to the chain's
--- mailbox.
+-- The folder's log begins with that of the chain, and cut at the chain's end it opens to the
+-- chain's mailbox.
 pub record Holds (chain : Chain) (folder : Folder) : Type 0 where
   pub stands : StandsOn folder chain
   pub opens : IsFound (cut_at chain.log.end folder) (found_of chain)
@@ -83,9 +84,9 @@ IsResting (Last log after) chain c =
     × OpensAs (with_file c name.Log (Some log)) chain.indexid (Finds after (next_mark chain))
 
 -- A chain is at rest where each folder that a crash now may leave is so; the files as they are read
--- are one of these. It takes the shelf's member `may_leave`.
-pub record Rests {S : Type 0} (may_leave : S → Folder → Type 0) (owed : Owed) (chain : Chain)
+-- are one of these. It takes what the shelf shows.
+pub record Rests {S : Type 0} (sees : SeesFolder S) (owed : Owed) (chain : Chain)
     (shelf : S) : Type 0 where
   pub bounds : HasBounds chain
   pub owes : Owes chain owed
-  pub each : (c : Folder) → may_leave shelf c → IsResting owed chain c
+  pub each : (c : Folder) → sees.may_leave shelf c → IsResting owed chain c

@@ -85,24 +85,26 @@ fn first_chain(alloc: Global, indexid: u32) -> Chain
 pub fn create<S: Shelf>(alloc: Global, shelf: &mut S, now: u32) -> Result<Chain, OpenFault>
     // What is answered is found, the chain stands on the log and is within its bounds.
     ensures first { IfOk result (λ chain. IsFirst (stamp_of now) chain × HasBounds chain) }
-    ensures found { S.tells → HasNone (S.files shelf.old) →
-        IfOk result (λ chain. IsFound (S.files shelf.new) (found_of chain)) }
-    ensures chain { S.tells → IfOk result (IsChainOf (S.files shelf.new)) }
+    ensures found { S.sees.tells → HasNone (S.sees.files shelf.old) →
+        IfOk result (λ chain. IsFound (S.sees.files shelf.new) (found_of chain)) }
+    ensures chain { S.sees.tells → IfOk result (IsChainOf (S.sees.files shelf.new)) }
     // What it leaves of the files, and what a crash leaves, at any moment and behind Ok.
-    ensures files { S.tells → LeavesCreated (S.files shelf.old) now (S.files shelf.new) result }
-    ensures since { S.tells → IsSettled S.files S.may_leave shelf.old →
-        LeavesOnly S.moment S.left_since shelf.old shelf.new
-        (IsOldOrCreated (S.files shelf.old) now) }
-    ensures settled { S.tells → IsSettled S.files S.may_leave shelf.old →
-        OnOk result (IsSettled S.files S.may_leave shelf.new) }
+    ensures files { S.sees.tells →
+        LeavesCreated (S.sees.files shelf.old) now (S.sees.files shelf.new)
+        result }
+    ensures since { S.sees.tells → IsSettled S.sees shelf.old →
+        LeavesOnly S.sees shelf.old shelf.new
+        (IsOldOrCreated (S.sees.files shelf.old) now) }
+    ensures settled { S.sees.tells → IsSettled S.sees shelf.old →
+        OnOk result (IsSettled S.sees shelf.new) }
     // Behind Ok the chain is at rest, and owes nothing.
-    ensures rests { S.tells → HasNone (S.files shelf.old) →
-        IsSettled S.files S.may_leave shelf.old →
-        IfOk result (λ chain. Rests S.may_leave Nothing chain shelf.new) }
+    ensures rests { S.sees.tells → HasNone (S.sees.files shelf.old) →
+        IsSettled S.sees shelf.old →
+        IfOk result (λ chain. Rests S.sees Nothing chain shelf.new) }
     // Errors, and no message file is read; a fault of the disk has its cause.
     ensures err { IfErr result IsOutside }
-    ensures mail_reads { S.mail_reads shelf.new ≡ S.mail_reads shelf.old }
-    ensures cause { HasCause (S.fault_count shelf.old) (S.fault_count shelf.new) result }
+    ensures mail_reads { S.sees.mail_reads shelf.new ≡ S.sees.mail_reads shelf.old }
+    ensures cause { HasCause (S.sees.fault_count shelf.old) (S.sees.fault_count shelf.new) result }
 {
     let indexid = now.max(1);
     let text = first_log(alloc, indexid)?;

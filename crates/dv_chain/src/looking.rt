@@ -10,13 +10,13 @@ use std::alloc::Global;
 
 /// The bytes of a file, or None where there is none.
 pub fn look<S: Shelf>(alloc: Global, shelf: &mut S, name: Name) -> Result<Option<Bytes>, OpenFault>
-    ensures found { S.tells → IfOk result (λ file. file ≡ S.files shelf.old name) }
+    ensures found { S.sees.tells → IfOk result (λ file. file ≡ S.sees.files shelf.old name) }
     ensures err { IfErr result IsOutside }
-    ensures looks { S.tells →
-        OnlyLooks S.files S.may_leave S.moment S.left_since shelf.old shelf.new }
-    ensures mail_reads { S.mail_reads shelf.new
-        ≡ counted (S.mail_reads shelf.old) (mail_reads_of name) }
-    ensures cause { HasCause (S.fault_count shelf.old) (S.fault_count shelf.new) result }
+    ensures looks { S.sees.tells →
+        OnlyLooks S.sees shelf.old shelf.new }
+    ensures mail_reads { S.sees.mail_reads shelf.new
+        ≡ counted (S.sees.mail_reads shelf.old) (mail_reads_of name) }
+    ensures cause { HasCause (S.sees.fault_count shelf.old) (S.sees.fault_count shelf.new) result }
 {
     match shelf.read(alloc, name) {
         Ok(file) => Ok(file),

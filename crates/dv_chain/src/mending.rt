@@ -40,16 +40,16 @@ pub fn closed(alloc: Global, bytes: &[u8], end: usize) -> Result<Bytes, OpenFaul
 /// Closes the end of the log where it has to be, by one replace.
 pub fn mend<S: Shelf>(alloc: Global, shelf: &mut S, log: &File) -> Result<(), OpenFault>
     requires { log.now.end ≤ length log.now.bytes }
-    ensures files { S.tells → S.files shelf.old Log ≡ Some log.now.bytes →
-        LeavesMended (S.files shelf.old) log.now (S.files shelf.new) result }
-    ensures since { S.tells → S.files shelf.old Log ≡ Some log.now.bytes →
-        IsSettled S.files S.may_leave shelf.old →
-        LeavesOnly S.moment S.left_since shelf.old shelf.new
-        (IsMended (S.files shelf.old) log.now) }
-    ensures settled { S.tells → IsSettled S.files S.may_leave shelf.old →
-        OnOk result (IsSettled S.files S.may_leave shelf.new) }
-    ensures mail_reads { S.mail_reads shelf.new ≡ S.mail_reads shelf.old }
-    ensures cause { HasCause (S.fault_count shelf.old) (S.fault_count shelf.new) result }
+    ensures files { S.sees.tells → S.sees.files shelf.old Log ≡ Some log.now.bytes →
+        LeavesMended (S.sees.files shelf.old) log.now (S.sees.files shelf.new) result }
+    ensures since { S.sees.tells → S.sees.files shelf.old Log ≡ Some log.now.bytes →
+        IsSettled S.sees shelf.old →
+        LeavesOnly S.sees shelf.old shelf.new
+        (IsMended (S.sees.files shelf.old) log.now) }
+    ensures settled { S.sees.tells → IsSettled S.sees shelf.old →
+        OnOk result (IsSettled S.sees shelf.new) }
+    ensures mail_reads { S.sees.mail_reads shelf.new ≡ S.sees.mail_reads shelf.old }
+    ensures cause { HasCause (S.sees.fault_count shelf.old) (S.sees.fault_count shelf.new) result }
 {
     if !is_open(log) {
         return Ok(());

@@ -31,13 +31,14 @@ pub struct Files {
 
 /// The log.
 fn read_log<S: Shelf>(alloc: Global, shelf: &mut S) -> Result<File, OpenFault>
-    ensures ok { S.tells → IfOk result (IsLogOf (S.files shelf.old)) }
-    ensures err { S.tells → IfErr result (λ e. FaultFound e (IsFound (S.files shelf.old))) }
+    ensures ok { S.sees.tells → IfOk result (IsLogOf (S.sees.files shelf.old)) }
+    ensures err { S.sees.tells →
+        IfErr result (λ e. FaultFound e (IsFound (S.sees.files shelf.old))) }
     ensures whole { IfOk result IsWhole }
-    ensures looks { S.tells →
-        OnlyLooks S.files S.may_leave S.moment S.left_since shelf.old shelf.new }
-    ensures mail_reads { S.mail_reads shelf.new ≡ counted (S.mail_reads shelf.old) 0 }
-    ensures cause { HasCause (S.fault_count shelf.old) (S.fault_count shelf.new) result }
+    ensures looks { S.sees.tells →
+        OnlyLooks S.sees shelf.old shelf.new }
+    ensures mail_reads { S.sees.mail_reads shelf.new ≡ counted (S.sees.mail_reads shelf.old) 0 }
+    ensures cause { HasCause (S.sees.fault_count shelf.old) (S.sees.fault_count shelf.new) result }
 {
     match look(alloc, shelf, Name::Log)? {
         Some(bytes) => File::read(bytes),
@@ -72,13 +73,14 @@ fn read_rotated<S: Shelf>(
     shelf: &mut S,
     log: &File,
 ) -> Result<Option<File>, OpenFault>
-    ensures ok { S.tells → IfOk result (IsRotatedOf (S.files shelf.old name.Log2) log.now) }
+    ensures ok { S.sees.tells →
+        IfOk result (IsRotatedOf (S.sees.files shelf.old name.Log2) log.now) }
     ensures err { IfErr result IsOutside }
     ensures whole { IfOk result (λ rotated. IfSome rotated HasHeader) }
-    ensures looks { S.tells →
-        OnlyLooks S.files S.may_leave S.moment S.left_since shelf.old shelf.new }
-    ensures mail_reads { S.mail_reads shelf.new ≡ counted (S.mail_reads shelf.old) 0 }
-    ensures cause { HasCause (S.fault_count shelf.old) (S.fault_count shelf.new) result }
+    ensures looks { S.sees.tells →
+        OnlyLooks S.sees shelf.old shelf.new }
+    ensures mail_reads { S.sees.mail_reads shelf.new ≡ counted (S.sees.mail_reads shelf.old) 0 }
+    ensures cause { HasCause (S.sees.fault_count shelf.old) (S.sees.fault_count shelf.new) result }
 {
     match look(alloc, shelf, Name::Log2)? {
         Some(bytes) => rotated_of(bytes, log),
@@ -110,13 +112,14 @@ fn read_snapshot<S: Shelf>(
     shelf: &mut S,
     log: &File,
 ) -> Result<Option<Index>, OpenFault>
-    ensures ok { S.tells → IfOk result (IsIndexOf (S.files shelf.old name.Index) log.now) }
+    ensures ok { S.sees.tells →
+        IfOk result (IsIndexOf (S.sees.files shelf.old name.Index) log.now) }
     ensures err { IfErr result IsOutside }
     ensures valid { IfOk result (λ index. IfSome index (λ i. IsValid i.mailbox)) }
-    ensures looks { S.tells →
-        OnlyLooks S.files S.may_leave S.moment S.left_since shelf.old shelf.new }
-    ensures mail_reads { S.mail_reads shelf.new ≡ counted (S.mail_reads shelf.old) 0 }
-    ensures cause { HasCause (S.fault_count shelf.old) (S.fault_count shelf.new) result }
+    ensures looks { S.sees.tells →
+        OnlyLooks S.sees shelf.old shelf.new }
+    ensures mail_reads { S.sees.mail_reads shelf.new ≡ counted (S.sees.mail_reads shelf.old) 0 }
+    ensures cause { HasCause (S.sees.fault_count shelf.old) (S.sees.fault_count shelf.new) result }
 {
     match look(alloc, shelf, Name::Index)? {
         Some(bytes) => counted_of(alloc, bytes.as_slice(), log),
@@ -126,13 +129,14 @@ fn read_snapshot<S: Shelf>(
 
 /// The files, each read only where no fault came before it.
 fn read_files<S: Shelf>(alloc: Global, shelf: &mut S) -> Result<Files, OpenFault>
-    ensures ok { S.tells → IfOk result (AreFilesOf (S.files shelf.old)) }
-    ensures err { S.tells → IfErr result (λ e. FaultFound e (IsFound (S.files shelf.old))) }
+    ensures ok { S.sees.tells → IfOk result (AreFilesOf (S.sees.files shelf.old)) }
+    ensures err { S.sees.tells →
+        IfErr result (λ e. FaultFound e (IsFound (S.sees.files shelf.old))) }
     ensures whole { IfOk result AreWhole }
-    ensures looks { S.tells →
-        OnlyLooks S.files S.may_leave S.moment S.left_since shelf.old shelf.new }
-    ensures mail_reads { S.mail_reads shelf.new ≡ counted (S.mail_reads shelf.old) 0 }
-    ensures cause { HasCause (S.fault_count shelf.old) (S.fault_count shelf.new) result }
+    ensures looks { S.sees.tells →
+        OnlyLooks S.sees shelf.old shelf.new }
+    ensures mail_reads { S.sees.mail_reads shelf.new ≡ counted (S.sees.mail_reads shelf.old) 0 }
+    ensures cause { HasCause (S.sees.fault_count shelf.old) (S.sees.fault_count shelf.new) result }
 {
     let log = read_log(alloc, shelf)?;
     let rotated = read_rotated(alloc, shelf, &log)?;
@@ -146,13 +150,15 @@ fn read_files<S: Shelf>(alloc: Global, shelf: &mut S) -> Result<Files, OpenFault
 
 /// The log, and the mailbox that the files give at its end.
 fn find<S: Shelf>(alloc: Global, shelf: &mut S) -> Result<(File, Live), OpenFault>
-    ensures ok { S.tells → IfOk result (λ x. IsEndOf (S.files shelf.old) x.0 x.1.mailbox) }
-    ensures err { S.tells → IfErr result (λ e. FaultFound e (IsFound (S.files shelf.old))) }
+    ensures ok { S.sees.tells →
+        IfOk result (λ x. IsEndOf (S.sees.files shelf.old) x.0 x.1.mailbox) }
+    ensures err { S.sees.tells →
+        IfErr result (λ e. FaultFound e (IsFound (S.sees.files shelf.old))) }
     ensures whole { IfOk result (λ x. IsWhole x.0) }
-    ensures looks { S.tells →
-        OnlyLooks S.files S.may_leave S.moment S.left_since shelf.old shelf.new }
-    ensures mail_reads { S.mail_reads shelf.new ≡ counted (S.mail_reads shelf.old) 0 }
-    ensures cause { HasCause (S.fault_count shelf.old) (S.fault_count shelf.new) result }
+    ensures looks { S.sees.tells →
+        OnlyLooks S.sees shelf.old shelf.new }
+    ensures mail_reads { S.sees.mail_reads shelf.new ≡ counted (S.sees.mail_reads shelf.old) 0 }
+    ensures cause { HasCause (S.sees.fault_count shelf.old) (S.sees.fault_count shelf.new) result }
 {
     let Files {
         log,
@@ -168,21 +174,22 @@ fn find<S: Shelf>(alloc: Global, shelf: &mut S) -> Result<(File, Live), OpenFaul
 /// end is closed by one replace. So a crash at any moment leaves a folder that opens to the same.
 pub fn open<S: Shelf>(alloc: Global, shelf: &mut S) -> Result<Chain, OpenFault>
     // What is answered is found, and the chain stands on the log.
-    ensures found { S.tells → Answers found_of result (IsFound (S.files shelf.old)) }
-    ensures chain { S.tells → IfOk result (IsChainOf (S.files shelf.old)) }
+    ensures found { S.sees.tells → Answers found_of result (IsFound (S.sees.files shelf.old)) }
+    ensures chain { S.sees.tells → IfOk result (IsChainOf (S.sees.files shelf.old)) }
     ensures bounds { IfOk result HasBounds }
     // What it leaves of the files, and what a crash leaves, at any moment and behind Ok.
-    ensures files { S.tells → LeavesFolder (S.files shelf.old) (S.files shelf.new) result }
-    ensures quiet { S.tells → IsSettled S.files S.may_leave shelf.old →
-        LeavesOnly S.moment S.left_since shelf.old shelf.new (IsQuiet (S.files shelf.old)) }
-    ensures settled { S.tells → IsSettled S.files S.may_leave shelf.old →
-        OnOk result (IsSettled S.files S.may_leave shelf.new) }
+    ensures files { S.sees.tells →
+        LeavesFolder (S.sees.files shelf.old) (S.sees.files shelf.new) result }
+    ensures quiet { S.sees.tells → IsSettled S.sees shelf.old →
+        LeavesOnly S.sees shelf.old shelf.new (IsQuiet (S.sees.files shelf.old)) }
+    ensures settled { S.sees.tells → IsSettled S.sees shelf.old →
+        OnOk result (IsSettled S.sees shelf.new) }
     // Behind Ok the chain is at rest, and owes nothing.
-    ensures rests { S.tells → IsSettled S.files S.may_leave shelf.old →
-        IfOk result (λ chain. Rests S.may_leave Nothing chain shelf.new) }
+    ensures rests { S.sees.tells → IsSettled S.sees shelf.old →
+        IfOk result (λ chain. Rests S.sees Nothing chain shelf.new) }
     // No message file is read; a fault of the disk has its cause.
-    ensures mail_reads { S.mail_reads shelf.new ≡ counted (S.mail_reads shelf.old) 0 }
-    ensures cause { HasCause (S.fault_count shelf.old) (S.fault_count shelf.new) result }
+    ensures mail_reads { S.sees.mail_reads shelf.new ≡ counted (S.sees.mail_reads shelf.old) 0 }
+    ensures cause { HasCause (S.sees.fault_count shelf.old) (S.sees.fault_count shelf.new) result }
 {
     let (log, live) = find(alloc, shelf)?;
     mend(alloc, shelf, &log)?;

@@ -8,7 +8,7 @@ use Rattle.dv_model.specs.Journals.{HasResets, IsU32, Log}
 use Rattle.dv_model.specs.Mailboxes.{IsValid}
 use Rattle.dv_shelf.specs.declared.shelf.Name.TheVariants as name
 use Rattle.dv_shelf.specs.Clocks.{behind}
-use Rattle.dv_shelf.specs.Folders.{Folder}
+use Rattle.dv_shelf.specs.Folders.{Folder, IsNew}
 use Rattle.dv_shelf.proofs.FolderLemmas.{with_else}
 use Rattle.dv_shelf.proofs.Moments.{weaker}
 use Rattle.dv_logfile.specs.declared.commit.LogFile.{LogFile}
@@ -24,11 +24,12 @@ use Rattle.dv_store.specs.States.{State}
 use Rattle.dv_cli.specs.Begins.{IsBegun}
 use Rattle.dv_cli.specs.Endings.{IsFault}
 use Rattle.dv_cli.specs.Runs.{IsUnopened, LeavesUnopened, MayLeave}
-use Rattle.dv_cli.specs.Starts.{IsNew, first_mark, new_log}
+use Rattle.dv_cli.specs.Starts.{first_mark, new_log}
 use Rattle.dv_cli.proofs.Opened.{fresh_owes, fresh_rests, start_may}
 use Rattle.dv_serial.specs.NextRuns.{IsTrueFolder}
 use Rattle.dv_cli.proofs.Leaving.{created_named, made_true}
 use Rattle.dv_cli.proofs.Starting.{IsTyped, keeps_none, sound_from}
+use Rattle.dv_shelf.specs.Sees.{SeesFolder, SeesTime}
 
 pub has_none : (folder : Folder) → IsNew folder → HasNone folder
 has_none folder new = record { index = new.index; log = new.log; log2 = new.log2 }
@@ -52,11 +53,11 @@ outside_none (fault.BadRecord offset) is found = absurd is
 outside_none fault.BadIndex is found = absurd is
 outside_none (fault.Gap index log) is found = absurd is
 
-module _ {S C : Type 0} (files : S → Folder) (may_leave : S → Folder → Type 0) (moment : S → ℕ) (left_since : S → ℕ → Folder → Type 0) (upcoming : C → ℕ → ℕ) (clock : ℕ → ℕ) (old : S) (new : IsNew (files old)) where
+module _ {S C : Type 0} (sees : SeesFolder S) (ticks : SeesTime C) (clock : ℕ → ℕ) (old : S) (new : IsNew (sees.files old)) where
   -- ---- a store
 
-  module _ (store : State S C) (first : IsFirst (stamp_of (clock 0)) store.chain) (found : IsFound (files store.shelf) (found_of store.chain)) (fresh : IsFresh store) (leaves : files store.shelf ≡ created (files old) (clock 0))
-      (quiet : OpensQuietly files may_leave moment left_since (λ (f : Folder). IsOldOrCreated f (clock 0)) old (Ok store)) (typed : IsTyped store.chain) (reads : upcoming store.clock ≡ behind clock 1) where
+  module _ (store : State S C) (first : IsFirst (stamp_of (clock 0)) store.chain) (found : IsFound (sees.files store.shelf) (found_of store.chain)) (fresh : IsFresh store) (leaves : sees.files store.shelf ≡ created (sees.files old) (clock 0))
+      (quiet : OpensQuietly sees (λ (f : Folder). IsOldOrCreated f (clock 0)) old (Ok store)) (typed : IsTyped store.chain) (reads : ticks.upcoming store.clock ≡ behind clock 1) where
     abbrev chain : Chain
     chain = store.chain
 
@@ -64,7 +65,7 @@ module _ {S C : Type 0} (files : S → Folder) (may_leave : S → Folder → Typ
     number = stamp_of (clock 0)
 
     abbrev start : Log
-    start = new_log (clock 0) (files old)
+    start = new_log (clock 0) (sees.files old)
 
     mailbox : first_mailbox number ≡ chain.live.mailbox
     mailbox = sym first.mailbox
@@ -72,35 +73,35 @@ module _ {S C : Type 0} (files : S → Folder) (may_leave : S → Folder → Typ
     mark : first_mark ≡ place_of chain
     mark = ap (λ (log : LogFile). record { file_seq = log.file_seq; offset = log.end }) (sym first.log)
 
-    gives : (c : Folder) → c ≡ created (files old) (clock 0) → Gives start start.start start.start_mark c
+    gives : (c : Folder) → c ≡ created (sees.files old) (clock 0) → Gives start start.start start.start_mark c
     gives c is = record {
-      named = created_named (files old) c (clock 0) (subst IsU32 first.indexid typed.indexid) is;
+      named = created_named (sees.files old) c (clock 0) (subst IsU32 first.indexid typed.indexid) is;
       opens = subst (λ (d : Folder). IsFound d (Finds (first_mailbox number) first_mark)) (leaves ∙ sym is)
-          (subst (λ (k : Mark). IsFound (files store.shelf) (Finds (first_mailbox number) k)) (sym mark) (subst (λ (m : Mailbox). IsFound (files store.shelf) (Finds m (place_of chain))) first.mailbox found));
+          (subst (λ (k : Mark). IsFound (sees.files store.shelf) (Finds (first_mailbox number) k)) (sym mark) (subst (λ (m : Mailbox). IsFound (sees.files store.shelf) (Finds m (place_of chain))) first.mailbox found));
       keeps = keeps_none start number c;
     }
 
-    may : (c : Folder) → IsOldOrCreated (files old) (clock 0) c → MayLeave (behind clock 1) start [] (files old) c
+    may : (c : Folder) → IsOldOrCreated (sees.files old) (clock 0) c → MayLeave (behind clock 1) start [] (sees.files old) c
     may c = ⊎_elim (λ same. inl (new, same)) (λ made. inr (start_may (behind clock 1) start c (gives c made)))
 
-    pub begun_made : IsBegun files may_leave moment left_since upcoming clock old store
+    pub begun_made : IsBegun sees ticks clock old store
     begun_made = record {
       start = start;
       used = 1;
       starts = inr (new, refl, refl);
-      sound = sound_from number (first_mailbox number) first_mark (files old) (subst IsValid first.mailbox typed.valid) (subst HasResets first.mailbox typed.resets) (omega arith, omega arith) (subst IsU32 first.indexid typed.indexid);
-      rests = fresh_rests files may_leave start store fresh (quiet.stands start (sym first.indexid) (subst (λ (m : Mailbox). Keeps start m (files old)) mailbox (keeps_none start number (files old))));
+      sound = sound_from number (first_mailbox number) first_mark (sees.files old) (subst IsValid first.mailbox typed.valid) (subst HasResets first.mailbox typed.resets) (omega arith, omega arith) (subst IsU32 first.indexid typed.indexid);
+      rests = fresh_rests sees start store fresh (quiet.stands start (sym first.indexid) (subst (λ (m : Mailbox). Keeps start m (sees.files old)) mailbox (keeps_none start number (sees.files old))));
       mailbox = mailbox;
       mark = mark;
       owed = fresh_owes store fresh;
       readings = reads;
-      others = λ n other. ap (λ (f : Folder). f n) leaves ∙ with_else (files old) name.Log _ n other;
-      since = weaker moment left_since old store.shelf (IsOldOrCreated (files old) (clock 0)) (MayLeave (behind clock 1) start [] (files old)) quiet.since may;
+      others = λ n other. ap (λ (f : Folder). f n) leaves ∙ with_else (sees.files old) name.Log _ n other;
+      since = weaker sees old store.shelf (IsOldOrCreated (sees.files old) (clock 0)) (MayLeave (behind clock 1) start [] (sees.files old)) quiet.since may;
     }
 
   -- ---- a fault
 
-  made_or_not : (f : OpenFault) (c : Folder) → LeavesCreated (files old) (clock 0) c (Err f) → IsOldOrCreated (files old) (clock 0) c
+  made_or_not : (f : OpenFault) (c : Folder) → LeavesCreated (sees.files old) (clock 0) c (Err f) → IsOldOrCreated (sees.files old) (clock 0) c
   made_or_not (fault.Disk faults) c leaves = leaves
   made_or_not fault.NoMemory c leaves = inl leaves
   made_or_not fault.NoLog c leaves = absurd leaves
@@ -109,22 +110,22 @@ module _ {S C : Type 0} (files : S → Folder) (may_leave : S → Folder → Typ
   made_or_not fault.BadIndex c leaves = absurd leaves
   made_or_not (fault.Gap index log) c leaves = absurd leaves
 
-  module _ (e : S × C × OpenFault) (outside : IsOutside e.2) (leaves : LeavesCreated (files old) (clock 0) (files e.0) (Err e.2)) (quiet : OpensQuietly files may_leave moment left_since (λ (f : Folder). IsOldOrCreated f (clock 0)) old (Err e))
-      (now : (t : ℕ) (c : Folder) → t ≤ moment e.0 → may_leave e.0 c → left_since e.0 t c) (small : stamp_of (clock 0) < 2 ^ 32) where
-    pub unopened_made : LeavesUnopened files may_leave moment left_since clock e.2 old e.0
+  module _ (e : S × C × OpenFault) (outside : IsOutside e.2) (leaves : LeavesCreated (sees.files old) (clock 0) (sees.files e.0) (Err e.2)) (quiet : OpensQuietly sees (λ (f : Folder). IsOldOrCreated f (clock 0)) old (Err e))
+      (now : (t : ℕ) (c : Folder) → t ≤ sees.moment e.0 → sees.may_leave e.0 c → sees.left_since e.0 t c) (small : stamp_of (clock 0) < 2 ^ 32) where
+    pub unopened_made : LeavesUnopened sees clock e.2 old e.0
     unopened_made =
-        let seen : IsOldOrCreated (files old) (clock 0) (files e.0) = made_or_not e.2 (files e.0) leaves in
-        let after : (c : Folder) → may_leave e.0 c → IsOldOrCreated (files old) (clock 0) c = λ c left. quiet.since.each c (now (moment old) c quiet.since.later left) in
-        let is_true : (c : Folder) → IsOldOrCreated (files old) (clock 0) c → IsTrueFolder c = λ c either. made_true (files old) c (clock 0) small new either in
+        let seen : IsOldOrCreated (sees.files old) (clock 0) (sees.files e.0) = made_or_not e.2 (sees.files e.0) leaves in
+        let after : (c : Folder) → sees.may_leave e.0 c → IsOldOrCreated (sees.files old) (clock 0) c = λ c left. quiet.since.each c (now (sees.moment old) c quiet.since.later left) in
+        let is_true : (c : Folder) → IsOldOrCreated (sees.files old) (clock 0) c → IsTrueFolder c = λ c either. made_true (sees.files old) c (clock 0) small new either in
         record {
-          found = outside_found e.2 (IsFound (files old)) outside;
+          found = outside_found e.2 (IsFound (sees.files old)) outside;
           some = λ is none. outside_none e.2 outside is;
           folder = inr (new, seen);
           after = λ c left. inr (new, after c left);
           next = λ was. record {
-            seen = is_true (files e.0) seen;
+            seen = is_true (sees.files e.0) seen;
             after = λ c left. is_true c (after c left);
-            crash = weaker moment left_since old e.0 (IsOldOrCreated (files old) (clock 0)) IsTrueFolder quiet.since is_true;
+            crash = weaker sees old e.0 (IsOldOrCreated (sees.files old) (clock 0)) IsTrueFolder quiet.since is_true;
           };
-          crash = weaker moment left_since old e.0 (IsOldOrCreated (files old) (clock 0)) (IsUnopened clock (files old)) quiet.since (λ c either. inr (new, either));
+          crash = weaker sees old e.0 (IsOldOrCreated (sees.files old) (clock 0)) (IsUnopened clock (sees.files old)) quiet.since (λ c either. inr (new, either));
         }

@@ -5,7 +5,7 @@ use Rattle.dv_model.specs.declared.types.Mark.{Mark}
 use Rattle.dv_model.specs.declared.types.OpenFault.{OpenFault}
 use Rattle.dv_model.specs.declared.types.OpenFault.TheVariants as fault
 use Rattle.dv_model.specs.Journals.{Log}
-use Rattle.dv_shelf.specs.Folders.{Folder}
+use Rattle.dv_shelf.specs.Folders.{Folder, IsNew}
 use Rattle.dv_logfile.specs.Scans.{Good, IsScanned}
 use Rattle.dv_openings.specs.Openings as found
 use Rattle.dv_openings.specs.Openings.{Finds, Found, IsFound}
@@ -14,7 +14,7 @@ use Rattle.dv_openings.proofs.Numbers.{mailbox_in, named_one}
 use Rattle.dv_chain.specs.Openings.{FaultFound}
 use Rattle.dv_cli.specs.Endings.{IsFault, fault_status}
 use Rattle.dv_cli.specs.Causes.{HasFault}
-use Rattle.dv_cli.specs.Starts.{IsNew, IsOpened, Starts, log_from}
+use Rattle.dv_cli.specs.Starts.{IsOpened, Starts, log_from}
 
 -- ---- faults
 

@@ -3,7 +3,7 @@ use Rattle.std.proofs.Common.{◌≡◌, ⊎_elim, ℕ, ◌<◌, ◌^◌, List, 
 use Rattle.dv_model.specs.Journals.{Log}
 use Rattle.dv_shelf.specs.declared.shelf.Name.TheVariants as name
 use Rattle.dv_shelf.specs.Crashes.{LeavesOnly}
-use Rattle.dv_shelf.specs.Folders.{Folder}
+use Rattle.dv_shelf.specs.Folders.{Folder, IsNew}
 use Rattle.dv_shelf.proofs.FolderLemmas.{with_else, with_here}
 use Rattle.dv_shelf.proofs.Moments.{weaker}
 use Rattle.dv_logfile.specs.Scans.{Good, IsScanned}
@@ -21,8 +21,9 @@ use Rattle.dv_serial.specs.NextRuns.{IsTrueFolder, LeavesTrue}
 use Rattle.dv_serial.specs.Places.{GivesBehind}
 use Rattle.dv_serial.proofs.NextRuns.{behind_true, may_true}
 use Rattle.dv_cli.specs.Runs.{MayLeave}
-use Rattle.dv_cli.specs.Starts.{IsNew, first_mark, log_from, new_log}
+use Rattle.dv_cli.specs.Starts.{first_mark, log_from, new_log}
 use Rattle.dv_cli.proofs.Starting.{keeps_itself, keeps_none, quiet_messages}
+use Rattle.dv_shelf.specs.Sees.{SeesFolder}
 
 -- a folder without a log has no mailbox
 new_true : (c : Folder) → IsNew c → IsTrueFolder c
@@ -66,10 +67,10 @@ may_leave_true : (clock : ℕ → ℕ) (start : Log) (attempts : List Attempt) (
 may_leave_true clock start attempts old c may = ⊎_elim (λ new. new_true c (subst IsNew (sym new.1) new.0)) (may_true clock start attempts c) may
 
 -- so a next run may begin from what is left behind lines, and from what a crash leaves
-pub leaves_next : {S : Type 0} (files : S → Folder) (may_leave : S → Folder → Type 0) (moment : S → ℕ) (left_since : S → ℕ → Folder → Type 0) (clock : ℕ → ℕ) (start : Log) (attempts : List Attempt) (old new : S)
-    → may_leave new (files new) → ((c : Folder) → may_leave new c → GivesBehind clock start attempts c) → LeavesOnly moment left_since old new (MayLeave clock start attempts (files old)) → LeavesTrue files may_leave moment left_since old new
-leaves_next files may_leave moment left_since clock start attempts old new there kept crash = record {
-  seen = behind_true clock start attempts (files new) (kept (files new) there);
+pub leaves_next : {S : Type 0} (sees : SeesFolder S) (clock : ℕ → ℕ) (start : Log) (attempts : List Attempt) (old new : S)
+    → sees.may_leave new (sees.files new) → ((c : Folder) → sees.may_leave new c → GivesBehind clock start attempts c) → LeavesOnly sees old new (MayLeave clock start attempts (sees.files old)) → LeavesTrue sees old new
+leaves_next sees clock start attempts old new there kept crash = record {
+  seen = behind_true clock start attempts (sees.files new) (kept (sees.files new) there);
   after = λ c left. behind_true clock start attempts c (kept c left);
-  crash = weaker moment left_since old new (MayLeave clock start attempts (files old)) IsTrueFolder crash (λ c may. may_leave_true clock start attempts (files old) c may);
+  crash = weaker sees old new (MayLeave clock start attempts (sees.files old)) IsTrueFolder crash (λ c may. may_leave_true clock start attempts (sees.files old) c may);
 }

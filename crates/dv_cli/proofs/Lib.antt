@@ -10,7 +10,6 @@ mod Opened
 mod Created
 mod Looked
 mod Timed
-mod NewFolders
 mod Served
 mod Folders
 mod Parsed
@@ -20,3 +19,5 @@ mod Reached
 mod FoundTold
 mod Untold
 mod Tasked
+mod Told
+mod Untelling

@@ -38,6 +38,7 @@ use Rattle.dv_cli.specs.Behind.{end_behind, loaded_by}
 use Rattle.dv_cli.specs.Causes.{EndCause, EndsServing}
 use Rattle.dv_cli.specs.Runs.{EndsAt, IsAnswered, MayLeave, RunsOver, ServesLines, WritesLines}
 use Rattle.dv_cli.proofs.Starting.{IsBare, behind_both, behind_none, start_bare}
+use Rattle.dv_shelf.specs.Sees.{SeesFolder, SeesTime}
 
 -- ---- the first line that wasn't answered
 
@@ -134,8 +135,8 @@ end_cause (Err (line_end.Sink faults)) mark groups loaded shelf shelf_now out ou
 
 -- ---- from a store from which a run begins
 
-module _ {S C : Type 0} (files : S → Folder) (may_leave : S → Folder → Type 0) (moment : S → ℕ) (left_since : S → ℕ → Folder → Type 0) (upcoming : C → ℕ → ℕ) (clock : ℕ → ℕ) (old : S) (store : State S C)
-    (begun : IsBegun files may_leave moment left_since upcoming clock old store) (base : ℕ) (load : Option Load) where
+module _ {S C : Type 0} (sees : SeesFolder S) (ticks : SeesTime C) (clock : ℕ → ℕ) (old : S) (store : State S C)
+    (begun : IsBegun sees ticks clock old store) (base : ℕ) (load : Option Load) where
   abbrev start : Log
   start = begun.start
 
@@ -143,9 +144,9 @@ module _ {S C : Type 0} (files : S → Folder) (may_leave : S → Folder → Typ
   time = behind clock begun.used
 
   bare : IsBare start
-  bare = start_bare clock (files old) start begun.used begun.starts
+  bare = start_bare clock (sees.files old) start begun.used begun.starts
 
-  keeps_start : (seats : List Follower) → Keeps files may_leave time start [] (serving_over store seats)
+  keeps_start : (seats : List Follower) → Keeps sees time start [] (serving_over store seats)
   keeps_start seats = record {
     at = record { rotates = bare.rotates; groups = ap length bare.entries; mailbox = begun.mailbox; mark = begun.mark; place = (sym begun.mark, begun.owed) };
     debt = Nothing;
@@ -166,34 +167,34 @@ module _ {S C : Type 0} (files : S → Folder) (may_leave : S → Folder → Typ
       fewer k lt = subst (λ (m : ℕ). k < m) (length-replicate n new_follower) lt
 
   -- new sessions follow the play that is to come
-  pub follows_start : (n : ℕ) (seats : List Follower) (faults : ℕ) → base ≤ faults → seats ≡ replicate n new_follower → Follows files may_leave upcoming time start base faults [] (serving_over store seats)
+  pub follows_start : (n : ℕ) (seats : List Follower) (faults : ℕ) → base ≤ faults → seats ≡ replicate n new_follower → Follows sees ticks time start base faults [] (serving_over store seats)
   follows_start n seats faults later is =
       record { may = may_start faults later; keeps = keeps_start seats; readings = begun.readings ∙ behind_none time; seats = seated n seats is }
 
   -- what a crash leaves before the first line it may leave among them
-  longer_leave : (attempts : List Attempt) (c : Folder) → MayLeave time start [] (files old) c → MayLeave time start attempts (files old) c
+  longer_leave : (attempts : List Attempt) (c : Folder) → MayLeave time start [] (sees.files old) c → MayLeave time start attempts (sees.files old) c
   longer_leave attempts c = ⊎_elim inl (λ may. inr (longer_may time start [] c attempts may))
 
   -- ---- the lines were served
 
   module _ (faults : ℕ) (lines : List NamedLine) (told : Type 0) (taken taken_now : List ℕ) (seats : List Follower) (result : Result (Unit {0}) LineEnd) (new : Serving S C)
-      (runs : Runs files may_leave moment left_since upcoming time start base faults lines result told taken taken_now (serving_over store seats) new)
-      (there : may_leave new.store.shelf (files new.store.shelf)) where
+      (runs : Runs sees ticks time start base faults lines result told taken taken_now (serving_over store seats) new)
+      (there : sees.may_leave new.store.shelf (sees.files new.store.shelf)) where
     abbrev all : List Attempt
     all = runs.answered ++ runs.left
 
     abbrev how : End
     how = end_behind result new.mark new.groups (loaded_by load new.store.chain.live.mailbox)
 
-    kept : (c : Folder) → may_leave new.store.shelf c → GivesBehind time start all c
-    kept c left = keeps_behind files may_leave time start all new runs.leaves.keeps c left
+    kept : (c : Folder) → sees.may_leave new.store.shelf c → GivesBehind time start all c
+    kept c left = keeps_behind sees time start all new runs.leaves.keeps c left
 
-    pub serves_lines : ServesLines files may_leave moment left_since clock (upcoming new.store.clock) base faults load lines how told taken taken_now old new.store.shelf
+    pub serves_lines : ServesLines sees clock (ticks.upcoming new.store.clock) base faults load lines how told taken taken_now old new.store.shelf
     serves_lines =
-        let crash : LeavesOnly moment left_since old new.store.shelf (MayLeave time start all (files old)) =
-        joined moment left_since old store.shelf new.store.shelf (MayLeave time start all (files old))
-        (weaker moment left_since old store.shelf (MayLeave time start [] (files old)) (MayLeave time start all (files old)) begun.since (longer_leave all))
-        (weaker moment left_since store.shelf new.store.shelf (MayGive time start all) (MayLeave time start all (files old)) runs.leaves.since (λ c may. inr may)) in
+        let crash : LeavesOnly sees old new.store.shelf (MayLeave time start all (sees.files old)) =
+        joined sees old store.shelf new.store.shelf (MayLeave time start all (sees.files old))
+        (weaker sees old store.shelf (MayLeave time start [] (sees.files old)) (MayLeave time start all (sees.files old)) begun.since (longer_leave all))
+        (weaker sees store.shelf new.store.shelf (MayGive time start all) (MayLeave time start all (sees.files old)) runs.leaves.since (λ c may. inr may)) in
         record {
           start = start;
           used = begun.used;
@@ -206,37 +207,37 @@ module _ {S C : Type 0} (files : S → Folder) (may_leave : S → Folder → Typ
           serial = subst (λ (ls : List Line). Serial (play_of time start all).log base faults ls (replies_to time (begin start) runs.answered)) (sym runs.parts)
               (serial_left time start base faults runs.answered runs.may runs.left runs.rest (first_of time base start runs.answered runs.left runs.rest result runs.ends));
           output = λ tells. writes_lines time start runs.answered runs.left lines result new.mark new.groups (loaded_by load new.store.chain.live.mailbox) taken taken_now (runs.output tells);
-          readings = has_read clock begun.used (play_of time start runs.answered).used (upcoming new.store.clock) result new.mark new.groups (loaded_by load new.store.chain.live.mailbox) runs.readings;
+          readings = has_read clock begun.used (play_of time start runs.answered).used (ticks.upcoming new.store.clock) result new.mark new.groups (loaded_by load new.store.chain.live.mailbox) runs.readings;
           others = λ n other none. runs.others n none ∙ begun.others n other;
-          folder = kept (files new.store.shelf) there;
+          folder = kept (sees.files new.store.shelf) there;
           after = kept;
           crash = crash;
-          next = leaves_next files may_leave moment left_since time start all old new.store.shelf there kept crash;
+          next = leaves_next sees time start all old new.store.shelf there kept crash;
         }
 
   -- the play begins with new sessions
   module _ (counts : S → ℕ) (later : base ≤ counts store.shelf) (faults : ℕ) (lines : List NamedLine) (told : Type 0) (taken taken_now : List ℕ) (n : ℕ) (seats : List Follower) (result : Result (Unit {0}) LineEnd) (serial new : Serving S C) where
     pub serves_all : seats ≡ replicate n new_follower → serial ≡ serving_over store seats
-        → (Follows files may_leave upcoming time start base (counts serial.store.shelf) [] serial → Runs files may_leave moment left_since upcoming time start base faults lines result told taken taken_now serial new)
-        → may_leave new.store.shelf (files new.store.shelf)
-        → ServesLines files may_leave moment left_since clock (upcoming new.store.clock) base faults load lines (end_behind result new.mark new.groups (loaded_by load new.store.chain.live.mailbox)) told taken taken_now old new.store.shelf
+        → (Follows sees ticks time start base (counts serial.store.shelf) [] serial → Runs sees ticks time start base faults lines result told taken taken_now serial new)
+        → sees.may_leave new.store.shelf (sees.files new.store.shelf)
+        → ServesLines sees clock (ticks.upcoming new.store.clock) base faults load lines (end_behind result new.mark new.groups (loaded_by load new.store.chain.live.mailbox)) told taken taken_now old new.store.shelf
     serves_all is over run there =
-        let follows : Follows files may_leave upcoming time start base (counts serial.store.shelf) [] serial =
-        subst (λ (s : Serving S C). Follows files may_leave upcoming time start base (counts s.store.shelf) [] s) (sym over) (follows_start n seats (counts store.shelf) later is) in
-        let runs = subst (λ (s : Serving S C). Runs files may_leave moment left_since upcoming time start base faults lines result told taken taken_now s new) over (run follows) in
+        let follows : Follows sees ticks time start base (counts serial.store.shelf) [] serial =
+        subst (λ (s : Serving S C). Follows sees ticks time start base (counts s.store.shelf) [] s) (sym over) (follows_start n seats (counts store.shelf) later is) in
+        let runs = subst (λ (s : Serving S C). Runs sees ticks time start base faults lines result told taken taken_now s new) over (run follows) in
         serves_lines faults lines told taken taken_now seats result new runs there
 
   -- ---- no line was
 
-  module _ (faults : ℕ) (later : base ≤ faults) (lines : List NamedLine) (told : Type 0) (taken : List ℕ) (there : may_leave store.shelf (files store.shelf)) where
-    none_kept : (c : Folder) → may_leave store.shelf c → GivesBehind time start [] c
-    none_kept c left = keeps_behind files may_leave time start [] (serving_over store []) (keeps_start []) c left
+  module _ (faults : ℕ) (later : base ≤ faults) (lines : List NamedLine) (told : Type 0) (taken : List ℕ) (there : sees.may_leave store.shelf (sees.files store.shelf)) where
+    none_kept : (c : Folder) → sees.may_leave store.shelf c → GivesBehind time start [] c
+    none_kept c left = keeps_behind sees time start [] (serving_over store []) (keeps_start []) c left
 
     none_ends : (rest : List Line) → EndsAt load end.NoMemory time base start [] [] rest
     none_ends [] = refl
     none_ends (line ∷ rest) = tt
 
-    pub serves_none : ServesLines files may_leave moment left_since clock (upcoming store.clock) base faults load lines end.NoMemory told taken taken old store.shelf
+    pub serves_none : ServesLines sees clock (ticks.upcoming store.clock) base faults load lines end.NoMemory told taken taken old store.shelf
     serves_none = record {
       start = start;
       used = begun.used;
@@ -250,17 +251,17 @@ module _ {S C : Type 0} (files : S → Folder) (may_leave : S → Folder → Typ
       output = λ tells. sym (append-nil taken);
       readings = λ answered. absurd answered;
       others = λ n other none. begun.others n other;
-      folder = none_kept (files store.shelf) there;
+      folder = none_kept (sees.files store.shelf) there;
       after = none_kept;
       crash = begun.since;
-      next = leaves_next files may_leave moment left_since time start [] old store.shelf there none_kept begun.since;
+      next = leaves_next sees time start [] old store.shelf there none_kept begun.since;
     }
 
 -- ---- a run over a folder
 
-module _ {S : Type 0} (files : S → Folder) (may_leave : S → Folder → Type 0) (moment : S → ℕ) (left_since : S → ℕ → Folder → Type 0) (clock clock_now : ℕ → ℕ) (base faults : ℕ) (load : Option Load) (lines : List NamedLine) (told : Type 0) (taken taken_now : List ℕ) (old new : S) where
-  pub runs_serving : (e : End) → EndsServing e → ServesLines files may_leave moment left_since clock clock_now base faults load lines e told taken taken_now old new
-      → RunsOver files may_leave moment left_since clock clock_now base faults load lines e told taken taken_now old new
+module _ {S : Type 0} (sees : SeesFolder S) (clock clock_now : ℕ → ℕ) (base faults : ℕ) (load : Option Load) (lines : List NamedLine) (told : Type 0) (taken taken_now : List ℕ) (old new : S) where
+  pub runs_serving : (e : End) → EndsServing e → ServesLines sees clock clock_now base faults load lines e told taken taken_now old new
+      → RunsOver sees clock clock_now base faults load lines e told taken taken_now old new
   runs_serving (end.Answered mark groups loaded) serving serves = serves
   runs_serving (end.Rebuilt kept skipped) serving serves = absurd serving
   runs_serving end.Usage serving serves = absurd serving

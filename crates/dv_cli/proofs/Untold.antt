@@ -1,19 +1,19 @@
 -- A run that writes no replies, whatever stands in the output.
 use Rattle.std.proofs.Common.{ℕ, List}
 use Rattle.std.specs.Prelude.{Option}
-use Rattle.dv_shelf.specs.Folders.{Folder}
 use Rattle.dv_formats.specs.Scripts.{NamedLine}
 use Rattle.dv_cli.specs.declared.ending.End.{End}
 use Rattle.dv_cli.specs.declared.ending.End.TheVariants as end
 use Rattle.dv_cli.specs.declared.words.Load.{Load}
 use Rattle.dv_cli.specs.Runs.{RunsOver, ServesLines}
+use Rattle.dv_shelf.specs.Sees.{SeesFolder}
 
-module _ {S : Type 0} (files : S → Folder) (may_leave : S → Folder → Type 0) (moment : S → ℕ) (left_since : S → ℕ → Folder → Type 0) (clock clock_now : ℕ → ℕ) (base faults : ℕ) (load : Option Load) (lines : List NamedLine) (old new : S) (a b c d : List ℕ) where
+module _ {S : Type 0} (sees : SeesFolder S) (clock clock_now : ℕ → ℕ) (base faults : ℕ) (load : Option Load) (lines : List NamedLine) (old new : S) (a b c d : List ℕ) where
   abbrev Serves : End → List ℕ → List ℕ → Type 0
-  Serves e before now = ServesLines files may_leave moment left_since clock clock_now base faults load lines e ⊥ before now old new
+  Serves e before now = ServesLines sees clock clock_now base faults load lines e ⊥ before now old new
 
   abbrev Runs : End → List ℕ → List ℕ → Type 0
-  Runs e before now = RunsOver files may_leave moment left_since clock clock_now base faults load lines e ⊥ before now old new
+  Runs e before now = RunsOver sees clock clock_now base faults load lines e ⊥ before now old new
 
   served : (e : End) → Serves e a b → Serves e c d
   served e s = record {

@@ -35,6 +35,7 @@ use Rattle.dv_rebuild.specs.declared.fault.RebuildFault.TheVariants as rebuild_f
 use Rattle.dv_rebuild.specs.declared.rebuilding.Rebuilt.{Rebuilt}
 use Rattle.dv_rebuild.specs.Rebuilding.{LeavesRebuilt}
 use Rattle.dv_cli.specs.Rebuilding.{RebuildsFolder, rebuilt_end}
+use Rattle.dv_notices.specs.declared.telling.Told.{Told}
 use Rattle.dv_cli.specs.Outputs.{IsOutputBy, IsOutputOf, IsOutputOver, IsRebuiltOutput, all_served, last_over, output_over, replies_over, script_fault_text, served}
 use Rattle.dv_cli.specs.Running.{answered_text, fault_text, rebuilt_text, usage_text}
 use Rattle.dv_cli.specs.Runs.{LeavesUnopened, RunsOver, ServesLines, WritesLines}
@@ -45,6 +46,7 @@ use Rattle.dv_cli.proofs.AllServed.{all_served_so}
 use Rattle.dv_cli.proofs.FoundStarts.{faults_one, starts_faultless, starts_one}
 use Rattle.dv_cli.proofs.Reached.{good_script}
 use Rattle.dv_cli.proofs.Statuses.{fault_told, none_failed}
+use Rattle.dv_shelf.specs.Sees.{SeesFolder}
 
 -- ---- how a run over good lines ends
 
@@ -241,12 +243,11 @@ served_play clock start lines answered base faults are few still =
       ap (replies_text lines) replies,
     )
 
-module _ {S : Type 0} (files : S → Folder) (may_leave : S → Folder → Type 0) (moment : S → ℕ)
-    (left_since : S → ℕ → Folder → Type 0) (clock clock_now : ℕ → ℕ) (base faults : ℕ)
+module _ {S : Type 0} (sees : SeesFolder S) (clock clock_now : ℕ → ℕ) (base faults : ℕ)
     (t : Option Task) (lines : List NamedLine) (told : Type 0)
     (taken between taken_now : List ℕ) (old new : S) (still : Rose base faults → ⊥) where
   abbrev Serving : End → Type 0
-  Serving e = ServesLines files may_leave moment left_since clock clock_now base faults (load_in t) lines e (RepliesTold t told) taken between old new
+  Serving e = ServesLines sees clock clock_now base faults (load_in t) lines e (RepliesTold t told) taken between old new
 
   module _ (mark : Mark) (groups : ℕ) (loaded : Option Loaded) (serves : Serving (end.Answered mark groups loaded)) where
     abbrev clock_then : ℕ → ℕ
@@ -288,7 +289,7 @@ module _ {S : Type 0} (files : S → Folder) (may_leave : S → Folder → Type 
 
     answered_output : told → Opens t → ((HasScript t → ⊥) → between ≡ taken)
         → Appends between taken_now (answered_text mark groups loaded)
-        → Writes taken taken_now (IsOutputOver (load_in t) lines clock (files old))
+        → Writes taken taken_now (IsOutputOver (load_in t) lines clock (sees.files old))
     answered_output tells opens silent last = (
       output_over clock_then (load_in t) serves.start lines,
       written t (load_in t) opens refl
@@ -296,24 +297,24 @@ module _ {S : Type 0} (files : S → Folder) (may_leave : S → Folder → Type 
           silent tells (subst (λ (text : List ℕ). Appends between taken_now text) same_last last),
       (
         λ start used starts.
-            let one = starts_one clock (files old) serves.start start serves.used used serves.starts starts in
+            let one = starts_one clock (sees.files old) serves.start start serves.used used serves.starts starts in
             (λ i. output_over (behind clock (one.1 i)) (load_in t) (one.0 i) lines),
         λ f is some found.
-            absurd (starts_faultless clock (files old) serves.start serves.used serves.starts (record { fault = f; is = is; found = found; some = some })),
+            absurd (starts_faultless clock (sees.files old) serves.start serves.used serves.starts (record { fault = f; is = is; found = found; some = some })),
       ),
     )
 
   unopened_output : (f : OpenFault) → IsFault f → between ≡ taken
-      → LeavesUnopened files may_leave moment left_since clock f old new
+      → LeavesUnopened sees clock f old new
       → Appends between taken_now (fault_text f)
-      → Writes taken taken_now (IsOutputOver (load_in t) lines clock (files old))
+      → Writes taken taken_now (IsOutputOver (load_in t) lines clock (sees.files old))
   unopened_output f is none leaves last = (
     fault_text f,
     last ∙ ap (λ (bs : List ℕ). bs ++ fault_text f) none,
     (
       λ start used starts.
-          absurd (starts_faultless clock (files old) start used starts (record { fault = f; is = is; found = leaves.found; some = leaves.some is })),
-      λ g g-is some found. ap fault_text (faults_one (files old) f g is g-is leaves.found found),
+          absurd (starts_faultless clock (sees.files old) start used starts (record { fault = f; is = is; found = leaves.found; some = leaves.some is })),
+      λ g g-is some found. ap fault_text (faults_one (sees.files old) f g is g-is leaves.found found),
     ),
   )
 
@@ -327,10 +328,10 @@ module _ {S : Type 0} (files : S → Folder) (may_leave : S → Folder → Type 
 
   module _ (tells : told) (opens : Opens t) (silent : (HasScript t → ⊥) → between ≡ taken) where
     abbrev Running : End → Type 0
-    Running e = RunsOver files may_leave moment left_since clock clock_now base faults (load_in t) lines e (RepliesTold t told) taken between old new
+    Running e = RunsOver sees clock clock_now base faults (load_in t) lines e (RepliesTold t told) taken between old new
 
     run_output : (e : End) → EndsWell e → Running e → Appends between taken_now (text_of e)
-        → Writes taken taken_now (IsOutputOver (load_in t) lines clock (files old))
+        → Writes taken taken_now (IsOutputOver (load_in t) lines clock (sees.files old))
     run_output (end.Answered mark groups loaded) well runs last = answered_output mark groups loaded runs tells opens silent last
     run_output (end.Unopened f) well runs last = unopened_output f well (nothing_before t opens runs.0 silent tells) runs.1 last
     run_output (end.Rebuilt kept skipped) well runs last = absurd well
@@ -352,7 +353,7 @@ module _ {S : Type 0} (files : S → Folder) (may_leave : S → Folder → Type 
 
     well_output : (e : End) → EndsWell e → Appends between taken_now (text_of e)
         → IsUnread e taken between old new ⊎ Running e
-        → Writes taken taken_now (IsOutputOver (load_in t) lines clock (files old))
+        → Writes taken taken_now (IsOutputOver (load_in t) lines clock (sees.files old))
     well_output e well last (inl unread) = absurd (unread_not_well e well unread.0)
     well_output e well last (inr runs) = run_output e well runs last
 
@@ -360,7 +361,7 @@ module _ {S : Type 0} (files : S → Folder) (may_leave : S → Folder → Type 
         → (AnyRose before now → ⊥) → (status ≡ 4 → ⊥) → (status ≡ 7 → ⊥)
         → Concludes e status between taken_now
         → IsUnread e taken between old new ⊎ Running e
-        → Writes taken taken_now (IsOutputOver (load_in t) lines clock (files old))
+        → Writes taken taken_now (IsOutputOver (load_in t) lines clock (sees.files old))
     lines_output e status before now (inl well) none not-four not-seven last runs =
         well_output e well.1 (told_plainly e status between taken_now last not-four not-seven).1 runs
     lines_output e status before now (inr (inl four)) none not-four not-seven last runs =
@@ -371,21 +372,20 @@ module _ {S : Type 0} (files : S → Folder) (may_leave : S → Folder → Type 
 -- ---- of a rebuild
 
 -- it kept and skipped what it says, unless memory ran out or the disk failed
-pub rebuilt_output : {S : Type 0} (files : S → Folder) (may_leave : S → Folder → Type 0)
-    (moment : S → ℕ) (left_since : S → ℕ → Folder → Type 0) (clock clock_now : ℕ → ℕ) (e : End)
-    (old_shelf new_shelf : S) (status : ℕ) (before now : Counts)
+pub rebuilt_output : {S : Type 0} (sees : SeesFolder S) (clock clock_now : ℕ → ℕ) (e : End)
+    (said : Told) (old_shelf new_shelf : S) (status : ℕ) (before now : Counts)
     (old new : List ℕ)
-    → RebuildsFolder files may_leave moment left_since clock clock_now e old_shelf new_shelf
+    → RebuildsFolder sees clock clock_now e said old_shelf new_shelf
     → ComesFrom before now e → (AnyRose before now → ⊥) → (status ≡ 4 → ⊥) → (status ≡ 7 → ⊥)
-    → Concludes e status old new → Writes old new (IsRebuiltOutput clock (files old_shelf))
-rebuilt_output files may_leave moment left_since clock clock_now e old_shelf new_shelf status before now old new rebuilds cause still not-four not-seven last =
+    → Concludes e status old new → Writes old new (IsRebuiltOutput clock (sees.files old_shelf))
+rebuilt_output sees clock clock_now e said old_shelf new_shelf status before now old new rebuilds cause still not-four not-seven last =
     by_result rebuilds.result rebuilds.told rebuilds.leaves
   where
     plain : (status ≡ status_of e) × Appends old new (text_of e)
     plain = told_plainly e status old new last not-four not-seven
 
-    by_result : (r : Result Rebuilt RebuildFault) → e ≡ rebuilt_end r → LeavesRebuilt (files old_shelf) (clock 0) (files new_shelf) r
-        → Writes old new (IsRebuiltOutput clock (files old_shelf))
+    by_result : (r : Result Rebuilt RebuildFault) → e ≡ rebuilt_end r → LeavesRebuilt (sees.files old_shelf) (clock 0) (sees.files new_shelf) r
+        → Writes old new (IsRebuiltOutput clock (sees.files old_shelf))
     by_result (Ok rebuilt) told leaves = (
       text_of e,
       plain.1,

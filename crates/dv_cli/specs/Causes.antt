@@ -3,7 +3,7 @@ use Rattle.std.specs.Prelude.{◌≡◌, ◌⊎◌, ◌≤◌, ◌+◌, ◌*◌,
 use Rattle.dv_model.specs.declared.types.OpenFault.{OpenFault}
 use Rattle.dv_model.specs.declared.types.OpenFault.TheVariants as fault
 use Rattle.dv_model.specs.Counts.{Rose}
-use Rattle.dv_shelf.specs.Folders.{Folder}
+use Rattle.dv_shelf.specs.Folders.{Folder, IsNew}
 use Rattle.dv_formats.specs.Parsing.{ScriptFault}
 use Rattle.dv_formats.specs.Scripts.{NamedLine}
 use Rattle.dv_script.specs.Sources.{ScriptFails}
@@ -11,7 +11,6 @@ use Rattle.dv_openings.specs.Openings.{IsFound}
 use Rattle.dv_chain.specs.Openings.{FaultFound}
 use Rattle.dv_serial.specs.Serves.{TakesUpTo}
 use Rattle.dv_cli.specs.Endings.{IsFault}
-use Rattle.dv_cli.specs.Starts.{IsNew}
 use Rattle.dv_cli.specs.Tasks.{Answers, Opens}
 use Rattle.dv_cli.specs.declared.words.Task.{Task}
 use Rattle.dv_cli.specs.declared.words.Task.TheVariants as task

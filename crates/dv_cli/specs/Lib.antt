@@ -11,4 +11,5 @@ pub mod Causes
 pub mod Outputs
 pub mod Rebuilding
 pub mod Wholes
+pub mod Told
 pub mod Obeying

@@ -1,8 +1,14 @@
 -- What the program does by its words.
-use Rattle.std.specs.Prelude.{◌≡◌, ◌⊎◌, ◌≤◌, ℕ, true, false, List, None, Result, Ok, Err, ⊤}
+use Rattle.std.specs.Prelude.{◌≡◌, ◌⊎◌, ◌≤◌, ℕ, true, false, List, Option, None, Result, Ok, Err, ⊤}
 use Rattle.dv_model.specs.Counts.{Rose}
 use Rattle.dv_shelf.specs.Streams.{Appends, AppendsFront}
-use Rattle.dv_cli.specs.declared.program.TheConstants.{HELP, HELP_WORD, VERSION, VERSION_WORD}
+use Rattle.dv_shelf.specs.Sees.{SeesOutput}
+use Rattle.dv_notices.specs.Tellings.{told_text}
+use Rattle.dv_notices.specs.declared.telling.Told.{Told}
+use Rattle.dv_notices.specs.declared.telling.Told.TheVariants as telling
+use Rattle.dv_cli.specs.declared.program.TheConstants.{HELP, HELP_WORD, USAGE, VERSION, VERSION_WORD}
+use Rattle.dv_cli.specs.declared.words.Task.{Task}
+use Rattle.dv_cli.specs.Told.{IsToldBy}
 use Rattle.dv_cli.specs.Running.{memory_text, usage_text}
 use Rattle.dv_cli.specs.Words.{Prints, asks_for, run_words, task_of}
 
@@ -15,6 +21,24 @@ IsMemory (Err e) = ⊤
 abbrev pub Tells : List ℕ → List ℕ → List ℕ → ℕ → ℕ → Type 0
 Tells text old new before now =
     Appends old new text ⊎ (AppendsFront old new text × Rose before now)
+
+-- What standard error takes: at status 1 how the program is used, and else what the run tells, or
+-- nothing, where memory lacks.
+pub record SaysOf (told : Told) (status : ℕ) (taken taken_now : List ℕ) (before now : ℕ)
+    : Type 0 where
+  pub usage : status ≡ 1 → Tells USAGE.now taken taken_now before now
+  pub said : Told
+  pub of : (said ≡ told) ⊎ (said ≡ telling.Nothing)
+  pub text : (status ≡ 1 → ⊥) → Tells (told_text said) taken taken_now before now
+
+-- Standard error takes what the run tells by its task and status, and nothing else.
+pub record TellsErrors {E : Type 0} (sees : SeesOutput E) (t : Option Task) (status : ℕ) (old new : E)
+    : Type 0 where
+  pub told : Told
+  pub by : IsToldBy t status told
+  pub says : sees.tells → SaysOf told status (sees.taken old) (sees.taken new)
+      (sees.fault_count old) (sees.fault_count new)
+  pub quiet : (status ≡ 1 → ⊥) → told ≡ telling.Nothing → new ≡ old
 
 -- the words ask neither for help nor for the version, nor for a task
 pub record AskForNothing (words : List (List ℕ)) : Type 0 where

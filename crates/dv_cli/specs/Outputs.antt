@@ -5,7 +5,7 @@ use Rattle.dv_model.specs.declared.types.OpenFault.{OpenFault}
 use Rattle.dv_model.specs.Journals.{Log}
 use Rattle.dv_model.specs.Transcripts as transcripts
 use Rattle.dv_shelf.specs.Clocks.{behind}
-use Rattle.dv_shelf.specs.Folders.{Folder}
+use Rattle.dv_shelf.specs.Folders.{Folder, IsNew}
 use Rattle.dv_formats.specs.Parsing.{ScriptFault, parsed}
 use Rattle.dv_formats.specs.Scripts.{NamedLine}
 use Rattle.dv_chain.specs.Openings.{FaultFound}
@@ -21,7 +21,7 @@ use Rattle.dv_cli.specs.declared.words.Task.TheVariants as task
 use Rattle.dv_cli.specs.Behind.{loaded_by}
 use Rattle.dv_cli.specs.Endings.{IsFault}
 use Rattle.dv_cli.specs.Running.{answered_text, fault_text, rebuilt_text, script_text, usage_text}
-use Rattle.dv_cli.specs.Starts.{IsNew, Starts}
+use Rattle.dv_cli.specs.Starts.{Starts}
 use Rattle.dv_cli.specs.Tasks.{generated_by}
 
 -- a line that is served

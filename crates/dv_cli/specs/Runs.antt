@@ -1,4 +1,4 @@
--- What a whole run answers, writes and leaves. The records take the members of a shelf's type.
+-- What a whole run answers, writes and leaves. The records take what a shelf shows.
 use Rattle.std.specs.Prelude.{◌≡◌, ◌≢◌, ◌⊎◌, ◌+◌, ◌++◌, ℕ, List, [], ◌∷◌, drop, length, Option, ⊤}
 use Rattle.dv_model.specs.declared.types.OpenFault.{OpenFault}
 use Rattle.dv_model.specs.Journals.{Log}
@@ -8,7 +8,7 @@ use Rattle.dv_shelf.specs.declared.shelf.Name.{Name}
 use Rattle.dv_shelf.specs.declared.shelf.Name.TheVariants as name
 use Rattle.dv_shelf.specs.Clocks.{behind}
 use Rattle.dv_shelf.specs.Crashes.{LeavesOnly}
-use Rattle.dv_shelf.specs.Folders.{Folder}
+use Rattle.dv_shelf.specs.Folders.{Folder, IsNew}
 use Rattle.dv_shelf.specs.Streams.{Appends, AppendsFront}
 use Rattle.dv_formats.specs.Scripts.{NamedLine}
 use Rattle.dv_chain.specs.Creations.{IsOldOrCreated}
@@ -27,7 +27,8 @@ use Rattle.dv_cli.specs.declared.ending.End.{End}
 use Rattle.dv_cli.specs.declared.ending.End.TheVariants as end
 use Rattle.dv_cli.specs.Behind.{loaded_by}
 use Rattle.dv_cli.specs.Endings.{IsFault}
-use Rattle.dv_cli.specs.Starts.{IsNew, Starts}
+use Rattle.dv_cli.specs.Starts.{Starts}
+use Rattle.dv_shelf.specs.Sees.{SeesFolder}
 
 -- ---- lines that were answered
 
@@ -79,14 +80,13 @@ MayLeave clock start attempts old c =
 -- does what a crash behind the run leaves, and a crash during it leaves a front of it. A file that
 -- none of these lines may change is as it was, but for the log, whose end the opening may close. A
 -- next run may begin from what is left, and from what a crash leaves, behind the run or during it.
-pub record ServesLines {S : Type 0} (files : S → Folder) (may_leave : S → Folder → Type 0)
-    (moment : S → ℕ) (left_since : S → ℕ → Folder → Type 0) (clock clock_now : ℕ → ℕ)
+pub record ServesLines {S : Type 0} (sees : SeesFolder S) (clock clock_now : ℕ → ℕ)
     (base faults : ℕ) (load : Option Load) (lines : List NamedLine) (e : End)
     (told : Type 0) (taken taken_now : List ℕ) (old new : S)
     : Type 0 where
   pub start : Log
   pub used : ℕ
-  pub starts : Starts clock (files old) start used
+  pub starts : Starts clock (sees.files old) start used
   pub answered : List Attempt
   pub left : List Attempt
   pub rest : List transcripts.Line
@@ -98,13 +98,13 @@ pub record ServesLines {S : Type 0} (files : S → Folder) (may_leave : S → Fo
   pub readings : IsAnswered e
       → clock_now ≡ behind clock (used + (play_of (behind clock used) start answered).used)
   pub others : (n : Name) → n ≢ name.Log
-      → (MayTouch (behind clock used) start (answered ++ left) n → ⊥) → files new n ≡ files old n
-  pub folder : GivesBehind (behind clock used) start (answered ++ left) (files new)
-  pub after : (c : Folder) → may_leave new c
+      → (MayTouch (behind clock used) start (answered ++ left) n → ⊥) → sees.files new n ≡ sees.files old n
+  pub folder : GivesBehind (behind clock used) start (answered ++ left) (sees.files new)
+  pub after : (c : Folder) → sees.may_leave new c
       → GivesBehind (behind clock used) start (answered ++ left) c
-  pub crash : LeavesOnly moment left_since old new
-      (MayLeave (behind clock used) start (answered ++ left) (files old))
-  pub next : LeavesTrue files may_leave moment left_since old new
+  pub crash : LeavesOnly sees old new
+      (MayLeave (behind clock used) start (answered ++ left) (sees.files old))
+  pub next : LeavesTrue sees old new
 
 -- ---- a folder that isn't opened
 
@@ -115,27 +115,25 @@ IsUnopened clock old c = IsQuiet old c ⊎ (IsNew old × IsOldOrCreated old (clo
 
 -- No line was answered: a fault was found in the folder, memory ran out, or the disk failed; and
 -- what is left then, and what a crash leaves. Where this run might begin, so may a next one.
-pub record LeavesUnopened {S : Type 0} (files : S → Folder) (may_leave : S → Folder → Type 0)
-    (moment : S → ℕ) (left_since : S → ℕ → Folder → Type 0) (clock : ℕ → ℕ) (f : OpenFault)
+pub record LeavesUnopened {S : Type 0} (sees : SeesFolder S) (clock : ℕ → ℕ) (f : OpenFault)
     (old new : S) : Type 0 where
-  pub found : FaultFound f (IsFound (files old))
-  pub some : IsFault f → IsNew (files old) → ⊥
-  pub folder : IsUnopened clock (files old) (files new)
-  pub after : (c : Folder) → may_leave new c → IsUnopened clock (files old) c
-  pub crash : LeavesOnly moment left_since old new (IsUnopened clock (files old))
-  pub next : IsTrueFolder (files old) → LeavesTrue files may_leave moment left_since old new
+  pub found : FaultFound f (IsFound (sees.files old))
+  pub some : IsFault f → IsNew (sees.files old) → ⊥
+  pub folder : IsUnopened clock (sees.files old) (sees.files new)
+  pub after : (c : Folder) → sees.may_leave new c → IsUnopened clock (sees.files old) c
+  pub crash : LeavesOnly sees old new (IsUnopened clock (sees.files old))
+  pub next : IsTrueFolder (sees.files old) → LeavesTrue sees old new
 
 -- ---- both
 
 -- the lines of a script are answered, or the folder isn't opened
-abbrev pub RunsOver : {S : Type 0} → (S → Folder) → (S → Folder → Type 0) → (S → ℕ)
-    → (S → ℕ → Folder → Type 0) → (ℕ → ℕ) → (ℕ → ℕ) → ℕ → ℕ → Option Load → List NamedLine → End
+abbrev pub RunsOver : {S : Type 0} → SeesFolder S → (ℕ → ℕ) → (ℕ → ℕ) → ℕ → ℕ → Option Load → List NamedLine → End
     → Type 0 → List ℕ → List ℕ → S → S → Type 0
-RunsOver files may_leave moment left_since clock clock_now base faults load lines (end.Unopened f)
+RunsOver sees clock clock_now base faults load lines (end.Unopened f)
     told taken taken_now old new =
     (told → taken_now ≡ taken)
-    × LeavesUnopened files may_leave moment left_since clock f old new
-RunsOver files may_leave moment left_since clock clock_now base faults load lines e told
+    × LeavesUnopened sees clock f old new
+RunsOver sees clock clock_now base faults load lines e told
     taken taken_now old new =
-    ServesLines files may_leave moment left_since clock clock_now base faults load lines e told
+    ServesLines sees clock clock_now base faults load lines e told
     taken taken_now old new

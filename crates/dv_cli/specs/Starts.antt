@@ -1,28 +1,14 @@
 -- The log that a run starts from, by the folder that it is given.
-use Rattle.std.specs.Prelude.{◌≡◌, ◌⊎◌, ℕ, Bool, [], None, false, true}
+use Rattle.std.specs.Prelude.{◌≡◌, ◌⊎◌, ℕ, [], true}
 use Rattle.dv_model.specs.declared.types.Mailbox.{Mailbox}
 use Rattle.dv_model.specs.declared.types.Mark.{Mark}
 use Rattle.dv_model.specs.Journals.{Log}
-use Rattle.dv_shelf.specs.declared.shelf.Name.{Name}
-use Rattle.dv_shelf.specs.declared.shelf.Name.TheVariants as name
-use Rattle.dv_shelf.specs.Folders.{Folder}
+use Rattle.dv_shelf.specs.Folders.{Folder, IsNew}
 use Rattle.dv_openings.specs.Openings.{Finds, IsFound}
 use Rattle.dv_openings.specs.Rebuilds.{stamp_of}
 use Rattle.dv_chain.specs.Creations.{first_mailbox}
 use Rattle.dv_mails.specs.Reading.{guid_at, mail_at}
 use Rattle.dv_openings.specs.Numbers.{IsNamed}
-
--- a file is one of a mailbox's; a cache file alone makes none
-abbrev pub is_of_mailbox : Name → Bool
-is_of_mailbox name.Cache = false
-is_of_mailbox other = true
-
--- no file of a mailbox is there
-pub record IsNew (folder : Folder) : Type 0 where
-  pub index : folder name.Index ≡ None
-  pub log : folder name.Log ≡ None
-  pub log2 : folder name.Log2 ≡ None
-  pub mail : (n : ℕ) → folder (name.Mail n) ≡ None
 
 -- a mailbox at a place, whose messages are those of the folder's message files
 abbrev pub log_from : ℕ → Mailbox → Mark → Folder → Log

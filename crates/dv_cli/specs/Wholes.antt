@@ -1,7 +1,6 @@
--- A whole run, with its last line. The records take the members of a shelf's type.
+-- A whole run, with its last line. The records take what a shelf shows.
 use Rattle.std.specs.Prelude.{◌≡◌, ◌⊎◌, ℕ, List, Option, ⊤}
 use Rattle.dv_script.specs.declared.types.ScriptEnd.TheVariants as script
-use Rattle.dv_shelf.specs.Folders.{Folder}
 use Rattle.dv_formats.specs.Parsing.{ScriptFault}
 use Rattle.dv_formats.specs.Scripts.{NamedLine}
 use Rattle.dv_cli.specs.declared.ending.End.{End}
@@ -12,6 +11,8 @@ use Rattle.dv_cli.specs.Rebuilding.{RebuildsFolder}
 use Rattle.dv_cli.specs.Runs.{RunsOver}
 use Rattle.dv_cli.specs.Tasks.{HasScript, RepliesTold, load_in}
 use Rattle.dv_cli.specs.declared.words.Task.{Task}
+use Rattle.dv_notices.specs.declared.telling.Told.{Told}
+use Rattle.dv_shelf.specs.Sees.{SeesFolder}
 
 -- reading a good script ends a run so
 abbrev pub EndsReading : End → Type 0
@@ -28,40 +29,37 @@ IsUnread e taken taken_now old new =
 -- The lines of a task: the script couldn't be read after all, and the folder is untouched; or they
 -- were answered, or the folder isn't opened, as it always is with generated ones. To these no reply
 -- is written.
-pub record RunsTask {S : Type 0} (files : S → Folder) (may_leave : S → Folder → Type 0)
-    (moment : S → ℕ) (left_since : S → ℕ → Folder → Type 0) (clock clock_now : ℕ → ℕ)
+pub record RunsTask {S : Type 0} (sees : SeesFolder S) (clock clock_now : ℕ → ℕ)
     (base faults : ℕ) (t : Option Task) (lines : List NamedLine) (e : End)
     (told : Type 0) (taken taken_now : List ℕ) (old new : S)
     : Type 0 where
   pub runs : IsUnread e taken taken_now old new
-      ⊎ RunsOver files may_leave moment left_since clock clock_now base faults (load_in t) lines e
+      ⊎ RunsOver sees clock clock_now base faults (load_in t) lines e
       (RepliesTold t told) taken taken_now old new
   pub loads : (HasScript t → ⊥)
-      → RunsOver files may_leave moment left_since clock clock_now base faults (load_in t) lines e
+      → RunsOver sees clock clock_now base faults (load_in t) lines e
       (RepliesTold t told) taken taken_now old new
   pub silent : (HasScript t → ⊥) → taken_now ≡ taken
 
 -- A run over the lines of a task, behind which the last line was written.
-pub record IsRun {S : Type 0} (files : S → Folder) (may_leave : S → Folder → Type 0)
-    (moment : S → ℕ) (left_since : S → ℕ → Folder → Type 0) (clock clock_now : ℕ → ℕ)
+pub record IsRun {S : Type 0} (sees : SeesFolder S) (clock clock_now : ℕ → ℕ)
     (before now : Counts) (t : Option Task) (lines : List NamedLine) (status : ℕ)
     (told : Type 0) (taken taken_now : List ℕ) (old new : S)
     : Type 0 where
   pub how : End
   pub between : List ℕ
-  pub runs : RunsTask files may_leave moment left_since clock clock_now before.shelf now.shelf t
+  pub runs : RunsTask sees clock clock_now before.shelf now.shelf t
       lines how told taken between old new
   pub cause : ComesFrom before now how
   pub ended : IsStatus how status
   pub concludes : told → Concludes how status between taken_now
 
 -- A run that rebuilds its folder, behind which the last line was written.
-pub record IsRebuildRun {S : Type 0} (files : S → Folder) (may_leave : S → Folder → Type 0)
-    (moment : S → ℕ) (left_since : S → ℕ → Folder → Type 0) (clock clock_now : ℕ → ℕ)
-    (before now : Counts) (status : ℕ) (told : Type 0)
+pub record IsRebuildRun {S : Type 0} (sees : SeesFolder S) (clock clock_now : ℕ → ℕ)
+    (before now : Counts) (status : ℕ) (said : Told) (told : Type 0)
     (taken taken_now : List ℕ) (old new : S) : Type 0 where
   pub how : End
-  pub rebuilds : RebuildsFolder files may_leave moment left_since clock clock_now how old new
+  pub rebuilds : RebuildsFolder sees clock clock_now how said old new
   pub cause : ComesFrom before now how
   pub ended : IsStatus how status
   pub concludes : told → Concludes how status taken taken_now

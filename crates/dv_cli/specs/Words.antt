@@ -2,6 +2,8 @@
 use Rattle.std.specs.Prelude.{◌≡◌, ◌⊎◌, ◌≤◌, ◌^◌, ⊤, ℕ, Bool, false, List, [], ◌∷◌, Option, Some, None, bytes_eq, codes, nat_le, option_map, if◌then◌else◌}
 use Rattle.dv_shelf.specs.Streams.{Appends, AppendsFront}
 use Rattle.dv_formats.specs.Parsing.{◌>>=◌, number_of}
+use Rattle.dv_disk.specs.declared.files.Missing.{Missing}
+use Rattle.dv_disk.specs.declared.files.Missing.TheVariants as missing
 use Rattle.dv_cli.specs.declared.words.Load.{Load}
 use Rattle.dv_cli.specs.declared.words.Task.{Task}
 use Rattle.dv_cli.specs.declared.words.Task.TheVariants as task
@@ -52,6 +54,11 @@ task_of (word ∷ seed ∷ count ∷ sessions ∷ []) =
     if bytes_eq word (codes "gen") then option_map task.Generate (load_of seed count sessions)
     else None
 task_of words = None
+
+-- a rebuild doesn't make a folder that is missing
+abbrev pub missing_for : Option Task → Missing
+missing_for (Some task.Rebuild) = missing.Refuse
+missing_for other = missing.Make
 
 -- ---- what is printed
 

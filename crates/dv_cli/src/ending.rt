@@ -220,12 +220,12 @@ fn last_line(alloc: Global, end: &End) -> Result<Bytes, NoMemory>
 /// Writes a text and gives the status, or 7 where the output fails.
 pub fn write_text<O: Sink>(out: &mut O, text: &[u8], status: u8) -> u8
     requires { status < 7 }
-    ensures text { O.tells →
-        ((result ≡ status) × Appends (O.taken out.old) (O.taken out.new) text.now)
-        ⊎ ((result ≡ 7) × AppendsFront (O.taken out.old) (O.taken out.new) text.now) }
+    ensures text { O.sees.tells →
+        ((result ≡ status) × Appends (O.sees.taken out.old) (O.sees.taken out.new) text.now)
+        ⊎ ((result ≡ 7) × AppendsFront (O.sees.taken out.old) (O.sees.taken out.new) text.now) }
     ensures status { (result ≡ status) ⊎ (result ≡ 7) }
-    ensures later { O.fault_count out.old ≤ O.fault_count out.new }
-    ensures cause { result ≡ 7 → Rose (O.fault_count out.old) (O.fault_count out.new) }
+    ensures later { O.sees.fault_count out.old ≤ O.sees.fault_count out.new }
+    ensures cause { result ≡ 7 → Rose (O.sees.fault_count out.old) (O.sees.fault_count out.new) }
 {
     match out.write_all(text) {
         Ok(()) => status,
@@ -236,11 +236,12 @@ pub fn write_text<O: Sink>(out: &mut O, text: &[u8], status: u8) -> u8
 /// Writes the last line of a run that ends so, where the output hasn't failed before, and gives
 /// the run's status. Where memory for the line runs out the line is that of status 4.
 pub fn conclude<O: Sink>(alloc: Global, out: &mut O, end: &End) -> u8
-    ensures text { O.tells → Concludes end.now result (O.taken out.old) (O.taken out.new) }
+    ensures text { O.sees.tells →
+        Concludes end.now result (O.sees.taken out.old) (O.sees.taken out.new) }
     ensures status { IsStatus end.now result }
-    ensures later { O.fault_count out.old ≤ O.fault_count out.new }
+    ensures later { O.sees.fault_count out.old ≤ O.sees.fault_count out.new }
     ensures cause { result ≡ 7 →
-        (end.now ≡ how.Sink) ⊎ Rose (O.fault_count out.old) (O.fault_count out.new) }
+        (end.now ≡ how.Sink) ⊎ Rose (O.sees.fault_count out.old) (O.sees.fault_count out.new) }
 {
     match end {
         End::Usage => write_text(out, b"FAULT 1 USAGE\n", 1),
@@ -253,10 +254,11 @@ pub fn conclude<O: Sink>(alloc: Global, out: &mut O, end: &End) -> u8
 /// Writes a last line that takes memory.
 fn write_formatted<O: Sink>(alloc: Global, out: &mut O, end: &End) -> u8
     requires { is_plain end.now ≡ false }
-    ensures text { O.tells → Concludes end.now result (O.taken out.old) (O.taken out.new) }
+    ensures text { O.sees.tells →
+        Concludes end.now result (O.sees.taken out.old) (O.sees.taken out.new) }
     ensures status { IsStatus end.now result }
-    ensures later { O.fault_count out.old ≤ O.fault_count out.new }
-    ensures cause { result ≡ 7 → Rose (O.fault_count out.old) (O.fault_count out.new) }
+    ensures later { O.sees.fault_count out.old ≤ O.sees.fault_count out.new }
+    ensures cause { result ≡ 7 → Rose (O.sees.fault_count out.old) (O.sees.fault_count out.new) }
 {
     match last_line(alloc, end) {
         Ok(line) => write_text(out, line.as_slice(), status(end)),

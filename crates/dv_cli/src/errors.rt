@@ -19,11 +19,7 @@ impl ErrorOutput {
 }
 
 impl Sink for ErrorOutput {
-    ghost tells = { ⊥ };
-
-    ghost taken = { λ _. [] };
-
-    ghost fault_count = { λ _. 0 };
+    ghost sees = { record { tells = ⊥; taken = λ _. []; fault_count = λ _. 0 } };
 
     fn write_all(&mut self, bytes: &[u8]) -> Result<(), Failed> {
         write_error(self.rt, bytes);

@@ -1,12 +1,13 @@
 //! A generated load is answered over a mailbox folder.
 
-ghost use Rattle.std.specs.Prelude.{[], Some, length};
+ghost use Rattle.std.specs.Prelude.{◌≡◌, [], Some, length};
 ghost use Rattle.dv_shelf.specs.Crashes.{IsSettled};
 ghost use Rattle.dv_serial.specs.NextRuns.{IsTrueFolder};
 ghost use Rattle.dv_cli.specs.Causes.{EndCause, TakesForRun, TellsFaults};
 ghost use Rattle.dv_cli.specs.Runs.{RunsOver};
 ghost use Rattle.dv_cli.specs.Tasks.{EndsBy, generated_by};
 ghost use Rattle.dv_cli.specs.Words.{IsLoad};
+ghost use Rattle.dv_notices.specs.declared.telling.Told.TheVariants as telling;
 ghost use Rattle.dv_cli.specs.declared.words.Task.TheVariants as task;
 
 use crate::running::{Outcome, run_folder};
@@ -26,18 +27,22 @@ pub fn run_load<S: Shelf, C: Clock, G: Gate>(
 ) -> Outcome<S, C>
     requires few { IsLoad load }
     // Of a settled folder with a true cache: what is answered and left, at any moment too.
-    ensures runs { S.tells → C.tells → IsSettled S.files S.may_leave shelf →
-        IsTrueFolder (S.files shelf) →
-        RunsOver S.files S.may_leave S.moment S.left_since (C.upcoming clock)
-        (C.upcoming result.clock) (S.fault_count shelf) (S.fault_count result.shelf) (Some load)
+    ensures runs { S.sees.tells → C.sees.tells → IsSettled S.sees shelf →
+        IsTrueFolder (S.sees.files shelf) →
+        RunsOver S.sees (C.sees.upcoming clock)
+        (C.sees.upcoming result.clock) (S.sees.fault_count shelf) (S.sees.fault_count result.shelf)
+        (Some load)
         (generated_by load) result.end ⊥ [] [] shelf result.shelf }
     // A fault that is found is told, and only where there is none all lines are answered.
-    ensures found { S.tells → TellsFaults (S.files shelf) result.end }
+    ensures found { S.sees.tells → TellsFaults (S.sees.files shelf) result.end }
     // Each end is of such a run and has its cause, and the clock is read so often.
     ensures ends { EndsBy (Some (task.Generate load)) result.end }
-    ensures cause { EndCause (S.fault_count shelf) (S.fault_count result.shelf) 0 0 result.end }
-    ensures readings { C.tells → TakesForRun (length (generated_by load)) (C.upcoming clock)
-        (C.upcoming result.clock) result.end }
+    ensures quiet { result.told ≡ telling.Nothing }
+    ensures cause { EndCause (S.sees.fault_count shelf) (S.sees.fault_count result.shelf) 0 0
+        result.end }
+    ensures readings { C.sees.tells →
+        TakesForRun (length (generated_by load)) (C.sees.upcoming clock)
+        (C.sees.upcoming result.clock) result.end }
 {
     let mut lines = generated_lines(alloc, load.seed, load.count, load.sessions);
     generated_are_servable();

@@ -1,7 +1,6 @@
 //! The mailbox of a folder is opened, or made where there is none.
 
 ghost use Rattle.std.specs.Prelude.{◌≡◌, All, IfErr, IfOk, MatchBool};
-ghost use Rattle.std.specs.List.{list_any};
 ghost use Rattle.dv_model.specs.Journals.{HasResets, IsU32};
 ghost use Rattle.dv_model.specs.Mailboxes.{IsValid};
 ghost use Rattle.dv_shelf.specs.Crashes.{IsSettled};
@@ -10,41 +9,24 @@ ghost use Rattle.dv_store.specs.Opening.{answered, clock_behind, shelf_behind};
 ghost use Rattle.dv_cli.specs.Begins.{Begins};
 ghost use Rattle.dv_cli.specs.Causes.{TakesForOpening, TellsOpening};
 ghost use Rattle.dv_serial.specs.NextRuns.{IsTrueFolder};
-ghost use Rattle.dv_cli.specs.Starts.{IsNew, is_of_mailbox};
+ghost use Rattle.dv_shelf.specs.Folders.{IsNew};
 
 use dv_model::{Extension, OpenFault};
-use dv_shelf::{Clock, Name, Shelf, ShelfFault};
+use dv_shelf::{Clock, Shelf, ShelfFault};
 use dv_store::Store;
 use std::alloc::Global;
 
-/// Whether a file is one of a mailbox's. A cache file alone makes none.
-fn is_of_mailbox(name: Name) -> bool
-    ensures { result ≡ is_of_mailbox name }
-{
-    match name {
-        Name::Index | Name::Log | Name::Log2 | Name::Mail(_) => true,
-        Name::Cache => false,
-    }
-}
-
-/// Whether one of these is a file of a mailbox.
-fn are_of_mailbox(names: &[Name]) -> bool
-    ensures { result ≡ list_any is_of_mailbox names.now }
-{
-    names.iter().any(|name| is_of_mailbox(*name))
-}
-
 /// Whether the folder has a file of a mailbox.
 fn has_mailbox<S: Shelf>(alloc: Global, shelf: &mut S) -> Result<bool, OpenFault>
-    ensures is { S.tells → IfOk result (λ has.
-        MatchBool has (IsNew (S.files shelf.old) → ⊥) (IsNew (S.files shelf.old))) }
-    ensures looks { S.tells →
-        OnlyLooks S.files S.may_leave S.moment S.left_since shelf.old shelf.new }
+    ensures is { S.sees.tells → IfOk result (λ has.
+        MatchBool has (IsNew (S.sees.files shelf.old) → ⊥) (IsNew (S.sees.files shelf.old))) }
+    ensures looks { S.sees.tells →
+        OnlyLooks S.sees shelf.old shelf.new }
     ensures err { IfErr result IsOutside }
-    ensures cause { HasCause (S.fault_count shelf.old) (S.fault_count shelf.new) result }
+    ensures cause { HasCause (S.sees.fault_count shelf.old) (S.sees.fault_count shelf.new) result }
 {
-    match shelf.list(alloc) {
-        Ok(names) => Ok(are_of_mailbox(names.as_slice())),
+    match shelf.has_mailbox(alloc) {
+        Ok(has) => Ok(has),
         Err(ShelfFault::Failed) => Err(OpenFault::Disk(shelf.faults())),
         Err(ShelfFault::NoMemory) => Err(OpenFault::NoMemory),
     }
@@ -86,14 +68,14 @@ fn open_found<S: Shelf, C: Clock>(
     shelf: S,
     clock: C,
 ) -> Result<Store<S, C>, (S, C, OpenFault)>
-    ensures begins { S.tells → IsSettled S.files S.may_leave shelf →
-        IsTrueFolder (S.files shelf) → (IsNew (S.files shelf) → ⊥) →
-        Begins S.files S.may_leave S.moment S.left_since C.upcoming (C.upcoming clock) shelf
+    ensures begins { S.sees.tells → IsSettled S.sees shelf →
+        IsTrueFolder (S.sees.files shelf) → (IsNew (S.sees.files shelf) → ⊥) →
+        Begins S.sees C.sees (C.sees.upcoming clock) shelf
         result }
-    ensures found { S.tells → (IsNew (S.files shelf) → ⊥) →
-        TellsOpening (S.files shelf) (answered result) }
+    ensures found { S.sees.tells → (IsNew (S.sees.files shelf) → ⊥) →
+        TellsOpening (S.sees.files shelf) (answered result) }
     ensures clock { clock_behind result ≡ clock }
-    ensures cause { HasCause (S.fault_count shelf) (S.fault_count (shelf_behind result))
+    ensures cause { HasCause (S.sees.fault_count shelf) (S.sees.fault_count (shelf_behind result))
         (answered result) }
 {
     match Store::open(alloc, shelf, clock) {
@@ -111,15 +93,16 @@ fn make_new<S: Shelf, C: Clock>(
     shelf: S,
     clock: C,
 ) -> Result<Store<S, C>, (S, C, OpenFault)>
-    ensures begins { S.tells → C.tells → IsSettled S.files S.may_leave shelf →
-        IsNew (S.files shelf) →
-        Begins S.files S.may_leave S.moment S.left_since C.upcoming (C.upcoming clock) shelf
+    ensures begins { S.sees.tells → C.sees.tells → IsSettled S.sees shelf →
+        IsNew (S.sees.files shelf) →
+        Begins S.sees C.sees (C.sees.upcoming clock) shelf
         result }
-    ensures found { S.tells → IsNew (S.files shelf) →
-        TellsOpening (S.files shelf) (answered result) }
-    ensures clock { C.tells →
-        TakesForOpening (C.upcoming clock) (C.upcoming (clock_behind result)) (answered result) }
-    ensures cause { HasCause (S.fault_count shelf) (S.fault_count (shelf_behind result))
+    ensures found { S.sees.tells → IsNew (S.sees.files shelf) →
+        TellsOpening (S.sees.files shelf) (answered result) }
+    ensures clock { C.sees.tells →
+        TakesForOpening (C.sees.upcoming clock) (C.sees.upcoming (clock_behind result))
+        (answered result) }
+    ensures cause { HasCause (S.sees.fault_count shelf) (S.sees.fault_count (shelf_behind result))
         (answered result) }
 {
     match Store::create(alloc, shelf, clock) {
@@ -140,15 +123,16 @@ pub fn open_folder<S: Shelf, C: Clock>(
 ) -> Result<Store<S, C>, (S, C, OpenFault)>
     // Of a settled folder with a true cache: the log that it starts from, what is left, and what a
     // crash leaves at any moment.
-    ensures begins { S.tells → C.tells → IsSettled S.files S.may_leave shelf →
-        IsTrueFolder (S.files shelf) → Begins S.files S.may_leave S.moment S.left_since C.upcoming
-        (C.upcoming clock) shelf result }
+    ensures begins { S.sees.tells → C.sees.tells → IsSettled S.sees shelf →
+        IsTrueFolder (S.sees.files shelf) → Begins S.sees C.sees
+        (C.sees.upcoming clock) shelf result }
     // Of any folder: a fault that is found is told, and only where there is none it is opened.
-    ensures found { S.tells → TellsOpening (S.files shelf) (answered result) }
+    ensures found { S.sees.tells → TellsOpening (S.sees.files shelf) (answered result) }
     // The clock is read at most once, where a mailbox is made; a fault of the disk has its cause.
-    ensures clock { C.tells →
-        TakesForOpening (C.upcoming clock) (C.upcoming (clock_behind result)) (answered result) }
-    ensures cause { HasCause (S.fault_count shelf) (S.fault_count (shelf_behind result))
+    ensures clock { C.sees.tells →
+        TakesForOpening (C.sees.upcoming clock) (C.sees.upcoming (clock_behind result))
+        (answered result) }
+    ensures cause { HasCause (S.sees.fault_count shelf) (S.sees.fault_count (shelf_behind result))
         (answered result) }
 {
     match has_mailbox(alloc, &mut shelf) {

@@ -1,18 +1,23 @@
 //! What the program's words ask for.
 
-ghost use Rattle.std.specs.Prelude.{◌≡◌, ◌⊎◌, ◌≤◌, [], IfErr, IfOk, Ok, false, map, string_bytes};
+ghost use Rattle.std.specs.Prelude.{◌≡◌, ◌⊎◌, ◌≤◌, [], IfErr, IfOk, MatchBool, None, Ok, false, map, string_bytes};
 ghost use Rattle.dv_model.specs.Counts.{Rose};
-ghost use Rattle.dv_cli.specs.Obeying.{IsMemory, Obeys, Tells};
+ghost use Rattle.dv_cli.specs.Obeying.{IsMemory, Obeys, SaysOf, Tells, TellsErrors};
+ghost use Rattle.dv_notices.specs.declared.telling.Told.TheVariants as telling;
 ghost use Rattle.dv_cli.specs.Running.{usage_text};
-ghost use Rattle.dv_cli.specs.Words.{Prints, asks_for, folder_word, run_words, task_of};
-ghost use Rattle.dv_folder.specs.Paths.{folder_path, path_of};
+ghost use Rattle.dv_cli.specs.Words.{Prints, asks_for, folder_word, missing_for, run_words, task_of};
+ghost use Rattle.dv_folder.specs.Paths.{path_of};
+ghost use Rattle.dv_folder.specs.Ways.{folder_path};
 
 use crate::ending::{End, conclude, write_text};
 use crate::top_call::{Ran, run};
-use dv_folder::{Folder, Input, SystemClock};
+use crate::words::{Task, task_of};
+use dv_folder::{Folder, Input, Layout, Missing, SystemClock};
 use dv_model::NoMemory;
+use dv_notices::{Told, told_text};
 use dv_shelf::{OpenGate, Sink};
 use std::alloc::{AllocError, Global};
+use std::env;
 use std::io::ErrorKind;
 
 /// The word that asks for the text on the program, in the place of the folder.
@@ -94,6 +99,14 @@ fn words_read(
     }
 }
 
+/// The program's words behind its own name, or why they can't be read.
+pub fn words_given(rt: HostRuntime) -> Result<Result<Vec<String>, AllocError>, ErrorKind> {
+    match env::args(&rt) {
+        Ok(words) => Ok(words.skip(1).collect(rt.alloc())),
+        Err(e) => Err(e.kind()),
+    }
+}
+
 /// Whether the first word is this one.
 fn asks(words: &[String], word: &str) -> bool
     ensures { result ≡ asks_for word.now (map string_bytes words.now) }
@@ -104,15 +117,26 @@ fn asks(words: &[String], word: &str) -> bool
     }
 }
 
-/// The folder that the first word names.
-fn folder_named(rt: HostRuntime, words: &[String]) -> Result<Folder, NoMemory>
-    ensures { IfOk result (λ shelf.
-        path_of shelf ≡ folder_path (folder_word (map string_bytes words.now))) }
+/// What is done about a folder that is missing: a rebuild makes none.
+fn missing_for(task: Option<Task>) -> Missing
+    ensures { result ≡ missing_for task }
 {
-    match words {
-        [path, ..] => Folder::new(rt.alloc(), rt, path.as_str()),
-        [] => Folder::new(rt.alloc(), rt, ""),
+    match task {
+        Some(Task::Rebuild) => Missing::Refuse,
+        Some(Task::Run | Task::Generate(_)) | None => Missing::Make,
     }
+}
+
+/// The mailbox folder that the first word names, which the task makes where it is missing, or not.
+fn folder_named(rt: HostRuntime, words: &[String], task: Option<Task>) -> Result<Folder, NoMemory>
+    ensures { IfOk result (λ shelf. path_of shelf
+        ≡ folder_path Layout.Mailbox (folder_word (map string_bytes words.now))) }
+{
+    let path = match words {
+        [path, ..] => path.as_str(),
+        [] => "",
+    };
+    Folder::new(rt.alloc(), rt, path, Layout::Mailbox, missing_for(task))
 }
 
 /// The words behind the folder's.
@@ -125,13 +149,42 @@ fn words_behind(words: &[String]) -> &[String]
     }
 }
 
-/// Tells how the program is used. A failure there has no other place to be told.
-fn tell_usage<E: Sink>(errors: &mut E)
-    ensures { E.tells → Tells USAGE.now (E.taken errors.old) (E.taken errors.new)
-        (E.fault_count errors.old) (E.fault_count errors.new) }
+/// Writes a text to standard error. A failure there has no other place to be told.
+fn write_told<E: Sink>(errors: &mut E, text: &[u8])
+    ensures { E.sees.tells → Tells text.now (E.sees.taken errors.old) (E.sees.taken errors.new)
+        (E.sees.fault_count errors.old) (E.sees.fault_count errors.new) }
 {
-    match errors.write_all(USAGE) {
+    match errors.write_all(text) {
         Ok(()) | Err(_) => {}
+    }
+}
+
+/// Whether nothing is told.
+fn is_nothing(told: &Told) -> bool
+    ensures { MatchBool result (told.now ≡ telling.Nothing) (told.now ≡ telling.Nothing → ⊥) }
+{
+    match told {
+        Told::Nothing => true,
+        Told::BadLine(_) | Told::Rebuilt(_) => false,
+    }
+}
+
+/// Tells how the program is used, at status 1, and what a run tells beside its output; of that
+/// nothing where memory lacks.
+fn tell<E: Sink>(alloc: Global, errors: &mut E, status: u8, told: &Told)
+    ensures told { E.sees.tells → SaysOf told.now status (E.sees.taken errors.old)
+        (E.sees.taken errors.new) (E.sees.fault_count errors.old) (E.sees.fault_count errors.new) }
+    ensures quiet { (status ≡ 1 → ⊥) → told.now ≡ telling.Nothing → errors.new ≡ errors.old }
+{
+    if status == 1 {
+        return write_told(errors, USAGE);
+    }
+    if is_nothing(told) {
+        return;
+    }
+    match told_text(alloc, told) {
+        Ok(text) => write_told(errors, text.as_slice()),
+        Err(_) => {}
     }
 }
 
@@ -145,26 +198,24 @@ fn serve<O: Sink, E: Sink>(
     words: &[String],
 ) -> u8
     ensures usage { task_of (map string_bytes words.now) ≡ None → (result ≡ 1) ⊎ (result ≡ 7) }
-    ensures usage_output { task_of (map string_bytes words.now) ≡ None → O.tells →
-        Prints 1 usage_text result (O.taken out.old) (O.taken out.new) }
+    ensures usage_output { task_of (map string_bytes words.now) ≡ None → O.sees.tells →
+        Prints 1 usage_text result (O.sees.taken out.old) (O.sees.taken out.new) }
     ensures usage_only { result ≡ 1 → task_of (map string_bytes words.now) ≡ None }
-    ensures sink { result ≡ 7 → Rose (O.fault_count out.old) (O.fault_count out.new) }
+    ensures sink { result ≡ 7 → Rose (O.sees.fault_count out.old) (O.sees.fault_count out.new) }
     ensures small { result ≤ 7 }
-    // Standard error takes the usage text at status 1 alone.
-    ensures told { result ≡ 1 → E.tells → Tells USAGE.now (E.taken errors.old)
-        (E.taken errors.new) (E.fault_count errors.old) (E.fault_count errors.new) }
-    ensures quiet { (result ≡ 1 → ⊥) → errors.new ≡ errors.old }
+    // Standard error takes the usage text at status 1, and else what the run tells.
+    ensures told { TellsErrors E.sees (task_of (map string_bytes words.now)) result
+        errors.old errors.new }
 {
     let mut script = Input::new(rt);
     let clock = SystemClock::new(rt);
     let Ran {
         status,
+        told,
         shelf: _shelf,
         clock: _clock,
     } = run(rt.alloc(), words, shelf, &mut script, out, clock, &OpenGate);
-    if status == 1 {
-        tell_usage(errors);
-    }
+    tell(rt.alloc(), errors, status, &told);
     status
 }
 
@@ -172,12 +223,11 @@ fn serve<O: Sink, E: Sink>(
 /// where they aren't `--help` or `--version`. The first word is the folder's path; where there is
 /// none, there are no words behind it either.
 fn obey<O: Sink, E: Sink>(rt: HostRuntime, out: &mut O, errors: &mut E, words: &[String]) -> u8
-    ensures obeys { Obeys (map string_bytes words.now) result O.tells (O.taken out.old)
-        (O.taken out.new) (O.fault_count out.old) (O.fault_count out.new) }
-    // Standard error takes the usage text at status 1 alone.
-    ensures told { result ≡ 1 → E.tells → Tells USAGE.now (E.taken errors.old)
-        (E.taken errors.new) (E.fault_count errors.old) (E.fault_count errors.new) }
-    ensures quiet { (result ≡ 1 → ⊥) → errors.new ≡ errors.old }
+    ensures obeys { Obeys (map string_bytes words.now) result O.sees.tells (O.sees.taken out.old)
+        (O.sees.taken out.new) (O.sees.fault_count out.old) (O.sees.fault_count out.new) }
+    // Standard error takes the usage text at status 1, and else what the run tells.
+    ensures told { TellsErrors E.sees (task_of (run_words (map string_bytes words.now))) result
+        errors.old errors.new }
 {
     if asks(words, HELP_WORD) {
         return write_text(out, HELP, 0);
@@ -185,8 +235,9 @@ fn obey<O: Sink, E: Sink>(rt: HostRuntime, out: &mut O, errors: &mut E, words: &
     if asks(words, VERSION_WORD) {
         return write_text(out, VERSION, 0);
     }
-    match folder_named(rt, words) {
-        Ok(shelf) => serve(rt, out, errors, shelf, words_behind(words)),
+    let behind = words_behind(words);
+    match folder_named(rt, words, task_of(behind)) {
+        Ok(shelf) => serve(rt, out, errors, shelf, behind),
         Err(_) => conclude(rt.alloc(), out, &End::NoMemory),
     }
 }
@@ -200,19 +251,22 @@ pub fn obey_read<O: Sink, E: Sink>(
     read: Result<Result<Vec<String>, AllocError>, ErrorKind>,
 ) -> u8
     ensures texts { IfOk read (λ got. IfOk got (λ words. Obeys (map string_bytes words.items)
-        result O.tells (O.taken out.old) (O.taken out.new) (O.fault_count out.old)
-        (O.fault_count out.new))) }
+        result O.sees.tells (O.sees.taken out.old) (O.sees.taken out.new)
+        (O.sees.fault_count out.old)
+        (O.sees.fault_count out.new))) }
     ensures no_text { IfErr read (λ kind. (kind ≡ ErrorKind.OutOfMemory → ⊥) → Obeys [] result
-        O.tells (O.taken out.old) (O.taken out.new) (O.fault_count out.old)
-        (O.fault_count out.new)) }
-    // Want of memory is told as such.
-    ensures lacking { IfOk read (λ got. IfErr got (λ e. (result ≡ 4) ⊎ (result ≡ 7))) }
+        O.sees.tells (O.sees.taken out.old) (O.sees.taken out.new) (O.sees.fault_count out.old)
+        (O.sees.fault_count out.new)) }
+    // Want of memory is told as such, and nothing beside it.
+    ensures lacking { IfOk read (λ got. IfErr got (λ e.
+        ((result ≡ 4) ⊎ (result ≡ 7)) × (errors.new ≡ errors.old))) }
     ensures memory { IfErr read (λ kind. kind ≡ ErrorKind.OutOfMemory →
-        (result ≡ 4) ⊎ (result ≡ 7)) }
-    // Standard error takes the usage text at status 1 alone.
-    ensures told { result ≡ 1 → E.tells → Tells USAGE.now (E.taken errors.old)
-        (E.taken errors.new) (E.fault_count errors.old) (E.fault_count errors.new) }
-    ensures quiet { (result ≡ 1 → ⊥) → errors.new ≡ errors.old }
+        ((result ≡ 4) ⊎ (result ≡ 7)) × (errors.new ≡ errors.old)) }
+    // Standard error takes the usage text at status 1, and else what the run tells.
+    ensures told { IfOk read (λ got. IfOk got (λ words. TellsErrors E.sees
+        (task_of (run_words (map string_bytes words.items))) result errors.old errors.new)) }
+    ensures told_none { IfErr read (λ kind. (kind ≡ ErrorKind.OutOfMemory → ⊥) →
+        TellsErrors E.sees None result errors.old errors.new) }
 {
     match words_read(rt.alloc(), read) {
         Ok(words) => obey(rt, out, errors, words.as_slice()),

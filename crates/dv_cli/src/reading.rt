@@ -34,14 +34,16 @@ impl From<AllocError> for ReadEnd {
 /// 0 comes only at the script's end.
 fn read_more<I: Source>(script: &mut I, text: &mut Bytes) -> Result<usize, ReadEnd>
     requires { length text.old < read_limit }
-    ensures took { I.tells → (added : List ℕ) × (I.left script.old ≡ added ++ I.left script.new)
+    ensures took { I.sees.tells →
+        (added : List ℕ) × (I.sees.left script.old ≡ added ++ I.sees.left script.new)
         × (length text.old + length added ≤ read_limit)
-        × IfOk result (λ n. (text.new ≡ text.old ++ added) × (n ≡ 0 → I.left script.old ≡ [])) }
+        × IfOk result
+        (λ n. (text.new ≡ text.old ++ added) × (n ≡ 0 → I.sees.left script.old ≡ [])) }
     ensures size { IfOk result (λ n.
         (length text.new ≡ length text.old + n) × (length text.new ≤ read_limit)) }
-    ensures later { I.fault_count script.old ≤ I.fault_count script.new }
+    ensures later { I.sees.fault_count script.old ≤ I.sees.fault_count script.new }
     ensures cause { IfErr result (λ e.
-        IsSourceFault e (I.fault_count script.old) (I.fault_count script.new)) }
+        IsSourceFault e (I.sees.fault_count script.old) (I.sees.fault_count script.new)) }
 {
     let mut buffer = [0; CHUNK];
     let room = SCRIPT_LIMIT + 1 - text.len();
@@ -58,12 +60,13 @@ fn read_more<I: Source>(script: &mut I, text: &mut Bytes) -> Result<usize, ReadE
 
 /// The script, or its first 67,108,865 bytes where it is longer.
 pub fn read_script<I: Source>(alloc: Global, script: &mut I) -> Result<Bytes, ReadEnd>
-    ensures text { I.tells → IfOk result (λ text. text ≡ take read_limit (I.left script.old)) }
-    ensures bound { I.tells → (taken : List ℕ)
-        × (I.left script.old ≡ taken ++ I.left script.new) × (length taken ≤ read_limit) }
-    ensures later { I.fault_count script.old ≤ I.fault_count script.new }
+    ensures text { I.sees.tells →
+        IfOk result (λ text. text ≡ take read_limit (I.sees.left script.old)) }
+    ensures bound { I.sees.tells → (taken : List ℕ)
+        × (I.sees.left script.old ≡ taken ++ I.sees.left script.new) × (length taken ≤ read_limit) }
+    ensures later { I.sees.fault_count script.old ≤ I.sees.fault_count script.new }
     ensures cause { IfErr result (λ e.
-        IsSourceFault e (I.fault_count script.old) (I.fault_count script.new)) }
+        IsSourceFault e (I.sees.fault_count script.old) (I.sees.fault_count script.new)) }
 {
     let mut text = List::new(alloc);
     while text.len() <= SCRIPT_LIMIT {

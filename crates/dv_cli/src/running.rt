@@ -2,6 +2,7 @@
 
 ghost use Rattle.std.specs.Prelude.{◌≡◌, ◌≤◌, ◌*◌, ◌^◌, ℕ, All, length};
 ghost use Rattle.dv_cli.specs.declared.ending.End.TheVariants as how;
+ghost use Rattle.dv_notices.specs.declared.telling.Told.TheVariants as telling;
 ghost use Rattle.dv_shelf.specs.Crashes.{IsSettled};
 ghost use Rattle.dv_formats.specs.Scripts.{NamedLine, sessions_of};
 ghost use Rattle.dv_serial.specs.NextRuns.{IsTrueFolder};
@@ -15,15 +16,17 @@ use crate::ending::{End, Loaded};
 use crate::opening::open_folder;
 use crate::words::Load;
 use dv_model::Mark;
+use dv_notices::Told;
 use dv_script::Lines;
 use dv_serial::{LineEnd, Serial, new_seats};
 use dv_shelf::{Clock, Gate, Shelf, Sink};
 use dv_store::Store;
 use std::alloc::Global;
 
-/// How a run ends, with the folder and the clock.
+/// How a run ends and what it tells beside its output, with the folder and the clock.
 pub struct Outcome<S, C> {
     pub end: End,
+    pub told: Told,
     pub shelf: S,
     pub clock: C,
 }
@@ -56,18 +59,25 @@ fn end_behind(served: Result<(), LineEnd>, mark: Mark, groups: u64, loaded: Opti
 }
 
 /// The outcome where the folder isn't touched.
-pub fn untouched<S, C>(shelf: S, clock: C, end: End) -> Outcome<S, C>
+pub fn untouched<S, C>(shelf: S, clock: C, end: End, told: Told) -> Outcome<S, C>
     ensures end { result.end ≡ end }
+    ensures told { result.told ≡ told }
     ensures shelf { result.shelf ≡ shelf }
     ensures clock { result.clock ≡ clock }
 {
-    Outcome { end, shelf, clock }
+    Outcome {
+        end,
+        told,
+        shelf,
+        clock,
+    }
 }
 
 /// The outcome where memory ran out before the first line.
 fn unserved<S, C>(store: Store<S, C>) -> Outcome<S, C>
     ensures { result ≡ record {
       end = how.NoMemory;
+      told = telling.Nothing;
       shelf = store.shelf;
       clock = store.clock;
     } }
@@ -75,6 +85,7 @@ fn unserved<S, C>(store: Store<S, C>) -> Outcome<S, C>
     let (shelf, clock) = store.parts();
     Outcome {
         end: End::NoMemory,
+        told: Told::Nothing,
         shelf,
         clock,
     }
@@ -95,17 +106,18 @@ fn serve_lines<S: Shelf, C: Clock, L: Lines, O: Sink, G: Gate>(
     requires few { length (L.left lines.old) ≤ 2 ^ 26 }
     requires sessions { sessions ≡ length (sessions_of (L.left lines.old)) }
     // Where the store is one from which a run begins: what is answered, written and left.
-    ensures runs { S.tells → C.tells → (clock : ℕ → ℕ) (old : S) →
-        IsBegun S.files S.may_leave S.moment S.left_since C.upcoming clock old store →
-        (base : ℕ) → base ≤ S.fault_count store.shelf →
-        ServesLines S.files S.may_leave S.moment S.left_since clock (C.upcoming result.clock)
-        base (S.fault_count result.shelf) load (L.left lines.old) result.end
-        O.tells (O.taken out.old) (O.taken out.new) old result.shelf }
-    ensures ends { EndsServing result.end }
-    ensures cause { EndCause (S.fault_count store.shelf) (S.fault_count result.shelf)
-        (O.fault_count out.old) (O.fault_count out.new) result.end }
-    ensures readings { C.tells → TakesUpTo (2 * length (L.left lines.old)) (C.upcoming store.clock)
-        (C.upcoming result.clock) }
+    ensures runs { S.sees.tells → C.sees.tells → (clock : ℕ → ℕ) (old : S) →
+        IsBegun S.sees C.sees clock old store →
+        (base : ℕ) → base ≤ S.sees.fault_count store.shelf →
+        ServesLines S.sees clock (C.sees.upcoming result.clock)
+        base (S.sees.fault_count result.shelf) load (L.left lines.old) result.end
+        O.sees.tells (O.sees.taken out.old) (O.sees.taken out.new) old result.shelf }
+    ensures ends { EndsServing result.end × (result.told ≡ telling.Nothing) }
+    ensures cause { EndCause (S.sees.fault_count store.shelf) (S.sees.fault_count result.shelf)
+        (O.sees.fault_count out.old) (O.sees.fault_count out.new) result.end }
+    ensures readings { C.sees.tells →
+        TakesUpTo (2 * length (L.left lines.old)) (C.sees.upcoming store.clock)
+        (C.sees.upcoming result.clock) }
 {
     let Ok(seats) = new_seats(alloc, sessions) else {
         return unserved(store);
@@ -115,7 +127,12 @@ fn serve_lines<S: Shelf, C: Clock, L: Lines, O: Sink, G: Gate>(
     let loaded = loaded_by(load, &serial);
     let end = end_behind(served, serial.mark(), serial.count(), loaded);
     let (shelf, clock) = serial.parts();
-    Outcome { end, shelf, clock }
+    Outcome {
+        end,
+        told: Told::Nothing,
+        shelf,
+        clock,
+    }
 }
 
 /// Opens or makes the mailbox, and answers the lines in it, which may be of a generated load.
@@ -133,24 +150,28 @@ pub fn run_folder<S: Shelf, C: Clock, L: Lines, O: Sink, G: Gate>(
     requires few { length (L.left lines.old) ≤ 2 ^ 26 }
     requires sessions { sessions ≡ length (sessions_of (L.left lines.old)) }
     // Of a settled folder with a true cache: what is answered, written and left, at any moment too.
-    ensures runs { S.tells → C.tells → IsSettled S.files S.may_leave shelf →
-        IsTrueFolder (S.files shelf) →
-        RunsOver S.files S.may_leave S.moment S.left_since (C.upcoming clock)
-        (C.upcoming result.clock) (S.fault_count shelf) (S.fault_count result.shelf)
-        load (L.left lines.old) result.end O.tells (O.taken out.old)
-        (O.taken out.new) shelf result.shelf }
-    // A fault that is found is told, and only where there is none all lines are answered.
-    ensures found { S.tells → TellsFaults (S.files shelf) result.end }
+    ensures runs { S.sees.tells → C.sees.tells → IsSettled S.sees shelf →
+        IsTrueFolder (S.sees.files shelf) →
+        RunsOver S.sees (C.sees.upcoming clock)
+        (C.sees.upcoming result.clock) (S.sees.fault_count shelf) (S.sees.fault_count result.shelf)
+        load (L.left lines.old) result.end O.sees.tells (O.sees.taken out.old)
+        (O.sees.taken out.new) shelf result.shelf }
+    // A fault that is found is told, and only where there is none all lines are answered; nothing
+    // is told beside it.
+    ensures found { S.sees.tells → TellsFaults (S.sees.files shelf) result.end }
+    ensures quiet { result.told ≡ telling.Nothing }
     // Each end has its cause, and the clock is read so often.
-    ensures cause { EndCause (S.fault_count shelf) (S.fault_count result.shelf)
-        (O.fault_count out.old) (O.fault_count out.new) result.end }
-    ensures readings { C.tells → TakesForRun (length (L.left lines.old)) (C.upcoming clock)
-        (C.upcoming result.clock) result.end }
+    ensures cause { EndCause (S.sees.fault_count shelf) (S.sees.fault_count result.shelf)
+        (O.sees.fault_count out.old) (O.sees.fault_count out.new) result.end }
+    ensures readings { C.sees.tells →
+        TakesForRun (length (L.left lines.old)) (C.sees.upcoming clock)
+        (C.sees.upcoming result.clock) result.end }
 {
     match open_folder(alloc, shelf, clock) {
         Ok(store) => serve_lines(alloc, store, load, lines, sessions, out, gate),
         Err((shelf, clock, fault)) => Outcome {
             end: End::Unopened(fault),
+            told: Told::Nothing,
             shelf,
             clock,
         },

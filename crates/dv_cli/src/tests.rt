@@ -1,5 +1,6 @@
 mod faults;
 mod folders;
+mod gates;
 mod hostile;
 mod limits;
 mod real;
@@ -64,6 +65,7 @@ fn play_in<S: Shelf + Send + Drop, G: Gate + Sync>(
     let clock = MemClock::new(alloc, List::from_slice(alloc, &[1000, 1001])?);
     let Ran {
         status,
+        told: _told,
         shelf,
         clock: _clock,
     } = run(

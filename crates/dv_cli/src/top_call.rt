@@ -1,6 +1,6 @@
 //! The whole run.
 
-ghost use Rattle.std.specs.Prelude.{◌≡◌, ◌≢◌, ◌⊎◌, ◌≤◌, ℕ, Err, IfErr, IfOk, List, None, Ok, Result, Some, length, map, string_bytes};
+ghost use Rattle.std.specs.Prelude.{◌≡◌, ◌≢◌, ◌⊎◌, ◌≤◌, ℕ, Err, IfErr, IfOk, List, None, Ok, Result, Some, length, map, string_bytes, take};
 ghost use Rattle.dv_model.specs.Journals.{Log};
 ghost use Rattle.dv_shelf.specs.Crashes.{IsSettled};
 ghost use Rattle.dv_shelf.specs.Streams.{Appends};
@@ -10,12 +10,13 @@ ghost use Rattle.dv_serial.specs.NextRuns.{IsTrueFolder};
 ghost use Rattle.dv_serial.specs.Serves.{TakesUpTo};
 ghost use Rattle.dv_cli.specs.Causes.{AnyRose, EndsRefused, HasCauses, HasFault, HasRunCause, IsOr, IsReadEnd, IsTimed, IsUntouched, ScriptEnds, TakesByEnd, TellsFaults, TellsScript, counts_of, most_readings};
 ghost use Rattle.dv_cli.specs.Outputs.{IsOutputOf};
-ghost use Rattle.dv_cli.specs.Readings.{TakesFront};
+ghost use Rattle.dv_cli.specs.Readings.{TakesFront, read_limit};
 ghost use Rattle.dv_cli.specs.Rebuilding.{RebuildsFolder};
 ghost use Rattle.dv_cli.specs.Running.{usage_text};
 ghost use Rattle.dv_cli.specs.Runs.{RunsOver};
 ghost use Rattle.dv_cli.specs.Starts.{Starts};
 ghost use Rattle.dv_cli.specs.Tasks.{Answers, EndsBy, HasScript};
+ghost use Rattle.dv_cli.specs.Told.{IsToldAt, IsToldBy, TellsEnd, TellsFault};
 ghost use Rattle.dv_cli.specs.Wholes.{IsRebuildRun, IsRefused, IsRun, IsUnread, RunsTask};
 ghost use Rattle.dv_cli.specs.Words.{Prints, task_of};
 ghost use Rattle.dv_cli.specs.declared.ending.End.TheVariants as how;
@@ -28,33 +29,53 @@ use crate::rebuilding::run_rebuild;
 use crate::running::{Outcome, run_folder, untouched};
 use crate::words::{Task, task_of};
 use dv_model::Bytes;
-use dv_script::{Script, open_script};
+use dv_notices::{Told, told_line};
+use dv_script::{Script, ScriptEnd, open_script};
 use dv_serial::commands_are_servable;
 use dv_shelf::{Clock, Gate, Shelf, Sink, Source};
 use std::alloc::Global;
 
-/// What a run leaves: its exit status, the folder and the clock.
+/// What a run leaves: its exit status, what it tells beside its output, the folder and the clock.
 pub struct Ran<S, C> {
     pub status: u8,
+    pub told: Told,
     pub shelf: S,
     pub clock: C,
 }
 
 /// The script's text, or how a run without it ends.
 fn script_text<I: Source>(alloc: Global, script: &mut I) -> Result<Bytes, End>
-    ensures text { I.tells → IfOk result (λ text.
-        parsed text ≡ parsed (I.left script.old)) }
+    ensures text { I.sees.tells → IfOk result (λ text.
+        parsed text ≡ parsed (I.sees.left script.old)) }
+    ensures front { I.sees.tells →
+        IfOk result (λ text. text ≡ take read_limit (I.sees.left script.old)) }
     ensures unread { IfErr result (λ e. (read : Result (List NamedLine) ScriptFault) →
         ScriptEnds e read) }
-    ensures bound { I.tells → TakesFront (I.left script.old) (I.left script.new) }
-    ensures later { I.fault_count script.old ≤ I.fault_count script.new }
+    ensures bound { I.sees.tells → TakesFront (I.sees.left script.old) (I.sees.left script.new) }
+    ensures later { I.sees.fault_count script.old ≤ I.sees.fault_count script.new }
     ensures cause { IfErr result (λ e.
-        IsReadEnd e (I.fault_count script.old) (I.fault_count script.new)) }
+        IsReadEnd e (I.sees.fault_count script.old) (I.sees.fault_count script.new)) }
 {
     match read_script(alloc, script) {
         Ok(text) => Ok(text),
         Err(ReadEnd::Source(faults)) => Err(End::Source(faults)),
         Err(ReadEnd::NoMemory) => Err(End::NoMemory),
+    }
+}
+
+/// What is told of a script that is refused: its first bad line, where there is memory for it.
+fn told_of(alloc: Global, text: &[u8], end: ScriptEnd) -> Told
+    ensures line { TellsEnd text.now (how.Script end) result }
+    ensures at { IsToldAt (how.Script end) result }
+{
+    let number = match end {
+        ScriptEnd::BadLine { line } => line,
+        ScriptEnd::ShortLiteral { line } => line,
+        ScriptEnd::TooLong | ScriptEnd::NoMemory => return Told::Nothing,
+    };
+    match told_line(alloc, text, number) {
+        Ok(line) => Told::BadLine(line),
+        Err(_) => Told::Nothing,
     }
 }
 
@@ -68,36 +89,42 @@ fn run_script<S: Shelf, I: Source, O: Sink, C: Clock, G: Gate>(
     gate: &G,
 ) -> Outcome<S, C>
     // The lines of a good script are answered, unless it couldn't be read.
-    ensures runs { S.tells → C.tells → I.tells → IsSettled S.files S.may_leave shelf →
-        IsTrueFolder (S.files shelf) → (lines : List NamedLine) →
-        parsed (I.left script.old) ≡ Ok lines →
-        IsUnread result.end (O.taken out.old) (O.taken out.new) shelf result.shelf
-        ⊎ RunsOver S.files S.may_leave S.moment S.left_since (C.upcoming clock)
-        (C.upcoming result.clock) (S.fault_count shelf) (S.fault_count result.shelf) None lines
-        result.end O.tells (O.taken out.old) (O.taken out.new) shelf result.shelf }
+    ensures runs { S.sees.tells → C.sees.tells → I.sees.tells → IsSettled S.sees shelf →
+        IsTrueFolder (S.sees.files shelf) → (lines : List NamedLine) →
+        parsed (I.sees.left script.old) ≡ Ok lines →
+        IsUnread result.end (O.sees.taken out.old) (O.sees.taken out.new) shelf result.shelf
+        ⊎ RunsOver S.sees (C.sees.upcoming clock)
+        (C.sees.upcoming result.clock) (S.sees.fault_count shelf) (S.sees.fault_count result.shelf)
+        None lines
+        result.end O.sees.tells (O.sees.taken out.old) (O.sees.taken out.new) shelf result.shelf }
     // One that is refused leaves everything but its source untouched.
-    ensures refused { I.tells → (fault : ScriptFault) → parsed (I.left script.old) ≡ Err fault →
+    ensures refused { I.sees.tells → (fault : ScriptFault) →
+        parsed (I.sees.left script.old) ≡ Err fault →
         IsUntouched shelf result.shelf clock result.clock
         × EndsRefused fault result.end × (out.new ≡ out.old) }
     // What the script and the folder hold is told, and each end has its cause.
-    ensures script { I.tells → TellsScript (parsed (I.left script.old)) result.end }
-    ensures found { S.tells → TellsFaults (S.files shelf) result.end }
-    ensures ends { EndsBy (Some task.Run) result.end }
+    ensures script { I.sees.tells → TellsScript (parsed (I.sees.left script.old)) result.end
+        × TellsEnd (take read_limit (I.sees.left script.old)) result.end result.told }
+    ensures found { S.sees.tells → TellsFaults (S.sees.files shelf) result.end }
+    ensures ends { EndsBy (Some task.Run) result.end × IsToldAt result.end result.told }
     ensures cause { HasRunCause
-        (counts_of (S.fault_count shelf) (I.fault_count script.old) (O.fault_count out.old))
-        (counts_of (S.fault_count result.shelf) (I.fault_count script.new) (O.fault_count out.new))
+        (counts_of (S.sees.fault_count shelf) (I.sees.fault_count script.old)
+        (O.sees.fault_count out.old))
+        (counts_of (S.sees.fault_count result.shelf) (I.sees.fault_count script.new)
+        (O.sees.fault_count out.new))
         result.end }
-    ensures bound { I.tells → TakesFront (I.left script.old) (I.left script.new) }
+    ensures bound { I.sees.tells → TakesFront (I.sees.left script.old) (I.sees.left script.new) }
     // How often the clock is read.
-    ensures readings { C.tells → I.tells → (lines : List NamedLine) →
-        parsed (I.left script.old) ≡ Ok lines →
-        TakesUpTo (most_readings (length lines)) (C.upcoming clock) (C.upcoming result.clock) }
-    ensures unread { C.tells →
-        TakesByEnd (C.upcoming clock) (C.upcoming result.clock) result.end }
+    ensures readings { C.sees.tells → I.sees.tells → (lines : List NamedLine) →
+        parsed (I.sees.left script.old) ≡ Ok lines →
+        TakesUpTo (most_readings (length lines)) (C.sees.upcoming clock)
+        (C.sees.upcoming result.clock) }
+    ensures unread { C.sees.tells →
+        TakesByEnd (C.sees.upcoming clock) (C.sees.upcoming result.clock) result.end }
 {
     let text = match script_text(alloc, script) {
         Ok(text) => text,
-        Err(end) => return untouched(shelf, clock, end),
+        Err(end) => return untouched(shelf, clock, end, Told::Nothing),
     };
     commands_are_servable();
     match open_script(alloc, text.as_slice()) {
@@ -108,7 +135,10 @@ fn run_script<S: Shelf, I: Source, O: Sink, C: Clock, G: Gate>(
             } = opened;
             run_folder(alloc, None, &mut lines, sessions, shelf, clock, out, gate)
         }
-        Err(end) => untouched(shelf, clock, End::Script(end)),
+        Err(end) => {
+            let told = told_of(alloc, text.as_slice(), end);
+            untouched(shelf, clock, End::Script(end), told)
+        }
     }
 }
 
@@ -123,45 +153,51 @@ fn perform<S: Shelf, I: Source, O: Sink, C: Clock, G: Gate>(
     gate: &G,
 ) -> Outcome<S, C>
     // The lines of a script, or generated ones, are answered; a folder is rebuilt.
-    ensures runs { S.tells → C.tells → IsSettled S.files S.may_leave shelf →
-        IsTrueFolder (S.files shelf) → (lines : List NamedLine) →
-        Answers (task_of (map string_bytes words.now)) I.tells (parsed (I.left script.old)) lines →
-        RunsTask S.files S.may_leave S.moment S.left_since (C.upcoming clock)
-        (C.upcoming result.clock) (S.fault_count shelf) (S.fault_count result.shelf)
-        (task_of (map string_bytes words.now)) lines result.end O.tells
-        (O.taken out.old) (O.taken out.new) shelf result.shelf }
-    ensures rebuilds { task_of (map string_bytes words.now) ≡ Some task.Rebuild → S.tells →
-        C.tells → IsSettled S.files S.may_leave shelf → (out.new ≡ out.old)
-        × RebuildsFolder S.files S.may_leave S.moment S.left_since (C.upcoming clock)
-        (C.upcoming result.clock) result.end shelf result.shelf }
+    ensures runs { S.sees.tells → C.sees.tells → IsSettled S.sees shelf →
+        IsTrueFolder (S.sees.files shelf) → (lines : List NamedLine) →
+        Answers (task_of (map string_bytes words.now)) I.sees.tells
+        (parsed (I.sees.left script.old)) lines →
+        RunsTask S.sees (C.sees.upcoming clock)
+        (C.sees.upcoming result.clock) (S.sees.fault_count shelf) (S.sees.fault_count result.shelf)
+        (task_of (map string_bytes words.now)) lines result.end O.sees.tells
+        (O.sees.taken out.old) (O.sees.taken out.new) shelf result.shelf }
+    ensures rebuilds { task_of (map string_bytes words.now) ≡ Some task.Rebuild → S.sees.tells →
+        C.sees.tells → IsSettled S.sees shelf → (out.new ≡ out.old)
+        × RebuildsFolder S.sees (C.sees.upcoming clock)
+        (C.sees.upcoming result.clock) result.end result.told shelf result.shelf }
     // What is left untouched where they ask for nothing, or the script is refused.
     ensures usage { task_of (map string_bytes words.now) ≡ None → (out.new ≡ out.old)
         × (result.end ≡ how.Usage)
         × IsUntouched shelf result.shelf clock result.clock }
-    ensures refused { task_of (map string_bytes words.now) ≡ Some task.Run → I.tells →
-        (fault : ScriptFault) → parsed (I.left script.old) ≡ Err fault →
+    ensures refused { task_of (map string_bytes words.now) ≡ Some task.Run → I.sees.tells →
+        (fault : ScriptFault) → parsed (I.sees.left script.old) ≡ Err fault →
         EndsRefused fault result.end
         × IsUntouched shelf result.shelf clock result.clock
         × (out.new ≡ out.old) }
     // What the script and the folder hold is told, and each end has its cause.
-    ensures script { task_of (map string_bytes words.now) ≡ Some task.Run → I.tells →
-        TellsScript (parsed (I.left script.old)) result.end }
-    ensures found { S.tells → TellsFaults (S.files shelf) result.end }
+    ensures script { task_of (map string_bytes words.now) ≡ Some task.Run → I.sees.tells →
+        TellsScript (parsed (I.sees.left script.old)) result.end
+        × TellsEnd (take read_limit (I.sees.left script.old)) result.end result.told }
+    ensures found { S.sees.tells → TellsFaults (S.sees.files shelf) result.end }
     ensures cause { EndsBy (task_of (map string_bytes words.now)) result.end × HasRunCause
-        (counts_of (S.fault_count shelf) (I.fault_count script.old) (O.fault_count out.old))
-        (counts_of (S.fault_count result.shelf) (I.fault_count script.new) (O.fault_count out.new))
-        result.end }
+        (counts_of (S.sees.fault_count shelf) (I.sees.fault_count script.old)
+        (O.sees.fault_count out.old))
+        (counts_of (S.sees.fault_count result.shelf) (I.sees.fault_count script.new)
+        (O.sees.fault_count out.new))
+        result.end × IsToldAt result.end result.told }
     // What is taken of the script, and how often the clock is read.
-    ensures bound { (I.tells → TakesFront (I.left script.old) (I.left script.new))
+    ensures bound { (I.sees.tells → TakesFront (I.sees.left script.old) (I.sees.left script.new))
         × ((HasScript (task_of (map string_bytes words.now)) → ⊥) → script.new ≡ script.old) }
-    ensures readings { C.tells → (lines : List NamedLine) →
-        Answers (task_of (map string_bytes words.now)) I.tells (parsed (I.left script.old)) lines →
-        TakesUpTo (most_readings (length lines)) (C.upcoming clock) (C.upcoming result.clock) }
-    ensures unread { C.tells →
-        TakesByEnd (C.upcoming clock) (C.upcoming result.clock) result.end }
+    ensures readings { C.sees.tells → (lines : List NamedLine) →
+        Answers (task_of (map string_bytes words.now)) I.sees.tells
+        (parsed (I.sees.left script.old)) lines →
+        TakesUpTo (most_readings (length lines)) (C.sees.upcoming clock)
+        (C.sees.upcoming result.clock) }
+    ensures unread { C.sees.tells →
+        TakesByEnd (C.sees.upcoming clock) (C.sees.upcoming result.clock) result.end }
 {
     let Some(task) = task_of(words) else {
-        return untouched(shelf, clock, End::Usage);
+        return untouched(shelf, clock, End::Usage, Told::Nothing);
     };
     match task {
         Task::Run => run_script(alloc, shelf, script, out, clock, gate),
@@ -189,82 +225,107 @@ pub fn run<S: Shelf + Send, I: Source, O: Sink, C: Clock + Send, G: Gate + Sync>
     // generated lines, and the last lines. What is left gives that log with its messages and a true
     // cache, behind all these groups, or with the group of the last write that the disk failed; and
     // so does a crash at any moment, behind a front of them.
-    ensures runs { S.tells → C.tells → IsSettled S.files S.may_leave shelf →
-        IsTrueFolder (S.files shelf) → (lines : List NamedLine) →
-        Answers (task_of (map string_bytes words.now)) I.tells (parsed (I.left script.old)) lines →
-        IsRun S.files S.may_leave S.moment S.left_since (C.upcoming clock) (C.upcoming result.clock)
-        (counts_of (S.fault_count shelf) (I.fault_count script.old) (O.fault_count out.old))
-        (counts_of (S.fault_count result.shelf) (I.fault_count script.new) (O.fault_count out.new))
-        (task_of (map string_bytes words.now)) lines result.status O.tells
-        (O.taken out.old) (O.taken out.new) shelf result.shelf }
+    ensures runs { S.sees.tells → C.sees.tells → IsSettled S.sees shelf →
+        IsTrueFolder (S.sees.files shelf) → (lines : List NamedLine) →
+        Answers (task_of (map string_bytes words.now)) I.sees.tells
+        (parsed (I.sees.left script.old)) lines →
+        IsRun S.sees (C.sees.upcoming clock) (C.sees.upcoming result.clock)
+        (counts_of (S.sees.fault_count shelf) (I.sees.fault_count script.old)
+        (O.sees.fault_count out.old))
+        (counts_of (S.sees.fault_count result.shelf) (I.sees.fault_count script.new)
+        (O.sees.fault_count out.new))
+        (task_of (map string_bytes words.now)) lines result.status O.sees.tells
+        (O.sees.taken out.old) (O.sees.taken out.new) shelf result.shelf }
     // A settled folder is rebuilt, or left as it was; so does a crash at any moment.
-    ensures rebuilds { task_of (map string_bytes words.now) ≡ Some task.Rebuild → S.tells →
-        C.tells → IsSettled S.files S.may_leave shelf →
-        IsRebuildRun S.files S.may_leave S.moment S.left_since (C.upcoming clock)
-        (C.upcoming result.clock)
-        (counts_of (S.fault_count shelf) (I.fault_count script.old) (O.fault_count out.old))
-        (counts_of (S.fault_count result.shelf) (I.fault_count script.new) (O.fault_count out.new))
-        result.status O.tells (O.taken out.old) (O.taken out.new) shelf
+    ensures rebuilds { task_of (map string_bytes words.now) ≡ Some task.Rebuild → S.sees.tells →
+        C.sees.tells → IsSettled S.sees shelf →
+        IsRebuildRun S.sees (C.sees.upcoming clock)
+        (C.sees.upcoming result.clock)
+        (counts_of (S.sees.fault_count shelf) (I.sees.fault_count script.old)
+        (O.sees.fault_count out.old))
+        (counts_of (S.sees.fault_count result.shelf) (I.sees.fault_count script.new)
+        (O.sees.fault_count out.new))
+        result.status result.told O.sees.tells (O.sees.taken out.old) (O.sees.taken out.new) shelf
         result.shelf }
 
     // Words that ask for nothing leave everything untouched, and a script that is refused leaves
-    // folder and clock so; what is written then.
+    // folder and clock so; what is written then. Of such a script its first bad line is told.
     ensures usage { task_of (map string_bytes words.now) ≡ None →
         IsUntouched shelf result.shelf clock result.clock
         × ((result.status ≡ 1) ⊎ (result.status ≡ 7))
-        × (O.tells → Prints 1 usage_text result.status (O.taken out.old) (O.taken out.new)) }
-    ensures refused { task_of (map string_bytes words.now) ≡ Some task.Run → I.tells →
-        (fault : ScriptFault) → parsed (I.left script.old) ≡ Err fault →
+        × (O.sees.tells → Prints 1 usage_text result.status (O.sees.taken out.old)
+        (O.sees.taken out.new)) }
+    ensures refused { task_of (map string_bytes words.now) ≡ Some task.Run → I.sees.tells →
+        (fault : ScriptFault) → parsed (I.sees.left script.old) ≡ Err fault →
         IsUntouched shelf result.shelf clock result.clock × IsRefused fault
-        (counts_of (S.fault_count shelf) (I.fault_count script.old) (O.fault_count out.old))
-        (counts_of (S.fault_count result.shelf) (I.fault_count script.new) (O.fault_count out.new))
-        result.status O.tells (O.taken out.old) (O.taken out.new) }
+        (counts_of (S.sees.fault_count shelf) (I.sees.fault_count script.old)
+        (O.sees.fault_count out.old))
+        (counts_of (S.sees.fault_count result.shelf) (I.sees.fault_count script.new)
+        (O.sees.fault_count out.new))
+        result.status O.sees.tells (O.sees.taken out.old) (O.sees.taken out.new)
+        × TellsFault fault (take read_limit (I.sees.left script.old)) result.told }
 
-    // What each status comes from; where a fault is found in the folder it is 3, and else 0, unless
-    // memory runs out or something outside fails.
-    ensures causes { HasCauses result.status (task_of (map string_bytes words.now))
-        (counts_of (S.fault_count shelf) (I.fault_count script.old) (O.fault_count out.old))
-        (counts_of (S.fault_count result.shelf) (I.fault_count script.new) (O.fault_count out.new))
-        (S.tells → HasFault (S.files shelf))
-        (I.tells → (fault : ScriptFault) × (parsed (I.left script.old) ≡ Err fault)) }
-    ensures fault { S.tells → (lines : List NamedLine) →
-        Answers (task_of (map string_bytes words.now)) I.tells (parsed (I.left script.old)) lines →
-        HasFault (S.files shelf) → IsOr 3 result.status
-        (counts_of (S.fault_count shelf) (I.fault_count script.old) (O.fault_count out.old))
-        (counts_of (S.fault_count result.shelf) (I.fault_count script.new)
-        (O.fault_count out.new)) }
-    ensures complete { S.tells → (lines : List NamedLine) →
-        Answers (task_of (map string_bytes words.now)) I.tells (parsed (I.left script.old)) lines →
-        (start : Log) (used : ℕ) → Starts (C.upcoming clock) (S.files shelf) start used →
+    // What each status comes from, and what is told beside the output; where a fault is found in the
+    // folder the status is 3, and else 0, unless memory runs out or something outside fails.
+    ensures causes { IsToldBy (task_of (map string_bytes words.now)) result.status result.told
+        × HasCauses result.status (task_of (map string_bytes words.now))
+        (counts_of (S.sees.fault_count shelf) (I.sees.fault_count script.old)
+        (O.sees.fault_count out.old))
+        (counts_of (S.sees.fault_count result.shelf) (I.sees.fault_count script.new)
+        (O.sees.fault_count out.new))
+        (S.sees.tells → HasFault (S.sees.files shelf))
+        (I.sees.tells → (fault : ScriptFault) × (parsed (I.sees.left script.old) ≡ Err fault)) }
+    ensures fault { S.sees.tells → (lines : List NamedLine) →
+        Answers (task_of (map string_bytes words.now)) I.sees.tells
+        (parsed (I.sees.left script.old)) lines →
+        HasFault (S.sees.files shelf) → IsOr 3 result.status
+        (counts_of (S.sees.fault_count shelf) (I.sees.fault_count script.old)
+        (O.sees.fault_count out.old))
+        (counts_of (S.sees.fault_count result.shelf) (I.sees.fault_count script.new)
+        (O.sees.fault_count out.new)) }
+    ensures complete { S.sees.tells → (lines : List NamedLine) →
+        Answers (task_of (map string_bytes words.now)) I.sees.tells
+        (parsed (I.sees.left script.old)) lines →
+        (start : Log) (used : ℕ) → Starts (C.sees.upcoming clock) (S.sees.files shelf) start used →
         IsOr 0 result.status
-        (counts_of (S.fault_count shelf) (I.fault_count script.old) (O.fault_count out.old))
-        (counts_of (S.fault_count result.shelf) (I.fault_count script.new)
-        (O.fault_count out.new)) }
+        (counts_of (S.sees.fault_count shelf) (I.sees.fault_count script.old)
+        (O.sees.fault_count out.old))
+        (counts_of (S.sees.fault_count result.shelf) (I.sees.fault_count script.new)
+        (O.sees.fault_count out.new)) }
 
     // Without want of memory and with nothing failed the output is a function of the words, the
     // folder, the script and the clock.
-    ensures output { S.tells → C.tells → I.tells → O.tells →
-        IsSettled S.files S.may_leave shelf → IsTrueFolder (S.files shelf) →
+    ensures output { S.sees.tells → C.sees.tells → I.sees.tells → O.sees.tells →
+        IsSettled S.sees shelf → IsTrueFolder (S.sees.files shelf) →
         result.status ≢ 4 → (AnyRose
-        (counts_of (S.fault_count shelf) (I.fault_count script.old) (O.fault_count out.old))
-        (counts_of (S.fault_count result.shelf) (I.fault_count script.new) (O.fault_count out.new))
-        → ⊥) → (text : List ℕ) × Appends (O.taken out.old) (O.taken out.new) text
-        × IsOutputOf (task_of (map string_bytes words.now)) (I.left script.old)
-        (C.upcoming clock) (S.files shelf) text }
+        (counts_of (S.sees.fault_count shelf) (I.sees.fault_count script.old)
+        (O.sees.fault_count out.old))
+        (counts_of (S.sees.fault_count result.shelf) (I.sees.fault_count script.new)
+        (O.sees.fault_count out.new))
+        → ⊥) → (text : List ℕ) × Appends (O.sees.taken out.old) (O.sees.taken out.new) text
+        × IsOutputOf (task_of (map string_bytes words.now)) (I.sees.left script.old)
+        (C.sees.upcoming clock) (S.sees.files shelf) text }
 
     // The script is read for `run` alone, and at most one byte more than the longest script is. The
     // clock is read once at most for a mailbox that is made, and twice at most for each line; not
     // at all where the words, the script or the folder are refused, and once at most where the disk
     // fails before the first line.
-    ensures bound { (I.tells → TakesFront (I.left script.old) (I.left script.new))
+    ensures bound { (I.sees.tells → TakesFront (I.sees.left script.old) (I.sees.left script.new))
         × ((HasScript (task_of (map string_bytes words.now)) → ⊥) → script.new ≡ script.old) }
-    ensures readings { C.tells → IsTimed (task_of (map string_bytes words.now)) I.tells
-        (parsed (I.left script.old)) result.status (C.upcoming clock) (C.upcoming result.clock) }
+    ensures readings { C.sees.tells → IsTimed (task_of (map string_bytes words.now)) I.sees.tells
+        (parsed (I.sees.left script.old)) result.status (C.sees.upcoming clock)
+        (C.sees.upcoming result.clock) }
 {
-    let Outcome { end, shelf, clock } = perform(alloc, words, shelf, script, out, clock, gate);
+    let Outcome {
+        end,
+        told,
+        shelf,
+        clock,
+    } = perform(alloc, words, shelf, script, out, clock, gate);
     let status = conclude(alloc, out, &end);
     Ran {
         status,
+        told,
         shelf,
         clock,
     }

@@ -30,6 +30,7 @@ use Rattle.dv_commits.specs.Commits.{CommitsGroup, HealsFolder, KeepsOthers, Ope
 use Rattle.dv_commits.specs.Opening.{MayOpen, mark_behind}
 use Rattle.dv_commits.proofs.Images.{alone_opens, either_opens, group_holds, holds_kept}
 use Rattle.dv_commits.proofs.Resting.{may_open}
+use Rattle.dv_shelf.specs.Sees.{SeesFolder}
 
 -- ---- the group
 
@@ -93,36 +94,36 @@ module _ (chain next : Chain) (same : IsSame chain next) where
 
 -- ---- a commit
 
-module _ {S : Type 0} (files : S → Folder) (may_leave : S → Folder → Type 0) (moment : S → ℕ) (left_since : S → ℕ → Folder → Type 0)
-    (text : List ℕ) (after : Mailbox) (chain : Chain) (pending : IsPending text after chain) (old new : S) (rest : Rests may_leave Nothing chain old) where
+module _ {S : Type 0} (sees : SeesFolder S)
+    (text : List ℕ) (after : Mailbox) (chain : Chain) (pending : IsPending text after chain) (old new : S) (rest : Rests sees Nothing chain old) where
   abbrev e : ℕ
   e = chain.log.end
 
-  long : AreLong e (may_leave old)
+  long : AreLong e (sees.may_leave old)
   long c left = (rest.each c left).1.0
 
   -- an image behind a step from one at rest
-  kept_shut : (d c : Folder) → may_leave old d → IsShut d e text c → HoldsAlone chain c
+  kept_shut : (d c : Folder) → sees.may_leave old d → IsShut d e text c → HoldsAlone chain c
   kept_shut d c left step = (holds_kept chain d c (e + length text) step.kept pending.room (rest.each d left).0, shut_stays d c e text step (rest.each d left).1)
 
-  kept_staged : (d c : Folder) → may_leave old d → IsStaged d e text c → Holds chain c × HasGroup e text (contents c name.Log)
+  kept_staged : (d c : Folder) → sees.may_leave old d → IsStaged d e text c → Holds chain c × HasGroup e text (contents c name.Log)
   kept_staged d c left step = (holds_kept chain d c (e + length text) step.kept pending.room (rest.each d left).0, group_stays d c e text step (rest.each d left).1.0)
 
-  since_opens : (d c : Folder) → may_leave old d → IsBeforeOrAfter d e text c → OpensBeside (Pending text after) chain d c
+  since_opens : (d c : Folder) → sees.may_leave old d → IsBeforeOrAfter d e text c → OpensBeside (Pending text after) chain d c
   since_opens d c left step =
       ⊎_elim (λ shut. let is = kept_shut d c left shut in (shut.kept.others, inl (holds_as chain c is.0 (found_of chain) (alone_opens chain c is.0 is.1))))
       (λ staged. let is = kept_staged d c left staged in (staged.kept.others, either_opens chain c is.0 text after pending is.1)) step
 
-  module _ (log : LogFile) {T E : Type 0} (result : Result T E) (crash : LeavesGroup files may_leave moment left_since text chain.log log result old new) where
-    pub commit_since : LeavesOnly moment left_since old new (FromOneOf (may_leave old) (OpensBeside (Pending text after) chain))
+  module _ (log : LogFile) {T E : Type 0} (result : Result T E) (crash : LeavesGroup sees text chain.log log result old new) where
+    pub commit_since : LeavesOnly sees old new (FromOneOf (sees.may_leave old) (OpensBeside (Pending text after) chain))
     commit_since =
-        weaker moment left_since old new _ (FromOneOf (may_leave old) (OpensBeside (Pending text after) chain)) (crash.since long)
+        weaker sees old new _ (FromOneOf (sees.may_leave old) (OpensBeside (Pending text after) chain)) (crash.since long)
         (λ c from. (from.0, from.1, since_opens from.0 c from.1 from.2))
 
   -- it was done
   pub committed_rests : (next : Chain) → next.live.mailbox ≡ after → next.log.file_seq ≡ chain.log.file_seq → next.log.end + 4 ≡ e + length text
       → (next.log.count ≡ chain.log.count + length pending.records) × (8 * next.log.count ≤ next.log.end) → next.log.debt ≡ debt.None → next.indexid ≡ chain.indexid → next.records ≡ chain.records
-      → Follows (λ d c. IsOpen d e text c) (may_leave old) (may_leave new) → Rests may_leave Nothing next new
+      → Follows (λ d c. IsOpen d e text c) (sees.may_leave old) (sees.may_leave new) → Rests sees Nothing next new
   committed_rests next mailbox seq end count debt indexid records opened = record {
     bounds = record { end = omega (arith, pending.room, end); count = count.1; named = omega (arith, rest.bounds.named, indexid) };
     owes = debt;
@@ -138,7 +139,7 @@ module _ {S : Type 0} (files : S → Folder) (may_leave : S → Folder → Type 
 
   -- it failed
   module _ (next : Chain) (same : IsSame chain next) where
-    pub failed_rests : (d : Debt) → next.log.debt ≡ d → Follows (λ a c. IsLeft d a e text c) (may_leave old) (may_leave new) → Rests may_leave (owed_after d text after) next new
+    pub failed_rests : (d : Debt) → next.log.debt ≡ d → Follows (λ a c. IsLeft d a e text c) (sees.may_leave old) (sees.may_leave new) → Rests sees (owed_after d text after) next new
     failed_rests debt.None due left = record {
       bounds = same_bounds chain next same rest.bounds;
       owes = due;
@@ -157,18 +158,18 @@ module _ {S : Type 0} (files : S → Folder) (may_leave : S → Folder → Type 
     }
 
   -- the files
-  pub commit_others : (log : LogFile) {T E : Type 0} (result : Result T E) → may_leave old (files old) → WritesGroup text chain.log log result (files old) (files new) → KeepsOthers (files old) (files new)
+  pub commit_others : (log : LogFile) {T E : Type 0} (result : Result T E) → sees.may_leave old (sees.files old) → WritesGroup text chain.log log result (sees.files old) (sees.files new) → KeepsOthers (sees.files old) (sees.files new)
   commit_others log (Ok done) here writes n other =
-      let is = writes.written (omega (arith, long (files old) here)) in
-      ap (λ (d : Folder). d n) is ∙ with_else (files old) name.Log _ n other
+      let is = writes.written (omega (arith, long (sees.files old) here)) in
+      ap (λ (d : Folder). d n) is ∙ with_else (sees.files old) name.Log _ n other
   commit_others log (Err fault) here writes n other =
-      ⊎_elim (λ shut. shut.kept.others n other) (λ staged. staged.kept.others n other) (writes.failed (long (files old) here))
+      ⊎_elim (λ shut. shut.kept.others n other) (λ staged. staged.kept.others n other) (writes.failed (long (sees.files old) here))
 
   -- ---- both exits
 
-  module _ (next : Chain) (indexid : next.indexid ≡ chain.indexid) (records : next.records ≡ chain.records) (here : may_leave old (files old)) where
-    pub commit_failed : {T E U F : Type 0} (fault : E) (f : F) → next.live ≡ chain.live → AdvancesLog text chain.log next.log {E = F} (Err f) → WritesGroup text chain.log next.log {T = U} (Err f) (files old) (files new)
-        → LeavesGroup files may_leave moment left_since text chain.log next.log {T = U} (Err f) old new → CommitsGroup files may_leave moment left_since text after chain next {T = T} (Err fault) old new
+  module _ (next : Chain) (indexid : next.indexid ≡ chain.indexid) (records : next.records ≡ chain.records) (here : sees.may_leave old (sees.files old)) where
+    pub commit_failed : {T E U F : Type 0} (fault : E) (f : F) → next.live ≡ chain.live → AdvancesLog text chain.log next.log {E = F} (Err f) → WritesGroup text chain.log next.log {T = U} (Err f) (sees.files old) (sees.files new)
+        → LeavesGroup sees text chain.log next.log {T = U} (Err f) old new → CommitsGroup sees text after chain next {T = T} (Err fault) old new
     commit_failed {U = U} {F = F} fault f live value bytes crash =
         let same : IsSame chain next = record { live = live; seq = value.file_seq; end = value.kept.0; count = value.kept.1; indexid = indexid; records = records } in
         record {
@@ -178,8 +179,8 @@ module _ {S : Type 0} (files : S → Folder) (may_leave : S → Folder → Type 
           others = commit_others next.log {T = U} {E = F} (Err f) here bytes;
         }
 
-    pub commit_done : {T E F : Type 0} (done : T) (mark : Mark) → next.live.mailbox ≡ after → AdvancesLog text chain.log next.log {E = F} (Ok mark) → WritesGroup text chain.log next.log {E = F} (Ok mark) (files old) (files new)
-        → LeavesGroup files may_leave moment left_since text chain.log next.log {E = F} (Ok mark) old new → CommitsGroup files may_leave moment left_since text after chain next {E = E} (Ok done) old new
+    pub commit_done : {T E F : Type 0} (done : T) (mark : Mark) → next.live.mailbox ≡ after → AdvancesLog text chain.log next.log {E = F} (Ok mark) → WritesGroup text chain.log next.log {E = F} (Ok mark) (sees.files old) (sees.files new)
+        → LeavesGroup sees text chain.log next.log {E = F} (Ok mark) old new → CommitsGroup sees text after chain next {E = E} (Ok done) old new
     commit_done {F = F} done mark mailbox value bytes crash = record {
       ok = committed_rests next mailbox value.file_seq value.end (value.counted rest.bounds.count pending.records pending.spelled) value.debt indexid records (crash.opened long);
       err = tt;
@@ -190,49 +191,49 @@ module _ {S : Type 0} (files : S → Folder) (may_leave : S → Folder → Type 
 -- ---- a heal
 
 -- nothing is owed in the log
-module _ {S : Type 0} (files : S → Folder) (may_leave : S → Folder → Type 0) (moment : S → ℕ) (left_since : S → ℕ → Folder → Type 0) (owed : Owed) (chain : Chain) where
-  pub still_heals : (s : S) → healed owed ≡ owed → Rests may_leave owed chain s → ((c : Folder) → left_since s (moment s) c → may_leave s c)
-      → {E : Type 0} → HealsFolder files may_leave moment left_since owed chain chain {T = Unit {0}} {E = E} (Ok tt) s s
+module _ {S : Type 0} (sees : SeesFolder S) (owed : Owed) (chain : Chain) where
+  pub still_heals : (s : S) → healed owed ≡ owed → Rests sees owed chain s → ((c : Folder) → sees.left_since s (sees.moment s) c → sees.may_leave s c)
+      → {E : Type 0} → HealsFolder sees owed chain chain {T = Unit {0}} {E = E} (Ok tt) s s
   still_heals s still rest now = record {
-    ok = subst (λ (o : Owed). Rests may_leave o chain s) (sym still) rest;
+    ok = subst (λ (o : Owed). Rests sees o chain s) (sym still) rest;
     err = tt;
-    any_moment = started moment left_since s (FromOneOf (may_leave s) (OpensBeside owed chain))
+    any_moment = started sees s (FromOneOf (sees.may_leave s) (OpensBeside owed chain))
         (λ c left. let is = now c left in (c, is, (λ n other. refl, may_open owed chain c rest.owes (rest.each c is))));
     others = λ n other. refl;
   }
 
 -- a group is
-module _ {S : Type 0} (files : S → Folder) (may_leave : S → Folder → Type 0) (moment : S → ℕ) (left_since : S → ℕ → Folder → Type 0)
-    (text : List ℕ) (after : Mailbox) (chain : Chain) (old new : S) (rest : Rests may_leave (Pending text after) chain old) where
+module _ {S : Type 0} (sees : SeesFolder S)
+    (text : List ℕ) (after : Mailbox) (chain : Chain) (old new : S) (rest : Rests sees (Pending text after) chain old) where
   abbrev pending-is : IsPending text after chain
   pending-is = rest.owes.1
 
-  pub pending_rest : IsAtRest chain.log.debt chain.log.end text (may_leave old)
-  pending_rest = subst (λ (d : Debt). IsAtRest d chain.log.end text (may_leave old)) (sym rest.owes.0) (λ c left. (rest.each c left).1)
+  pub pending_rest : IsAtRest chain.log.debt chain.log.end text (sees.may_leave old)
+  pending_rest = subst (λ (d : Debt). IsAtRest d chain.log.end text (sees.may_leave old)) (sym rest.owes.0) (λ c left. (rest.each c left).1)
 
-  heal_holds : (d c : Folder) → may_leave old d → IsStaged d chain.log.end text c → Holds chain c
+  heal_holds : (d c : Folder) → sees.may_leave old d → IsStaged d chain.log.end text c → Holds chain c
   heal_holds d c left step = holds_kept chain d c (chain.log.end + length text) step.kept pending-is.room (rest.each d left).0
 
-  heal_opens : (d c : Folder) → may_leave old d → IsStaged d chain.log.end text c → OpensBeside (Pending text after) chain d c
+  heal_opens : (d c : Folder) → sees.may_leave old d → IsStaged d chain.log.end text c → OpensBeside (Pending text after) chain d c
   heal_opens d c left step = (step.kept.others, either_opens chain c (heal_holds d c left step) text after pending-is (group_stays d c chain.log.end text step (rest.each d left).1.0))
 
-  module _ (next : Chain) (same : IsSame chain next) (now : (c : Folder) → may_leave new c → left_since new (moment old) c) where
+  module _ (next : Chain) (same : IsSame chain next) (now : (c : Folder) → sees.may_leave new c → sees.left_since new (sees.moment old) c) where
     pub pending_heals : {E : Type 0} (result : Result (Unit {0}) E) → OnOk result (next.log.debt ≡ debt.None) → OnErr result (next.log.debt ≡ chain.log.debt)
-        → ShutsGate chain.log result (files old) (files new) → ReadsHealed may_leave moment left_since text chain.log next.log result old new
-        → HealsFolder files may_leave moment left_since (Pending text after) chain next result old new
+        → ShutsGate chain.log result (sees.files old) (sees.files new) → ReadsHealed sees text chain.log next.log result old new
+        → HealsFolder sees (Pending text after) chain next result old new
     pending_heals (Ok done) paid due shuts reads = record {
       ok = record {
         bounds = same_bounds chain next same rest.bounds;
         owes = paid;
         each = λ c left.
             let from = (reads.since rest.owes.0).each c (now c left) in
-            let gate = subst (λ (d : Debt). IsAtRest d next.log.end text (may_leave new)) paid reads.rest in
+            let gate = subst (λ (d : Debt). IsAtRest d next.log.end text (sees.may_leave new)) paid reads.rest in
             (same_holds chain next same c (heal_holds from.0 c from.1 from.2), gate c left);
       };
       err = tt;
-      any_moment = weaker moment left_since old new _ (FromOneOf (may_leave old) (OpensBeside (Pending text after) chain)) (reads.since rest.owes.0)
+      any_moment = weaker sees old new _ (FromOneOf (sees.may_leave old) (OpensBeside (Pending text after) chain)) (reads.since rest.owes.0)
           (λ c from. (from.0, from.1, heal_opens from.0 c from.1 from.2));
-      others = λ n other. ap (λ (d : Folder). d n) (shuts.written rest.owes.0) ∙ with_else (files old) name.Log _ n other;
+      others = λ n other. ap (λ (d : Folder). d n) (shuts.written rest.owes.0) ∙ with_else (sees.files old) name.Log _ n other;
     }
     pending_heals (Err fault) paid due shuts reads = record {
       ok = tt;
@@ -241,18 +242,18 @@ module _ {S : Type 0} (files : S → Folder) (may_leave : S → Folder → Type 
         owes = (due ∙ rest.owes.0, same_pending chain next same text after pending-is);
         each = λ c left.
             let from = (reads.since rest.owes.0).each c (now c left) in
-            let group = subst (λ (d : Debt). IsAtRest d next.log.end text (may_leave new)) (due ∙ rest.owes.0) reads.rest in
+            let group = subst (λ (d : Debt). IsAtRest d next.log.end text (sees.may_leave new)) (due ∙ rest.owes.0) reads.rest in
             (same_holds chain next same c (heal_holds from.0 c from.1 from.2), group c left);
       };
-      any_moment = weaker moment left_since old new _ (FromOneOf (may_leave old) (OpensBeside (Pending text after) chain)) (reads.since rest.owes.0)
+      any_moment = weaker sees old new _ (FromOneOf (sees.may_leave old) (OpensBeside (Pending text after) chain)) (reads.since rest.owes.0)
           (λ c from. (from.0, from.1, heal_opens from.0 c from.1 from.2));
       others = shuts.torn.others;
     }
 
 -- what is owed says which
-module _ {S : Type 0} (files : S → Folder) (may_leave : S → Folder → Type 0) (moment : S → ℕ) (left_since : S → ℕ → Folder → Type 0) (chain next : Chain) (old new : S) {F : Type 0} (result : Result (Unit {0}) F)
+module _ {S : Type 0} (sees : SeesFolder S) (chain next : Chain) (old new : S) {F : Type 0} (result : Result (Unit {0}) F)
     (live : next.live ≡ chain.live) (indexid : next.indexid ≡ chain.indexid) (records : next.records ≡ chain.records) (value : SettlesDebt chain.log next.log result)
-    (nothing : chain.log.debt ≡ debt.None → IsOk result × (new ≡ old)) (only : (c : Folder) → left_since old (moment old) c → may_leave old c) where
+    (nothing : chain.log.debt ≡ debt.None → IsOk result × (new ≡ old)) (only : (c : Folder) → sees.left_since old (sees.moment old) c → sees.may_leave old c) where
   same_chain : next.log.debt ≡ chain.log.debt → next ≡ chain
   same_chain due = λ i. record {
     live = live i;
@@ -261,22 +262,22 @@ module _ {S : Type 0} (files : S → Folder) (may_leave : S → Folder → Type 
     records = records i;
   }
 
-  nothing_heals : (owed : Owed) → healed owed ≡ owed → chain.log.debt ≡ debt.None → Rests may_leave owed chain old → HealsFolder files may_leave moment left_since owed chain next result old new
+  nothing_heals : (owed : Owed) → healed owed ≡ owed → chain.log.debt ≡ debt.None → Rests sees owed chain old → HealsFolder sees owed chain next result old new
   nothing_heals owed still none rest = by_result result value.debt (nothing none)
     where
-      by_result : (r : Result (Unit {0}) F) → OnOk r (next.log.debt ≡ debt.None) → IsOk r × (new ≡ old) → HealsFolder files may_leave moment left_since owed chain next {T = Unit {0}} {E = F} r old new
+      by_result : (r : Result (Unit {0}) F) → OnOk r (next.log.debt ≡ debt.None) → IsOk r × (new ≡ old) → HealsFolder sees owed chain next {T = Unit {0}} {E = F} r old new
       by_result (Ok done) paid is =
-          subst (λ (s : S). HealsFolder files may_leave moment left_since owed chain next {T = Unit {0}} {E = F} (Ok done) old s) (sym is.1)
-          (subst (λ (n : Chain). HealsFolder files may_leave moment left_since owed chain n {T = Unit {0}} {E = F} (Ok done) old old) (sym (same_chain (paid ∙ sym none)))
-          (still_heals files may_leave moment left_since owed chain old still rest only))
+          subst (λ (s : S). HealsFolder sees owed chain next {T = Unit {0}} {E = F} (Ok done) old s) (sym is.1)
+          (subst (λ (n : Chain). HealsFolder sees owed chain n {T = Unit {0}} {E = F} (Ok done) old old) (sym (same_chain (paid ∙ sym none)))
+          (still_heals sees owed chain old still rest only))
       by_result (Err fault) paid is = absurd cc
 
-  pub heals : (owed : Owed) → Rests may_leave owed chain old → ShutsGate chain.log result (files old) (files new)
-      → ((text : List ℕ) → IsGroupText text → IsAtRest chain.log.debt chain.log.end text (may_leave old) → ReadsHealed may_leave moment left_since text chain.log next.log result old new)
-      → (moment old ≤ moment new → (c : Folder) → may_leave new c → left_since new (moment old) c) → HealsFolder files may_leave moment left_since owed chain next result old new
+  pub heals : (owed : Owed) → Rests sees owed chain old → ShutsGate chain.log result (sees.files old) (sees.files new)
+      → ((text : List ℕ) → IsGroupText text → IsAtRest chain.log.debt chain.log.end text (sees.may_leave old) → ReadsHealed sees text chain.log next.log result old new)
+      → (sees.moment old ≤ sees.moment new → (c : Folder) → sees.may_leave new c → sees.left_since new (sees.moment old) c) → HealsFolder sees owed chain next result old new
   heals Nothing rest shuts reading now = nothing_heals Nothing refl rest.owes rest
   heals (Last log after) rest shuts reading now = nothing_heals (Last log after) refl rest.owes rest
   heals (Pending text after) rest shuts reading now =
-      let reads = reading text (group_of text after chain rest.owes.1) (pending_rest files may_leave moment left_since text after chain old new rest) in
+      let reads = reading text (group_of text after chain rest.owes.1) (pending_rest sees text after chain old new rest) in
       let same : IsSame chain next = record { live = live; seq = value.kept.0; end = value.kept.1; count = value.kept.2; indexid = indexid; records = records } in
-      pending_heals files may_leave moment left_since text after chain old new rest next same (now (reads.since rest.owes.0).later) result value.debt value.failed shuts reads
+      pending_heals sees text after chain old new rest next same (now (reads.since rest.owes.0).later) result value.debt value.failed shuts reads

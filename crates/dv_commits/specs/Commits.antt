@@ -1,5 +1,5 @@
--- What a commit and a heal do to a chain and to what its folder opens to. The records take the members
--- of a shelf's type.
+-- What a commit and a heal do to a chain and to what its folder opens to. The records take what a
+-- shelf shows.
 use Rattle.std.specs.Prelude.{◌≡◌, ◌≢◌, ◌↔◌, ℕ, ◌+◌, List, Contains, Result, IfOk, OnOk, OnErr, length}
 use Rattle.dv_model.specs.declared.types.Mailbox.{Mailbox}
 use Rattle.dv_model.specs.Fresh.{IsTouched}
@@ -16,6 +16,7 @@ use Rattle.dv_chain.specs.Openings.{HasBounds}
 use Rattle.dv_chain.specs.Rest.{IsPending, Last, Nothing, Owed, Pending, Rests}
 use Rattle.dv_commits.specs.declared.committing.Committed.{Committed}
 use Rattle.dv_commits.specs.Opening.{MayOpen, mark_behind}
+use Rattle.dv_shelf.specs.Sees.{SeesFolder}
 
 -- ---- the chain
 
@@ -25,8 +26,8 @@ pub record IsReady (text : List ℕ) (prepared : Ready) (chain : Chain) : Type 0
   pub pending : IsPending text after chain
   pub makes : Makes chain.live prepared after
 
--- Behind Ok the chain has the mailbox with the group, the mark is its new end behind the text, the UIDs
--- that are touched are handed out, and nothing is owed. An error keeps mailbox, end and count.
+-- Behind Ok the chain has the mailbox with the group, the mark is its new end behind the text, the
+-- UIDs that are touched are handed out, and nothing is owed. An error keeps mailbox, end and count.
 pub record AdvancesChain (text : List ℕ) (old new : Chain) {E : Type 0} (result : Result Committed E)
     : Type 0 where
   pub mailbox : (after : Mailbox) → IsPending text after old
@@ -74,24 +75,23 @@ KeepsOthers old new = (n : Name) → n ≢ name.Log → new n ≡ old n
 abbrev pub OpensBeside : Owed → Chain → Folder → Folder → Type 0
 OpensBeside owed chain old new = KeepsOthers old new × MayOpen owed chain new
 
--- A commit goes from rest to rest. A crash at any moment leaves a folder that opens to the mailbox before
--- or with the group; one behind Ok to that with the group, one behind an error what the debt says.
-pub record CommitsGroup {S : Type 0} (files : S → Folder) (may_leave : S → Folder → Type 0)
-    (moment : S → ℕ) (left_since : S → ℕ → Folder → Type 0) (text : List ℕ) (after : Mailbox)
+-- A commit goes from rest to rest. A crash at any moment leaves a folder that opens to the mailbox
+-- before or with the group; one behind Ok to that with the group, one behind an error what the debt
+-- says.
+pub record CommitsGroup {S : Type 0} (sees : SeesFolder S) (text : List ℕ) (after : Mailbox)
     (chain new_chain : Chain) {T E : Type 0} (result : Result T E) (old new : S) : Type 0 where
-  pub ok : OnOk result (Rests may_leave Nothing new_chain new)
-  pub err : OnErr result (Rests may_leave (owed_after new_chain.log.debt text after) new_chain new)
-  pub any_moment : LeavesOnly moment left_since old new
-      (FromOneOf (may_leave old) (OpensBeside (Pending text after) chain))
-  pub others : KeepsOthers (files old) (files new)
+  pub ok : OnOk result (Rests sees Nothing new_chain new)
+  pub err : OnErr result (Rests sees (owed_after new_chain.log.debt text after) new_chain new)
+  pub any_moment : LeavesOnly sees old new
+      (FromOneOf (sees.may_leave old) (OpensBeside (Pending text after) chain))
+  pub others : KeepsOthers (sees.files old) (sees.files new)
 
--- A heal goes from rest to rest. A crash at any moment leaves a folder that opens to the mailbox, or to
--- that with what is owed; one behind Ok to the mailbox alone.
-pub record HealsFolder {S : Type 0} (files : S → Folder) (may_leave : S → Folder → Type 0)
-    (moment : S → ℕ) (left_since : S → ℕ → Folder → Type 0) (owed : Owed)
+-- A heal goes from rest to rest. A crash at any moment leaves a folder that opens to the mailbox,
+-- or to that with what is owed; one behind Ok to the mailbox alone.
+pub record HealsFolder {S : Type 0} (sees : SeesFolder S) (owed : Owed)
     (chain new_chain : Chain) {T E : Type 0} (result : Result T E) (old new : S) : Type 0 where
-  pub ok : OnOk result (Rests may_leave (healed owed) new_chain new)
-  pub err : OnErr result (Rests may_leave owed new_chain new)
-  pub any_moment : LeavesOnly moment left_since old new
-      (FromOneOf (may_leave old) (OpensBeside owed chain))
-  pub others : KeepsOthers (files old) (files new)
+  pub ok : OnOk result (Rests sees (healed owed) new_chain new)
+  pub err : OnErr result (Rests sees owed new_chain new)
+  pub any_moment : LeavesOnly sees old new
+      (FromOneOf (sees.may_leave old) (OpensBeside owed chain))
+  pub others : KeepsOthers (sees.files old) (sees.files new)

@@ -36,13 +36,14 @@ pub fn commit<S: Shelf>(
     // The mailbox, the mark, the touched UIDs and the debt; what an error keeps.
     ensures value { AdvancesChain text.now chain.old chain.new result }
     // What the folder opens to, at any moment and afterwards; from rest to rest.
-    ensures opens { S.tells → (after : Mailbox) → IsPending text.now after chain.old →
-        Rests S.may_leave Nothing chain.old shelf.old →
-        CommitsGroup S.files S.may_leave S.moment S.left_since
+    ensures opens { S.sees.tells → (after : Mailbox) → IsPending text.now after chain.old →
+        Rests S.sees Nothing chain.old shelf.old →
+        CommitsGroup S.sees
         text.now after chain.old chain.new result shelf.old shelf.new }
     // No message file is read; a fault of the disk has its cause.
-    ensures mail_reads { S.mail_reads shelf.new ≡ S.mail_reads shelf.old }
-    ensures cause { HasDiskCause (S.fault_count shelf.old) (S.fault_count shelf.new) result }
+    ensures mail_reads { S.sees.mail_reads shelf.new ≡ S.sees.mail_reads shelf.old }
+    ensures cause { HasDiskCause (S.sees.fault_count shelf.old) (S.sees.fault_count shelf.new)
+        result }
 {
     let mark = chain.log.commit(shelf, text)?;
     let touched = chain.live.complete(prepared);
@@ -57,15 +58,15 @@ pub fn heal<S: Shelf>(chain: &mut Chain, shelf: &mut S) -> Result<(), Failed>
     ensures value { HealsChain chain.old chain.new result }
     ensures nothing { chain.old.log.debt ≡ Debt.None → IsOk result × (shelf.new ≡ shelf.old) }
     // The files as reads give them.
-    ensures bytes { S.tells →
-        ShutsGate chain.old.log result (S.files shelf.old) (S.files shelf.new) }
+    ensures bytes { S.sees.tells →
+        ShutsGate chain.old.log result (S.sees.files shelf.old) (S.sees.files shelf.new) }
     // What the folder opens to, at any moment and afterwards; from rest to rest.
-    ensures opens { S.tells → (owed : Owed) → Rests S.may_leave owed chain.old shelf.old →
-        HealsFolder S.files S.may_leave S.moment S.left_since
+    ensures opens { S.sees.tells → (owed : Owed) → Rests S.sees owed chain.old shelf.old →
+        HealsFolder S.sees
         owed chain.old chain.new result shelf.old shelf.new }
     // No message file is read; a fault of the disk has its cause.
-    ensures mail_reads { S.mail_reads shelf.new ≡ S.mail_reads shelf.old }
-    ensures cause { HasCause (S.fault_count shelf.old) (S.fault_count shelf.new) result }
+    ensures mail_reads { S.sees.mail_reads shelf.new ≡ S.sees.mail_reads shelf.old }
+    ensures cause { HasCause (S.sees.fault_count shelf.old) (S.sees.fault_count shelf.new) result }
 {
     chain.log.heal(shelf)
 }

@@ -4,16 +4,16 @@ use Rattle.std.proofs.lemmas.List.{append-nil, drop_all}
 use Rattle.std.proofs.lemmas.Result.{err_from_is_err_and}
 use Rattle.std.specs.Prelude.{is_err, IsErrAnd}
 use Rattle.dv_shelf.specs.declared.shelf.Name.{Name}
-use Rattle.dv_shelf.specs.Folders.{Folder, patched}
+use Rattle.dv_shelf.specs.Folders.{Folder, patched, ChangesOnly, IsEither}
 use Rattle.dv_shelf.specs.Crashes.{FollowsNone, Elapses}
 use Rattle.dv_shelf.specs.Disks.{Version, Gone, settled_version}
 use Rattle.dv_system.specs.declared.system.Entry.TheVariants as entry
 use Rattle.dv_system.specs.Entries.{At, empty_file, put_at, hidden_at, written_at, swept_at, unsure_at, synced_at, doubted_at, read_at, IsEntryImage}
-use Rattle.dv_system.specs.Disks.{Disk, changed, changed_names, renamed, with_place, made_place, doubted_place, with_named, may_vanish, IsOneOf, IsUnchangedOr, LeftBy, Unlinks}
+use Rattle.dv_system.specs.Disks.{Disk, changed, changed_names, renamed, with_place, made_place, doubted_place, with_named, may_vanish, files_of, IsOneOf, IsUnchangedOr, LeftBy, Unlinks}
 use Rattle.dv_system.proofs.Named.{named_here, named_else}
 use Rattle.dv_disk.specs.States.{sweeps}
-use Rattle.dv_disk.specs.Steps.{IsDurable, IsQuiet, LeavesNames, OnlyAt}
-use Rattle.dv_disk.proofs.Runs.{quiet, quiet_same}
+use Rattle.dv_disk.specs.Steps.{IsDurable, IsQuiet, LeavesNames, OnlyAt, Puts}
+use Rattle.dv_disk.proofs.Runs.{elapses_on, quiet, quiet_same}
 use Rattle.dv_disk.proofs.Places.{alike, alike_on, is_alike, swept_alike}
 use Rattle.dv_disk.proofs.Readying.{place_quiet, names_quiet, made_vanishes, doubted_vanishes, swept_narrows, unsure_narrows}
 
@@ -132,11 +132,11 @@ unlinked_names old new name is = ap (λ (d : Disk). d.named) is
 pub same_place : (old new other : Disk) → new ≡ other → other.place ≡ old.place → new.place ≡ old.place
 same_place old new other is place = ap (λ (d : Disk). d.place) is ∙ place
 
-pub unlinked : (was : Bool) (name : Name) (old new : Disk) → was ≡ true → Unlinks was name old new → new ≡ changed (put_at Gone false) old (entry.File name)
+pub unlinked : (was : Bool) (name : Name) (old new : Disk) → was ≡ true → Unlinks was (entry.File name) old new → new ≡ changed (put_at Gone false) old (entry.File name)
 unlinked true name old new e is = is
 unlinked false name old new e is = absurd (cc)
 
-pub not_there : (was : Bool) (name : Name) (old new : Disk) → was ≡ false → Unlinks was name old new → (new ≡ old) × (read_at (old.named name) ≡ None)
+pub not_there : (was : Bool) (name : Name) (old new : Disk) → was ≡ false → Unlinks was (entry.File name) old new → (new ≡ old) × (read_at (old.named name) ≡ None)
 not_there true name old new e is = absurd (cc)
 not_there false name old new e is = is
 
@@ -204,6 +204,12 @@ module _ {S : Type 0} (disk : S → Disk) (moment : S → ℕ) (left_since : S �
   folder_failed (inr (inl is)) = place_quiet disk moment left_since now old new made_place made_vanishes is time
   folder_failed (inr (inr is)) = place_quiet disk moment left_since now old new made_place made_vanishes is time
 
+  -- one of the two
+  pub folder_quiet : {T E : Type 0} (r : Result T E) → OnOk r (disk new ≡ with_place made_place (disk old)) → OnErr r (IsOneOf (disk old) (with_place made_place (disk old)) (with_place made_place (disk old)) (disk new))
+      → IsQuiet disk moment left_since old new
+  folder_quiet (Ok x) ok err = place_quiet disk moment left_since now old new made_place made_vanishes ok time
+  folder_quiet (Err e) ok err = folder_failed err
+
   -- a sync of the folder
   pub sweep_quiet : {T E : Type 0} (r : Result T E) → OnOk r (disk new ≡ changed_names swept_at (disk old)) → OnErr r (IsUnchangedOr (disk old) (changed_names unsure_at (disk old)) (disk new))
       → IsQuiet disk moment left_since old new
@@ -215,3 +221,19 @@ module _ {S : Type 0} (disk : S → Disk) (moment : S → ℕ) (left_since : S �
   pub parent_failed : IsUnchangedOr (disk old) (with_place doubted_place (disk old)) (disk new) → IsQuiet disk moment left_since old new
   parent_failed (inl is) = quiet_same moment left_since disk now old new is time
   parent_failed (inr is) = place_quiet disk moment left_since now old new doubted_place doubted_vanishes is time
+
+-- a call that was to put a file there failed, and then the temporary file was removed, or not
+pub puts_cleared : {S T E : Type 0} (disk : S → Disk) (moment : S → ℕ) (left_since : S → ℕ → Folder → Type 0) (name : Name) (that : Option (List ℕ)) (old mid new : S) (r : Result T E) → IsErr r
+    → Puts disk moment left_since name that r old mid → LeavesNames (disk mid) (disk new)
+    → Elapses (moment mid) (moment new) (left_since mid) (left_since new) (LeftBy (disk new)) → Puts disk moment left_since name that r old new
+puts_cleared disk moment left_since name that old mid new (Ok x) failed first same time = absurd (cc)
+puts_cleared disk moment left_since name that old mid new (Err e) failed first same time =
+    let files : files_of (disk new) ≡ files_of (disk mid) = ap (λ (m : Name → At). λ (n : Name). read_at (m n)) same.named in
+    let back : LeavesNames (disk new) (disk mid) = record { place = sym same.place; named = sym same.named } in
+    record {
+      ok = tt;
+      err = subst (λ (f : Folder). ChangesOnly name (IsEither that) (files_of (disk old)) f) (sym files) first.err;
+      durable = tt;
+      crash = λ c left. first.crash c (names_same (disk mid) (disk new) same c left);
+      time = elapses_on moment left_since old mid new (LeftBy (disk mid)) (LeftBy (disk new)) (LeftBy (disk new)) first.time time (names_same (disk new) (disk mid) back) (λ c left. left);
+    }

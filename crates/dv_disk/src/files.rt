@@ -1,7 +1,8 @@
-ghost use Rattle.std.specs.Prelude.{◌≡◌, ◌≢◌, ◌≤◌, List, [], length, ℕ, Option, unwrap_or, Some, None, true, false, IfOk, MatchOption, OnOk, OnErr};
+ghost use Rattle.std.specs.Prelude.{◌≡◌, ◌≢◌, ◌≤◌, List, [], length, ℕ, Option, unwrap_or, Some, None, true, false, IfOk, IsErr, IsErrOf, MatchBool, MatchOption, OnOk, OnErr};
 ghost use Rattle.dv_shelf.specs.declared.shelf.Name.{Name};
-ghost use Rattle.dv_shelf.specs.Folders.{patched};
+ghost use Rattle.dv_shelf.specs.Folders.{patched, IsNew};
 ghost use Rattle.dv_system.specs.declared.system.Entry.TheVariants as entry;
+ghost use Rattle.dv_system.specs.Entries.{read_at};
 ghost use Rattle.dv_system.specs.Disks.{is_missing};
 ghost use Rattle.dv_disk.specs.declared.kept.KeptFile.{KeptFile};
 ghost use Rattle.dv_disk.specs.States.{Stands, AreSwept, IsTrusted, IsPlaceTrusted};
@@ -10,14 +11,33 @@ use crate::kept::{KeptFile, close};
 use crate::names::names_of;
 use dv_model::{Bytes, List, NoMemory};
 use dv_shelf::{Failed, Name, ShelfFault};
-use dv_system::{Entry, System};
+use dv_system::{Access, Entry, System};
 use std::alloc::Global;
+
+/// What is done about a folder that is missing.
+#[derive(Clone, Copy, PartialEq, Eq)]
+pub enum Missing {
+    /// It is made.
+    Make,
+    /// Each call fails, and nothing is made.
+    Refuse,
+}
+
+/// What is left of the temporary file behind a failure.
+#[derive(Clone, Copy, PartialEq, Eq)]
+pub(crate) enum Leftover {
+    /// It is removed.
+    Cleared,
+    /// Its removal failed too.
+    Kept,
+}
 
 /// The files of a folder, by calls of a system.
 #[derive(Drop)]
 pub(crate) struct Files<Y: System + Drop> {
     pub(crate) system: Y,
     alloc: Global,
+    missing: Missing,
     /// The file that was written last.
     kept: Option<KeptFile<Y::File>>,
     /// The folder is there, and the system has its lock.
@@ -46,7 +66,7 @@ impl<Y: System + Drop> Files<Y> {
     ghost use Rattle.dv_disk.specs.Steps.{IsQuiet, IsDurable, LeavesNames, Puts, Syncs, Writes, Wrote};
 
     /// The files of a folder on which no sync failed.
-    pub(crate) fn new(alloc: Global, system: Y) -> Files<Y>
+    pub(crate) fn new(alloc: Global, system: Y, missing: Missing) -> Files<Y>
         requires trusted { IsTrusted false Y.tells (Y.disk system) }
         requires place_trusted { IsPlaceTrusted false Y.tells (Y.disk system) }
         ensures { result.system ≡ system }
@@ -54,6 +74,7 @@ impl<Y: System + Drop> Files<Y> {
         Files {
             system,
             alloc,
+            missing,
             kept: None,
             is_locked: false,
             is_ready: false,
@@ -62,19 +83,40 @@ impl<Y: System + Drop> Files<Y> {
         }
     }
 
-    /// Makes the folder where it is missing, and takes its lock, which the first call does.
+    /// Makes or finds the folder, and takes its lock, which the first call does.
     fn enter(&mut self) -> Result<(), Failed>
         ensures quiet { Y.tells →
             IsQuiet Y.disk Y.moment Y.left_since self.old.system self.new.system }
         ensures locked { OnOk result (self.new.is_locked ≡ true) }
+        // One that is missing isn't made, if so was asked for.
+        ensures refused { Y.tells → self.old.missing ≡ Missing.Refuse →
+            is_missing (Y.disk self.old.system).place ≡ true → IsErr result }
+        ensures unmade { Y.tells → self.old.missing ≡ Missing.Refuse →
+            Y.disk self.new.system ≡ Y.disk self.old.system }
     {
         if self.is_locked {
             return Ok(());
         }
-        self.system.make_folder()?;
+        self.reach()?;
         self.system.lock()?;
         self.is_locked = true;
         Ok(())
+    }
+
+    /// Makes the folder where it is missing, or finds it.
+    fn reach(&mut self) -> Result<(), Failed>
+        ensures quiet { Y.tells →
+            IsQuiet Y.disk Y.moment Y.left_since self.old.system self.new.system }
+        ensures there { Y.tells →
+            OnOk result (is_missing (Y.disk self.new.system).place ≡ false) }
+        ensures unmade { Y.tells → self.old.missing ≡ Missing.Refuse →
+            Y.disk self.new.system ≡ Y.disk self.old.system }
+        ensures missing { self.new.missing ≡ self.old.missing }
+    {
+        match self.missing {
+            Missing::Make => self.system.make_folder(),
+            Missing::Refuse => self.system.find_folder(),
+        }
     }
 
     /// Makes the folder durable.
@@ -156,8 +198,68 @@ impl<Y: System + Drop> Files<Y> {
         self.sweep()
     }
 
-    /// Writes the temporary file anew, and makes its bytes durable.
-    fn write_temporary(&mut self, bytes: &[u8]) -> Result<(), Failed>
+    /// Removes the temporary file, if it is there.
+    fn clear_temporary(&mut self) -> Result<(), Failed>
+        requires locked { self.old.is_locked ≡ true }
+        ensures gone { Y.tells →
+            OnOk result (read_at (Y.disk self.new.system).temporary ≡ None) }
+        ensures names { Y.tells → LeavesNames (Y.disk self.old.system) (Y.disk self.new.system) }
+        ensures time { Y.tells → Elapses (Y.moment self.old.system) (Y.moment self.new.system)
+            (Y.left_since self.old.system) (Y.left_since self.new.system)
+            (LeftBy (Y.disk self.new.system)) }
+        ensures ready { self.new.is_ready ≡ self.old.is_ready }
+        ensures swept { self.new.is_swept ≡ self.old.is_swept }
+        ensures locked { self.new.is_locked ≡ true }
+    {
+        self.system.unlink(Entry::Temporary)?;
+        Ok(())
+    }
+
+    /// Writes the temporary file anew, and makes its bytes durable. Where that fails, the file is
+    /// removed, as far as that succeeds: it would keep the last room of a full disk.
+    fn write_temporary(&mut self, bytes: &[u8]) -> Result<(), Leftover>
+        requires locked { self.old.is_locked ≡ true }
+        ensures names { Y.tells → LeavesNames (Y.disk self.old.system) (Y.disk self.new.system) }
+        ensures bytes { Y.tells → OnOk result
+            (IsDurable (Y.disk self.new.system).temporary (Some bytes.now)) }
+        ensures cleared { Y.tells → IsErrOf result Leftover.Cleared →
+            read_at (Y.disk self.new.system).temporary ≡ None }
+        ensures quiet { Y.tells →
+            IsQuiet Y.disk Y.moment Y.left_since self.old.system self.new.system }
+        ensures ready { self.new.is_ready ≡ self.old.is_ready }
+        ensures swept { self.new.is_swept ≡ self.old.is_swept }
+        ensures locked { self.new.is_locked ≡ true }
+    {
+        if self.clear_temporary().is_err() {
+            return Err(Leftover::Kept);
+        }
+        match self.fill_temporary(bytes) {
+            Ok(()) => Ok(()),
+            Err(_) => Err(self.clear_behind()),
+        }
+    }
+
+    /// Removes the temporary file behind a failure, and says what is left of it.
+    fn clear_behind(&mut self) -> Leftover
+        requires locked { self.old.is_locked ≡ true }
+        ensures cleared { Y.tells → result ≡ Leftover.Cleared →
+            read_at (Y.disk self.new.system).temporary ≡ None }
+        ensures names { Y.tells → LeavesNames (Y.disk self.old.system) (Y.disk self.new.system) }
+        ensures time { Y.tells → Elapses (Y.moment self.old.system) (Y.moment self.new.system)
+            (Y.left_since self.old.system) (Y.left_since self.new.system)
+            (LeftBy (Y.disk self.new.system)) }
+        ensures ready { self.new.is_ready ≡ self.old.is_ready }
+        ensures swept { self.new.is_swept ≡ self.old.is_swept }
+        ensures locked { self.new.is_locked ≡ true }
+    {
+        match self.clear_temporary() {
+            Ok(()) => Leftover::Cleared,
+            Err(_) => Leftover::Kept,
+        }
+    }
+
+    /// Writes a new temporary file, and makes its bytes durable.
+    fn fill_temporary(&mut self, bytes: &[u8]) -> Result<(), Failed>
         requires locked { self.old.is_locked ≡ true }
         ensures names { Y.tells → LeavesNames (Y.disk self.old.system) (Y.disk self.new.system) }
         ensures bytes { Y.tells → OnOk result
@@ -185,8 +287,13 @@ impl<Y: System + Drop> Files<Y> {
     {
         close(&mut self.kept, name);
         self.is_swept = false;
-        self.system.rename(name)?;
-        self.sweep()
+        match self.system.rename(name) {
+            Ok(()) => self.sweep(),
+            Err(failed) => {
+                self.clear_behind();
+                Err(failed)
+            }
+        }
     }
 
     /// Replaces a file as a whole.
@@ -195,8 +302,10 @@ impl<Y: System + Drop> Files<Y> {
             self.old.system self.new.system }
     {
         self.start()?;
-        self.write_temporary(bytes)?;
-        self.put(name)
+        match self.write_temporary(bytes) {
+            Ok(()) => self.put(name),
+            Err(_) => Err(Failed),
+        }
     }
 
     /// Removes a file.
@@ -207,7 +316,7 @@ impl<Y: System + Drop> Files<Y> {
         self.start()?;
         close(&mut self.kept, name);
         self.is_swept = false;
-        if self.system.unlink(name)? {
+        if self.system.unlink(Entry::File(name))? {
             return self.sweep();
         }
         // It may come back that it was removed, where a sync failed then.
@@ -267,7 +376,7 @@ impl<Y: System + Drop> Files<Y> {
                 return Ok(Some(kept.file));
             }
         }
-        self.system.open(Entry::File(name))
+        self.system.open(Entry::File(name), Access::Write)
     }
 
     /// Writes a file that isn't there.
@@ -396,11 +505,25 @@ impl<Y: System + Drop> Files<Y> {
         ensures quiet { Y.tells →
             IsQuiet Y.disk Y.moment Y.left_since self.old.system self.new.system }
     {
-        match self.system.open(Entry::File(name)) {
+        match self.system.open(Entry::File(name), Access::Read) {
             Ok(Some(file)) => Ok(Some(self.system.read(alloc, file)?)),
             Ok(None) => Ok(None),
             Err(_) => Err(ShelfFault::Failed),
         }
+    }
+
+    /// Whether a file of a mailbox is there.
+    pub(crate) fn has_mailbox(&mut self, alloc: Global) -> Result<bool, ShelfFault>
+        ensures found { Y.tells → IfOk result (λ has. MatchBool has
+            (IsNew (files_of (Y.disk self.old.system)) → ⊥)
+            (IsNew (files_of (Y.disk self.old.system)))) }
+        ensures quiet { Y.tells →
+            IsQuiet Y.disk Y.moment Y.left_since self.old.system self.new.system }
+    {
+        if self.enter().is_err() {
+            return Err(ShelfFault::Failed);
+        }
+        self.system.has_mailbox(alloc)
     }
 
     /// The names of the files that are there.

@@ -1,7 +1,7 @@
-ghost use Rattle.std.specs.Prelude.{◌≡◌};
+ghost use Rattle.std.specs.Prelude.{◌≡◌, IsErrOf};
 ghost use Rattle.dv_shelf.specs.Folders.{counted, mail_reads_of};
 
-use crate::files::Files;
+use crate::files::{Files, Missing};
 use dv_model::{Bytes, List};
 use dv_shelf::{Failed, Name, Shelf, ShelfFault};
 use dv_system::System;
@@ -18,13 +18,13 @@ pub struct Folder<Y: System + Drop> {
 impl<Y: System + Drop> Folder<Y> {
     ghost use Rattle.std.specs.Prelude.{false};
     ghost use Rattle.dv_shelf.specs.declared.shelf.ShelfFault.TheVariants as fault;
-    ghost use Rattle.dv_shelf.specs.Causes.{HasCause, HasCauseOf};
+    ghost use Rattle.dv_shelf.specs.Causes.{HasCause, HasCauseOf, CountsOnce};
     ghost use Rattle.dv_disk.specs.States.{IsTrusted, IsPlaceTrusted};
 
-    /// A folder that the first call makes where it is missing, and locks until this value is
-    /// dropped; where that fails, so does the call. No sync may have failed on the folder before:
-    /// no later one would tell. This call makes no call of the system.
-    pub fn new(alloc: Global, system: Y) -> Folder<Y>
+    /// A folder that the first call makes where it is missing, unless that is refused, and locks
+    /// until this value is dropped; where that fails, so does the call. No sync may have failed on
+    /// the folder before: no later one would tell. This call makes no call of the system.
+    pub fn new(alloc: Global, system: Y, missing: Missing) -> Folder<Y>
         requires trusted { IsTrusted false Y.tells (Y.disk system) }
         requires place_trusted { IsPlaceTrusted false Y.tells (Y.disk system) }
         ensures system { result.files.system ≡ system }
@@ -32,7 +32,7 @@ impl<Y: System + Drop> Folder<Y> {
         ensures reads { result.mail_reads ≡ 0 }
     {
         Folder {
-            files: Files::new(alloc, system),
+            files: Files::new(alloc, system, missing),
             faults: 0,
             mail_reads: 0,
         }
@@ -48,6 +48,7 @@ impl<Y: System + Drop> Folder<Y> {
     fn counted(&mut self, done: Result<(), Failed>) -> Result<(), Failed>
         ensures answer { result ≡ done }
         ensures cause { HasCause self.old.faults self.new.faults result }
+        ensures once { CountsOnce self.old.faults self.new.faults result }
         ensures files { self.new.files ≡ self.old.files }
         ensures reads { self.new.mail_reads ≡ self.old.mail_reads }
     {
@@ -60,6 +61,8 @@ impl<Y: System + Drop> Folder<Y> {
     fn counted_look<T>(&mut self, done: Result<T, ShelfFault>) -> Result<T, ShelfFault>
         ensures answer { result ≡ done }
         ensures cause { HasCauseOf fault.Failed self.old.faults self.new.faults result }
+        ensures once { IsErrOf result fault.Failed →
+            self.new.faults ≡ counted self.old.faults 1 }
         ensures files { self.new.files ≡ self.old.files }
         ensures reads { self.new.mail_reads ≡ self.old.mail_reads }
     {
@@ -74,23 +77,24 @@ impl<Y: System + Drop> Shelf for Folder<Y> {
     ghost use Rattle.dv_system.specs.Disks.{LeftBy, files_of};
     ghost use Rattle.dv_disk.specs.Laws.{left_as_read};
 
-    ghost tells = { Y.tells };
-
-    ghost files = { λ s. files_of (Y.disk s.files.system) };
-
-    ghost may_leave = { λ s. LeftBy (Y.disk s.files.system) };
-
-    ghost moment = { λ s. Y.moment s.files.system };
-
-    ghost left_since = { λ s. Y.left_since s.files.system };
-
-    ghost fault_count = { λ s. s.faults };
-
-    ghost mail_reads = { λ s. s.mail_reads };
+    ghost sees = { record {
+      tells = Y.tells;
+      files = λ s. files_of (Y.disk s.files.system);
+      may_leave = λ s. LeftBy (Y.disk s.files.system);
+      moment = λ s. Y.moment s.files.system;
+      left_since = λ s. Y.left_since s.files.system;
+      fault_count = λ s. s.faults;
+      mail_reads = λ s. s.mail_reads;
+    } };
 
     fn read(&mut self, alloc: Global, name: Name) -> Result<Option<Bytes>, ShelfFault> {
         self.mail_reads = count_read(self.mail_reads, name);
         let done = self.files.read(alloc, name);
+        self.counted_look(done)
+    }
+
+    fn has_mailbox(&mut self, alloc: Global) -> Result<bool, ShelfFault> {
+        let done = self.files.has_mailbox(alloc);
         self.counted_look(done)
     }
 

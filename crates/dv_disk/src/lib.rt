@@ -6,4 +6,5 @@ mod folder;
 mod kept;
 mod names;
 
+pub use files::Missing;
 pub use folder::Folder;

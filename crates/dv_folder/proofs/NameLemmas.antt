@@ -6,9 +6,10 @@ use Rattle.std.specs.Str.Parse.{ParsesUnsigned}
 use Rattle.std.proofs.lemmas.Fmt.{parse-decimal}
 use denote.Ref.{Bor}
 
-pub two_letters : (text front : List ℕ) (r : Option (Bor (List ℕ))) → text ≡ 117 ∷ front → MatchOption r ((rest : List ℕ) → front ≢ 46 ∷ rest) (λ x. front ≡ 46 ∷ x.now) → MatchOption r ((rest : List ℕ) → text ≢ 117 ∷ 46 ∷ rest) (λ x. text ≡ 117 ∷ 46 ∷ x.now)
-two_letters text front None e h = λ rest is. let cut : front ≡ 46 ∷ rest = cc in h rest cut
-two_letters text front (Some x) e h = e ∙ ap (λ (t : List ℕ). 117 ∷ t) h
+pub two_letters : (letter : ℕ) (text front : List ℕ) (r : Option (Bor (List ℕ))) → text ≡ letter ∷ front → MatchOption r ((rest : List ℕ) → front ≢ 46 ∷ rest) (λ x. front ≡ 46 ∷ x.now)
+    → MatchOption r ((rest : List ℕ) → text ≢ letter ∷ 46 ∷ rest) (λ x. text ≡ letter ∷ 46 ∷ x.now)
+two_letters letter text front None e h = λ rest is. let cut : front ≡ 46 ∷ rest = cc in h rest cut
+two_letters letter text front (Some x) e h = e ∙ ap (λ (t : List ℕ). letter ∷ t) h
 
 pub none_read : {E : Type 0} (digits : List ℕ) (r : Result ℕ E) → ParsesUnsigned 32 10 digits r → result_ok r ≡ None → (n : ℕ) → n < 2 ^ 32 → decimal n ≢ digits
 none_read digits r reads none n small e =

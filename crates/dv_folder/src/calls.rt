@@ -1,16 +1,24 @@
-use crate::names::{name_of, push_name};
-use crate::streams::write_error;
+ghost use Rattle.std.specs.Prelude.{◌≡◌, ◌++◌, OnOk, string_bytes};
+ghost use Rattle.dv_folder.specs.Ways.{open_path, part_of, way_of};
+
+use crate::kinds::{Kind, is_file, is_same, kind_of};
+use crate::names::{Layout, name_of, push_name};
 use dv_model::{Bytes, List};
-use dv_shelf::{Failed, Name, ShelfFault};
-use dv_system::{Entry, System};
+use dv_shelf::{Failed, Name, ShelfFault, is_of_mailbox};
+use dv_system::{Access, Entry, System};
+use itoa::Buffer;
 use std::alloc::{AllocError, Global};
+use std::cell::Cell;
 use std::fs::{self, DirBuilder, File, OpenOptions, TryLockError};
 use std::io::{self, ErrorKind, Read};
+use std::os::fd::AsRawFd;
 use std::os::unix::fs::{DirBuilderExt, FileExt, OpenOptionsExt};
-use std::path::Path;
 
 /// The most bytes that the name of a file has.
-const LONGEST_NAME: usize = 20;
+const LONGEST_NAME: usize = 23;
+
+/// The most bytes of an open folder's path in the process file system.
+const LONGEST_WAY: usize = 25;
 
 /// The file that is written before it takes a name. No other call uses it.
 const TEMPORARY: &str = "dovecot.tmp";
@@ -18,67 +26,252 @@ const TEMPORARY: &str = "dovecot.tmp";
 /// What is kept free behind a file's bytes, so that the read that meets its end has room.
 const ROOM_BEHIND: usize = 64;
 
-/// What is told of a folder that another process has.
-const IN_USE: &[u8] = b"sdbox: another process has the folder\n";
+/// Reasons for which the system has no words.
+const IN_USE: &str = "another process has the folder";
+
+const NO_FILE: &str = "what stands there is no regular file of at most 4294967295 bytes";
+
+const OTHER_LAYOUT: &str = "files of a folder of the other kind stand there";
+
+const SWAPPED: &str = "another file took its place";
+
+const NO_WORDS: &str = "memory ran out, or an earlier sync failed";
+
+/// What a call was on.
+#[derive(Clone, Copy)]
+enum Place {
+    Folder,
+    Entry(Entry),
+}
+
+/// An open file, and where it stood.
+#[derive(Drop)]
+pub(crate) struct Opened {
+    entry: Entry,
+    file: File,
+}
+
+/// What a look at the whole folder found.
+#[derive(Drop)]
+struct Listing {
+    entries: List<Entry>,
+    has_file: bool,
+    /// A name that is no file.
+    other: Option<Name>,
+}
 
 /// The system's calls on a real folder, one each. Nothing is told of what they do.
 #[derive(Drop)]
 pub(crate) struct Calls {
     rt: HostRuntime,
-    /// The folder's path, with a slash at its end.
+    layout: Layout,
+    /// The path that was given, with a slash at its end.
+    root: String,
+    /// The path of the folder with the files, with a slash at its end.
     folder: String,
-    /// Room for the path of a file, so that no call but a read or a list takes memory.
+    /// The number by which the process file system has the open folder.
+    entered: Option<u32>,
+    /// Room for the path of a file, so that no call but a read or a look at the whole folder takes
+    /// memory.
     path: String,
     temporary: String,
     /// The folder, open and locked.
     lock: Option<File>,
+    /// Why a call failed since the last line was told, and on what.
+    reason: Cell<Option<io::Error>>,
+    noted: String,
 }
 
 impl Calls {
-    ghost use Rattle.std.specs.Prelude.{◌≡◌, ◌++◌, IfOk, OnOk, string_bytes};
+    ghost use Rattle.std.specs.Prelude.{IfOk};
     ghost use Rattle.dv_folder.specs.Names.{file_name};
-    ghost use Rattle.dv_folder.specs.Paths.{folder_path};
+    ghost use Rattle.dv_folder.specs.Ways.{folder_path};
 
     /// The calls on the folder at a path. This call touches nothing of the disk.
-    pub(crate) fn new(alloc: Global, rt: HostRuntime, path: &str) -> Result<Calls, AllocError>
-        ensures { IfOk result (λ calls. string_bytes calls.folder ≡ folder_path path.now) }
+    pub(crate) fn new(
+        alloc: Global,
+        rt: HostRuntime,
+        path: &str,
+        layout: Layout,
+    ) -> Result<Calls, AllocError>
+        ensures { IfOk result (λ calls. string_bytes calls.folder ≡ folder_path layout path.now) }
     {
-        let mut folder = String::from_str(alloc, if path.is_empty() { "." } else { path })?;
-        folder.push_str("/")?;
-        let path = String::with_capacity(alloc, folder.len().saturating_add(LONGEST_NAME))?;
-        let mut temporary = folder.clone()?;
+        let mut root = String::from_str(alloc, if path.is_empty() { "." } else { path })?;
+        root.push_str("/")?;
+        let mut folder = root.clone()?;
+        folder.push_str(part(layout))?;
+        let room = folder.len().max(LONGEST_WAY).saturating_add(LONGEST_NAME);
+        let path = String::with_capacity(alloc, room)?;
+        let mut temporary = String::with_capacity(alloc, room)?;
+        temporary.push_str(folder.as_str())?;
         temporary.push_str(TEMPORARY)?;
+        let noted = String::with_capacity(alloc, LONGEST_NAME)?;
         Ok(Calls {
             rt,
+            layout,
+            root,
             folder,
+            entered: None,
             path,
             temporary,
             lock: None,
+            reason: Cell::new(None),
+            noted,
         })
+    }
+
+    /// Tells why the failure of this number came, on standard error.
+    pub(crate) fn tell(&self, number: u64) {
+        let noted = self.noted.as_str();
+        let folder = self.folder.as_str();
+        let place = if noted.is_empty() { folder } else { noted };
+        let _ = match self.reason.take() {
+            Some(error) => eprintln!(self.rt; "failure {number}: {place}: {error}"),
+            None => eprintln!(self.rt; "failure {number}: {folder}: {NO_WORDS}"),
+        };
+    }
+
+    /// Forgets why a call failed that counts as no failure.
+    pub(crate) fn forget(&self) {
+        self.reason.set(None);
+    }
+
+    /// Notes why a call failed. What fails behind it has no line of its own.
+    fn note(&mut self, place: Place, error: io::Error)
+        ensures lock { self.new.lock ≡ self.old.lock }
+    {
+        match self.reason.take() {
+            Some(first) => self.reason.set(Some(first)),
+            None => {
+                // The room for it was taken before.
+                let _ = self.set_noted(place);
+                self.reason.set(Some(error));
+            }
+        }
+    }
+
+    fn set_noted(&mut self, place: Place) -> Result<(), AllocError>
+        ensures lock { self.new.lock ≡ self.old.lock }
+    {
+        self.noted.clear();
+        match place {
+            Place::Folder => Ok(()),
+            Place::Entry(Entry::Temporary) => self.noted.push_str(TEMPORARY),
+            Place::Entry(Entry::File(name)) => push_name(&mut self.noted, self.layout, name),
+        }
+    }
+
+    fn answer<T>(&mut self, place: Place, done: io::Result<T>) -> Result<T, Failed>
+        ensures lock { self.new.lock ≡ self.old.lock }
+    {
+        match done {
+            Ok(value) => Ok(value),
+            Err(e) => {
+                self.note(place, e);
+                Err(Failed)
+            }
+        }
+    }
+
+    fn look<T>(&mut self, place: Place, done: io::Result<T>) -> Result<T, ShelfFault>
+        ensures lock { self.new.lock ≡ self.old.lock }
+    {
+        match done {
+            Ok(value) => Ok(value),
+            Err(e) => {
+                let is_memory = e.kind() == ErrorKind::OutOfMemory;
+                self.note(place, e);
+                Err(if is_memory {
+                    ShelfFault::NoMemory
+                } else {
+                    ShelfFault::Failed
+                })
+            }
+        }
+    }
+
+    /// A name of the folder is no file, and no other name is one.
+    fn fail_at<T>(&mut self, name: Name) -> Result<T, ShelfFault>
+        ensures lock { self.new.lock ≡ self.old.lock }
+    {
+        self.note(Place::Entry(Entry::File(name)), io::Error::other(NO_FILE));
+        Err(ShelfFault::Failed)
+    }
+
+    /// Sets the path of the folder with the files, behind which a name comes.
+    fn set_way(&mut self) -> Result<(), AllocError>
+        ensures path { OnOk result (string_bytes self.new.path
+            ≡ way_of (string_bytes self.old.folder) self.old.entered) }
+        ensures layout { self.new.layout ≡ self.old.layout }
+        ensures lock { self.new.lock ≡ self.old.lock }
+    {
+        self.path.clear();
+        match self.entered {
+            Some(number) => push_open_path(&mut self.path, number),
+            None => self.path.push_str(self.folder.as_str()),
+        }
     }
 
     /// Sets the path of the file of this name.
     fn set_path(&mut self, name: Name) -> Result<(), AllocError>
-        ensures path { OnOk result
-            (string_bytes self.new.path ≡ string_bytes self.old.folder ++ file_name name) }
-        ensures folder { self.new.folder ≡ self.old.folder }
+        ensures path { OnOk result (string_bytes self.new.path
+            ≡ way_of (string_bytes self.old.folder) self.old.entered
+            ++ file_name self.old.layout name) }
         ensures lock { self.new.lock ≡ self.old.lock }
     {
-        self.path.clear();
-        self.path.push_str(self.folder.as_str())?;
-        push_name(&mut self.path, name)
+        self.set_way()?;
+        push_name(&mut self.path, self.layout, name)
     }
 
-    /// Opens a file for reading and writing.
-    fn open_with(&mut self, options: &OpenOptions, entry: Entry) -> io::Result<File>
+    /// Sets the path of a file, or of the temporary one.
+    fn set_entry(&mut self, entry: Entry) -> Result<(), AllocError>
         ensures lock { self.new.lock ≡ self.old.lock }
     {
         match entry {
-            Entry::File(name) => {
-                self.set_path(name)?;
-                options.open(&self.rt, self.path.as_str())
+            Entry::File(name) => self.set_path(name),
+            Entry::Temporary => {
+                self.path.clear();
+                self.path.push_str(self.temporary.as_str())
             }
-            Entry::Temporary => options.open(&self.rt, self.temporary.as_str()),
+        }
+    }
+
+    /// Looks at a name. No link is followed.
+    fn kind_at(&mut self, entry: Entry) -> io::Result<Kind>
+        ensures lock { self.new.lock ≡ self.old.lock }
+    {
+        self.set_entry(entry)?;
+        kind_of(fs::symlink_metadata(&self.rt, self.path.as_str()))
+    }
+
+    /// Opens what a look says to be a file, and sees that it is the same.
+    fn open_file(&mut self, entry: Entry, access: Access) -> io::Result<Option<Opened>>
+        ensures lock { self.new.lock ≡ self.old.lock }
+    {
+        let Kind::File(found) = self.kind_at(entry)? else {
+            return Ok(None);
+        };
+        let mut options = OpenOptions::new();
+        options.read(true).write(access == Access::Write);
+        let file = options.open(&self.rt, self.path.as_str())?;
+        if is_same(&found, &file.metadata()?) {
+            Ok(Some(Opened { entry, file }))
+        } else {
+            Err(io::Error::other(SWAPPED))
+        }
+    }
+
+    /// Makes a file where nothing stands.
+    fn create_file(&mut self, entry: Entry) -> io::Result<Opened>
+        ensures lock { self.new.lock ≡ self.old.lock }
+    {
+        self.set_entry(entry)?;
+        let mut options = OpenOptions::new();
+        options.read(true).write(true).create_new(true).mode(0o600);
+        match options.open(&self.rt, self.path.as_str()) {
+            Ok(file) => Ok(Opened { entry, file }),
+            Err(e) if e.kind() == ErrorKind::AlreadyExists => Err(io::Error::other(NO_FILE)),
+            Err(e) => Err(e),
         }
     }
 
@@ -89,43 +282,176 @@ impl Calls {
         fs::rename(&self.rt, self.temporary.as_str(), self.path.as_str())
     }
 
-    fn unlink_file(&mut self, name: Name) -> io::Result<()>
+    fn unlink_file(&mut self, entry: Entry) -> io::Result<bool>
         ensures lock { self.new.lock ≡ self.old.lock }
     {
-        self.set_path(name)?;
-        fs::remove_file(&self.rt, self.path.as_str())
+        let is_there = match self.kind_at(entry)? {
+            Kind::Missing => false,
+            Kind::File(_) => true,
+            Kind::Other => entry == Entry::Temporary,
+        };
+        if is_there {
+            fs::remove_file(&self.rt, self.path.as_str())?;
+        }
+        Ok(is_there)
     }
 
-    /// Syncs the folder that the folder stands in.
-    fn sync_above(&self) -> io::Result<()> {
-        let folder = self.folder.as_str();
-        let parent = match Path::new(folder).parent() {
-            Some(parent) => parent.as_str(),
-            None => "",
-        };
-        sync_directory(self.rt, if parent.is_empty() { "." } else { parent })
+    /// Whether a file has this name. One that is no file is kept in mind.
+    fn has_file(&mut self, name: Name, other: &mut Option<Name>) -> Result<bool, ShelfFault>
+        ensures lock { self.new.lock ≡ self.old.lock }
+    {
+        let entry = Entry::File(name);
+        let kind = self.kind_at(entry);
+        match self.look(Place::Entry(entry), kind)? {
+            Kind::Missing => Ok(false),
+            Kind::File(_) => Ok(true),
+            Kind::Other => {
+                *other = Some(name);
+                Ok(false)
+            }
+        }
     }
 
-    fn entries(&self, alloc: Global) -> io::Result<List<Entry>> {
-        let mut found = List::new(alloc);
-        let entries = match fs::read_dir(&self.rt, self.folder.as_str()) {
-            Ok(entries) => entries,
-            Err(e) if e.kind() == ErrorKind::NotFound => return Ok(found),
-            Err(e) => return Err(e),
+    /// The entries, up to the first message file where no more is asked for.
+    fn listing(&mut self, alloc: Global, is_whole: bool) -> io::Result<Listing>
+        ensures lock { self.new.lock ≡ self.old.lock }
+    {
+        self.set_way()?;
+        self.entries(alloc, is_whole)
+    }
+
+    /// The same of the folder whose path is set.
+    fn entries(&self, alloc: Global, is_whole: bool) -> io::Result<Listing> {
+        let mut listing = Listing {
+            entries: List::new(alloc),
+            has_file: false,
+            other: None,
         };
-        for entry in entries {
+        for entry in fs::read_dir(&self.rt, self.path.as_str())? {
             match entry {
                 Ok(entry) => {
-                    if let Some(entry) = entry_of(entry.file_name()) {
-                        found.push(entry)?;
+                    if let Some(found) = entry_of(self.layout, entry.file_name()) {
+                        listing.add(found, kind_of(entry.metadata())?)?;
                     }
                 }
                 // A name that is no UTF-8 is the name of another file.
                 Err(e) if e.kind() == ErrorKind::InvalidFilename => {}
                 Err(e) => return Err(e),
             }
+            if !is_whole && listing.has_mailbox() {
+                return Ok(listing);
+            }
         }
-        Ok(found)
+        Ok(listing)
+    }
+
+    /// A folder with names of the other layout isn't entered.
+    fn refuse_other(&mut self) -> io::Result<()>
+        ensures lock { self.new.lock ≡ self.old.lock }
+    {
+        let other = match self.layout {
+            Layout::Mailbox => Layout::Storage,
+            Layout::Storage => Layout::Mailbox,
+        };
+        self.path.clear();
+        self.path.push_str(self.root.as_str())?;
+        self.path.push_str(part(other))?;
+        if has_names(self.rt, self.path.as_str(), other)? {
+            return Err(io::Error::other(OTHER_LAYOUT));
+        }
+        Ok(())
+    }
+
+    fn make_folders(&mut self) -> io::Result<()>
+        ensures lock { self.new.lock ≡ self.old.lock }
+    {
+        self.refuse_other()?;
+        make_directory(self.rt, self.root.as_str())?;
+        if self.layout == Layout::Storage {
+            make_directory(self.rt, self.folder.as_str())?;
+        }
+        Ok(())
+    }
+
+    fn look_for_folder(&mut self) -> io::Result<()>
+        ensures lock { self.new.lock ≡ self.old.lock }
+    {
+        self.refuse_other()?;
+        fs::metadata(&self.rt, self.folder.as_str())?;
+        Ok(())
+    }
+
+    /// Syncs the folder that the folder stands in; a storage stands two folders deep.
+    fn sync_above(&mut self) -> io::Result<()>
+        ensures lock { self.new.lock ≡ self.old.lock }
+    {
+        self.set_way()?;
+        self.path.push_str("..")?;
+        sync_directory(self.rt, self.path.as_str())?;
+        if self.layout == Layout::Storage {
+            self.path.push_str("/..")?;
+            sync_directory(self.rt, self.path.as_str())?;
+        }
+        Ok(())
+    }
+
+    fn sync_here(&self) -> io::Result<()> {
+        match &self.lock {
+            Some(folder) => folder.sync_all(),
+            None => sync_directory(self.rt, self.folder.as_str()),
+        }
+    }
+
+    /// From now on files are reached by the open folder, where the process file system has it: a
+    /// folder that comes in its place isn't entered.
+    fn go_by(&mut self, folder: &File) -> io::Result<()>
+        ensures lock { self.new.lock ≡ self.old.lock }
+    {
+        let Ok(number) = u32::try_from(folder.as_raw_fd()) else {
+            return Ok(());
+        };
+        self.path.clear();
+        push_open_path(&mut self.path, number)?;
+        let found = fs::metadata(&self.rt, self.path.as_str())?;
+        if is_same(&found, &folder.metadata()?) {
+            self.entered = Some(number);
+            self.set_temporary()?;
+        }
+        Ok(())
+    }
+
+    fn set_temporary(&mut self) -> Result<(), AllocError>
+        ensures lock { self.new.lock ≡ self.old.lock }
+    {
+        self.set_way()?;
+        self.temporary.clear();
+        self.temporary.push_str(self.path.as_str())?;
+        self.temporary.push_str(TEMPORARY)
+    }
+}
+
+impl Listing {
+    fn add(&mut self, entry: Entry, kind: Kind) -> Result<(), AllocError> {
+        match (kind, entry) {
+            (Kind::File(_), Entry::File(_)) => {
+                self.has_file = true;
+                self.entries.push(entry)
+            }
+            (Kind::File(_), Entry::Temporary) => self.entries.push(entry),
+            (Kind::Other, Entry::File(name)) => {
+                self.other = Some(name);
+                Ok(())
+            }
+            (_, _) => Ok(()),
+        }
+    }
+
+    /// Whether one of the entries is a mailbox's.
+    fn has_mailbox(&self) -> bool {
+        self.entries.as_slice().iter().any(|entry| match entry {
+            Entry::File(name) => is_of_mailbox(*name),
+            Entry::Temporary => false,
+        })
     }
 }
 
@@ -134,7 +460,7 @@ impl System for Calls {
     ghost use Rattle.dv_system.specs.Disks.{Firm};
     ghost use Rattle.dv_system.specs.Entries.{absent};
 
-    type File = File;
+    type File = Opened;
 
     ghost tells = { ⊥ };
 
@@ -152,90 +478,104 @@ impl System for Calls {
         if self.lock.is_some() {
             return Ok(());
         }
-        let folder = answer(File::open(&self.rt, self.folder.as_str()))?;
-        match folder.try_lock() {
-            Ok(()) => {
-                self.lock = Some(folder);
-                Ok(())
-            }
-            Err(TryLockError::WouldBlock) => {
-                write_error(self.rt, IN_USE);
-                Err(Failed)
-            }
-            Err(TryLockError::Error(_)) => Err(Failed),
-        }
+        let done = locked_folder(self.rt, self.folder.as_str());
+        let folder = self.answer(Place::Folder, done)?;
+        // Without it files are reached by the folder's path.
+        let _ = self.go_by(&folder);
+        self.lock = Some(folder);
+        Ok(())
     }
 
-    fn open(&mut self, entry: Entry) -> Result<Option<File>, Failed> {
-        let mut options = OpenOptions::new();
-        options.read(true).write(true);
-        match self.open_with(&options, entry) {
-            Ok(file) => Ok(Some(file)),
-            Err(e) if e.kind() == ErrorKind::NotFound => Ok(None),
-            Err(_) => Err(Failed),
-        }
+    fn open(&mut self, entry: Entry, access: Access) -> Result<Option<Opened>, Failed> {
+        let done = self.open_file(entry, access);
+        self.answer(Place::Entry(entry), done)
     }
 
-    fn create(&mut self, entry: Entry) -> Result<File, Failed> {
-        let mut options = OpenOptions::new();
-        options
-            .read(true)
-            .write(true)
-            .create(true)
-            .truncate(true)
-            .mode(0o600);
-        answer(self.open_with(&options, entry))
+    fn create(&mut self, entry: Entry) -> Result<Opened, Failed> {
+        let done = self.create_file(entry);
+        self.answer(Place::Entry(entry), done)
     }
 
-    fn read(&mut self, alloc: Global, file: File) -> Result<Bytes, ShelfFault> {
-        look(read_whole(alloc, file))
+    fn read(&mut self, alloc: Global, file: Opened) -> Result<Bytes, ShelfFault> {
+        let Opened { entry, file } = file;
+        let done = read_whole(alloc, file);
+        self.look(Place::Entry(entry), done)
     }
 
-    fn write(&mut self, file: &File, at: u32, bytes: &[u8]) -> Result<(), Failed> {
-        answer(file.write_all_at(bytes, u64::from(at)))
+    fn write(&mut self, file: &Opened, at: u32, bytes: &[u8]) -> Result<(), Failed> {
+        let done = file.file.write_all_at(bytes, u64::from(at));
+        self.answer(Place::Entry(file.entry), done)
     }
 
-    fn sync(&mut self, file: &File) -> Result<(), Failed> {
-        answer(file.sync_all())
+    fn sync(&mut self, file: &Opened) -> Result<(), Failed> {
+        let done = file.file.sync_all();
+        self.answer(Place::Entry(file.entry), done)
     }
 
-    fn sync_data(&mut self, file: &File) -> Result<(), Failed> {
-        answer(file.sync_data())
+    fn sync_data(&mut self, file: &Opened) -> Result<(), Failed> {
+        let done = file.file.sync_data();
+        self.answer(Place::Entry(file.entry), done)
     }
 
     fn rename(&mut self, name: Name) -> Result<(), Failed> {
-        answer(self.rename_to(name))
+        let done = self.rename_to(name);
+        self.answer(Place::Entry(Entry::File(name)), done)
     }
 
-    fn unlink(&mut self, name: Name) -> Result<bool, Failed> {
-        match self.unlink_file(name) {
-            Ok(()) => Ok(true),
-            Err(e) if e.kind() == ErrorKind::NotFound => Ok(false),
-            Err(_) => Err(Failed),
-        }
+    fn unlink(&mut self, entry: Entry) -> Result<bool, Failed> {
+        let done = self.unlink_file(entry);
+        self.answer(Place::Entry(entry), done)
     }
 
     fn list(&mut self, alloc: Global) -> Result<List<Entry>, ShelfFault> {
-        look(self.entries(alloc))
-    }
-
-    fn make_folder(&mut self) -> Result<(), Failed> {
-        match DirBuilder::new()
-            .mode(0o700)
-            .create(&self.rt, self.folder.as_str())
-        {
-            Ok(()) => Ok(()),
-            Err(e) if e.kind() == ErrorKind::AlreadyExists => Ok(()),
-            Err(_) => Err(Failed),
+        let done = self.listing(alloc, true);
+        let listing = self.look(Place::Folder, done)?;
+        match (listing.has_file, listing.other) {
+            (false, Some(name)) => self.fail_at(name),
+            (_, _) => Ok(listing.entries),
         }
     }
 
+    fn has_mailbox(&mut self, alloc: Global) -> Result<bool, ShelfFault> {
+        let mut other = None;
+        if self.has_file(Name::Index, &mut other)? {
+            return Ok(true);
+        }
+        if self.has_file(Name::Log, &mut other)? {
+            return Ok(true);
+        }
+        if self.has_file(Name::Log2, &mut other)? {
+            return Ok(true);
+        }
+        let done = self.listing(alloc, false);
+        let listing = self.look(Place::Folder, done)?;
+        if listing.has_mailbox() {
+            return Ok(true);
+        }
+        match other.or(listing.other) {
+            Some(name) => self.fail_at(name),
+            None => Ok(false),
+        }
+    }
+
+    fn find_folder(&mut self) -> Result<(), Failed> {
+        let done = self.look_for_folder();
+        self.answer(Place::Folder, done)
+    }
+
+    fn make_folder(&mut self) -> Result<(), Failed> {
+        let done = self.make_folders();
+        self.answer(Place::Folder, done)
+    }
+
     fn sync_parent(&mut self) -> Result<(), Failed> {
-        answer(self.sync_above())
+        let done = self.sync_above();
+        self.answer(Place::Folder, done)
     }
 
     fn sync_folder(&mut self) -> Result<(), Failed> {
-        answer(sync_directory(self.rt, self.folder.as_str()))
+        let done = self.sync_here();
+        self.answer(Place::Folder, done)
     }
 
     ghost readable = { λ _ never. absurd never };
@@ -245,42 +585,84 @@ impl System for Calls {
     ghost only_now = { λ _ _ never _. absurd never };
 }
 
+/// In which part of the folder the files stand.
+fn part(layout: Layout) -> &'static str
+    ensures { result.now ≡ part_of layout }
+{
+    match layout {
+        Layout::Mailbox => "",
+        Layout::Storage => "storage/",
+    }
+}
+
+/// Adds the path of an open folder in the process file system.
+fn push_open_path(text: &mut String, number: u32) -> Result<(), AllocError>
+    ensures { OnOk result (string_bytes text.new ≡ string_bytes text.old ++ open_path number) }
+{
+    text.push_str("/proc/self/fd/")?;
+    text.push_str(Buffer::new().format(number))?;
+    text.push_str("/")
+}
+
 /// The entry of this text, or `None` for another file.
-fn entry_of(text: &str) -> Option<Entry> {
+fn entry_of(layout: Layout, text: &str) -> Option<Entry> {
     if text == TEMPORARY {
         return Some(Entry::Temporary);
     }
-    Some(Entry::File(name_of(text)?))
+    Some(Entry::File(name_of(layout, text)?))
 }
 
-fn answer<T>(done: io::Result<T>) -> Result<T, Failed> {
-    match done {
-        Ok(value) => Ok(value),
-        Err(_) => Err(Failed),
+/// Whether names of this layout stand in a folder, if it is there.
+fn has_names(rt: HostRuntime, path: &str, layout: Layout) -> io::Result<bool> {
+    match fs::metadata(&rt, path) {
+        Ok(_) => {}
+        Err(e) if e.kind() == ErrorKind::NotFound => return Ok(false),
+        Err(e) if e.kind() == ErrorKind::NotADirectory => return Ok(false),
+        Err(e) => return Err(e),
+    }
+    for entry in fs::read_dir(&rt, path)? {
+        match entry {
+            Ok(entry) => {
+                if name_of(layout, entry.file_name()).is_some() {
+                    return Ok(true);
+                }
+            }
+            Err(e) if e.kind() == ErrorKind::InvalidFilename => {}
+            Err(e) => return Err(e),
+        }
+    }
+    Ok(false)
+}
+
+/// Makes a folder where it is missing, and says so.
+fn make_directory(rt: HostRuntime, path: &str) -> io::Result<()> {
+    match DirBuilder::new().mode(0o700).create(&rt, path) {
+        Ok(()) => {
+            let _ = eprintln!(rt; "sdbox: the folder {path} is made");
+            Ok(())
+        }
+        Err(e) if e.kind() == ErrorKind::AlreadyExists => Ok(()),
+        Err(e) => Err(e),
     }
 }
 
-fn look<T>(done: io::Result<T>) -> Result<T, ShelfFault> {
-    match done {
-        Ok(value) => Ok(value),
-        Err(e) if e.kind() == ErrorKind::OutOfMemory => Err(ShelfFault::NoMemory),
-        Err(_) => Err(ShelfFault::Failed),
+/// Opens and locks a folder.
+fn locked_folder(rt: HostRuntime, path: &str) -> io::Result<File> {
+    let folder = File::open(&rt, path)?;
+    match folder.try_lock() {
+        Ok(()) => Ok(folder),
+        Err(TryLockError::WouldBlock) => Err(io::Error::other(IN_USE)),
+        Err(TryLockError::Error(e)) => Err(e),
     }
 }
 
-/// Room for all bytes of a file, so that they aren't copied while it is read. A guess: only memory
-/// and time go by it.
-fn room_of(file: &File) -> usize {
-    match file.metadata() {
-        Ok(found) => (found.len() as usize).saturating_add(ROOM_BEHIND),
-        Err(_) => 0,
-    }
-}
-
+/// All bytes of a file. The room for them is taken once, so that they aren't copied while it is
+/// read.
 fn read_whole(alloc: Global, file: File) -> io::Result<Bytes> {
+    let room = (file.metadata()?.len() as usize).saturating_add(ROOM_BEHIND);
     let mut file = file;
     let mut bytes = Vec::new(alloc);
-    bytes.reserve_exact(room_of(&file))?;
+    bytes.reserve_exact(room)?;
     file.read_to_end(&mut bytes)?;
     Ok(List::from_vec(bytes))
 }

@@ -4,10 +4,13 @@
 
 mod calls;
 mod folder;
+mod kinds;
 mod names;
 mod streams;
 mod system_clock;
 
+pub use dv_disk::Missing;
 pub use folder::Folder;
+pub use names::Layout;
 pub use streams::{Input, Output, write_error};
 pub use system_clock::SystemClock;

@@ -72,11 +72,11 @@ impl Input {
 }
 
 impl Source for Input {
-    ghost tells = { ⊥ };
-
-    ghost left = { λ _. [] };
-
-    ghost fault_count = { λ s. s.stream.faults };
+    ghost sees = { record {
+      tells = ⊥;
+      left = λ _. [];
+      fault_count = λ s. s.stream.faults;
+    } };
 
     fn read(&mut self, buf: &mut [u8]) -> Result<usize, Failed> {
         self.stream.read(buf)
@@ -105,11 +105,11 @@ impl Output {
 }
 
 impl Sink for Output {
-    ghost tells = { ⊥ };
-
-    ghost taken = { λ _. [] };
-
-    ghost fault_count = { λ s. s.stream.faults };
+    ghost sees = { record {
+      tells = ⊥;
+      taken = λ _. [];
+      fault_count = λ s. s.stream.faults;
+    } };
 
     fn write_all(&mut self, bytes: &[u8]) -> Result<(), Failed> {
         self.stream.write_all(bytes)

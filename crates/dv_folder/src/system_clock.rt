@@ -39,9 +39,7 @@ impl SystemClock {
 }
 
 impl Clock for SystemClock {
-    ghost tells = { ⊥ };
-
-    ghost upcoming = { λ _ _. 0 };
+    ghost sees = { record { tells = ⊥; upcoming = λ _ _. 0 } };
 
     ghost readings_small = { λ _ _ never. absurd never };
 

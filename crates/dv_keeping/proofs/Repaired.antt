@@ -30,6 +30,7 @@ use Rattle.dv_keeping.specs.Debts.{Debt, Fits, Last, Nothing, Pending, Stands, o
 use Rattle.dv_keeping.specs.Repairing.{HealsLog, KeepsTurn, RepairsQuietly}
 use Rattle.dv_keeping.proofs.Kept.{beside_log, beside_put, of_log}
 use Rattle.dv_keeping.proofs.Resting.{LeavesKept, follows_since, gives_since, leaves_messages, stands_then}
+use Rattle.dv_shelf.specs.Sees.{SeesFolder}
 
 pub on_ok : {A B T E : Type 0} (r : Result T E) → (A → B) → OnOk r A → OnOk r B
 on_ok (Ok x) f a = f a
@@ -125,49 +126,49 @@ turn_stays turn chain next result old new heals bytes = record {
 
 -- ---- a heal
 
-module _ {S : Type 0} (files : S → Folder) (may_leave : S → Folder → Type 0) (moment : S → ℕ) (left_since : S → ℕ → Folder → Type 0)
-    (log : Log) (due : Debt) (chain next : Chain) (old new : S) (stands : Stands may_leave log due chain old) (live : next.live ≡ chain.live) (indexid : next.indexid ≡ chain.indexid) where
+module _ {S : Type 0} (sees : SeesFolder S)
+    (log : Log) (due : Debt) (chain next : Chain) (old new : S) (stands : Stands sees log due chain old) (live : next.live ≡ chain.live) (indexid : next.indexid ≡ chain.indexid) where
   abbrev owed : chain_rest.Owed
   owed = owed_of chain.live.mailbox due
 
   mailbox : next.live.mailbox ≡ chain.live.mailbox
   mailbox = λ i. (live i).mailbox
 
-  healed_rests : Fits None due → Rests may_leave (healed owed) next new → Rests may_leave chain_rest.Nothing next new
+  healed_rests : Fits None due → Rests sees (healed owed) next new → Rests sees chain_rest.Nothing next new
   healed_rests fits = by_debt due fits
     where
-      by_debt : (d : Debt) → Fits None d → Rests may_leave (healed (owed_of chain.live.mailbox d)) next new → Rests may_leave chain_rest.Nothing next new
+      by_debt : (d : Debt) → Fits None d → Rests sees (healed (owed_of chain.live.mailbox d)) next new → Rests sees chain_rest.Nothing next new
       by_debt Nothing fits rests = rests
       by_debt (Pending text after written) fits rests = rests
       by_debt (Last file) fits rests = absurd fits
 
-  owed_rests : Rests may_leave owed next new → Rests may_leave (owed_of next.live.mailbox due) next new
-  owed_rests rests = subst (λ (m : Mailbox). Rests may_leave (owed_of m due) next new) (sym mailbox) rests
+  owed_rests : Rests sees owed next new → Rests sees (owed_of next.live.mailbox due) next new
+  owed_rests rests = subst (λ (m : Mailbox). Rests sees (owed_of m due) next new) (sym mailbox) rests
 
-  pub healed_quiet : {T E : Type 0} (result : Result T E) → Fits None due → HealsFolder files may_leave moment left_since owed chain next result old new → ((c : Folder) → may_leave new c → left_since new (moment old) c)
-      → RepairsQuietly may_leave moment left_since log due chain next result old new
+  pub healed_quiet : {T E : Type 0} (result : Result T E) → Fits None due → HealsFolder sees owed chain next result old new → ((c : Folder) → sees.may_leave new c → sees.left_since new (sees.moment old) c)
+      → RepairsQuietly sees log due chain next result old new
   healed_quiet result fits heals now =
       let kept = leaves_messages chain.live.mailbox due KeepsOthers beside_log in
-      let from = weaker moment left_since old new (FromOneOf (may_leave old) (OpensBeside owed chain)) (FromOneOf (may_leave old) KeepsOthers) heals.any_moment (λ c step. (step.0, step.1, step.2.0)) in
-      let opens = weaker moment left_since old new (FromOneOf (may_leave old) (OpensBeside owed chain)) (MayOpen owed chain) heals.any_moment (λ c step. step.2.1) in
-      let follows = follows_since moment left_since may_leave old new KeepsOthers now from in
+      let from = weaker sees old new (FromOneOf (sees.may_leave old) (OpensBeside owed chain)) (FromOneOf (sees.may_leave old) KeepsOthers) heals.any_moment (λ c step. (step.0, step.1, step.2.0)) in
+      let opens = weaker sees old new (FromOneOf (sees.may_leave old) (OpensBeside owed chain)) (MayOpen owed chain) heals.any_moment (λ c step. step.2.1) in
+      let follows = follows_since sees old new KeepsOthers now from in
       record {
-        since = gives_since may_leave log due chain old stands KeepsOthers kept due (λ is. is) (λ c is. is) moment left_since new from opens;
-        ok = on_ok result (λ rests. stands_then may_leave log due chain old stands KeepsOthers kept Nothing (λ is. tt) (λ c is. tt) next new mailbox indexid (healed_rests fits rests) follows) heals.ok;
-        err = on_err result (λ rests. stands_then may_leave log due chain old stands KeepsOthers kept due (λ is. is) (λ c is. is) next new mailbox indexid (owed_rests rests) follows) heals.err;
+        since = gives_since sees log due chain old stands KeepsOthers kept due (λ is. is) (λ c is. is) new from opens;
+        ok = on_ok result (λ rests. stands_then sees log due chain old stands KeepsOthers kept Nothing (λ is. tt) (λ c is. tt) next new mailbox indexid (healed_rests fits rests) follows) heals.ok;
+        err = on_err result (λ rests. stands_then sees log due chain old stands KeepsOthers kept due (λ is. is) (λ c is. is) next new mailbox indexid (owed_rests rests) follows) heals.err;
       }
 
 -- ---- the last replace of a rotation
 
-module _ {S : Type 0} (files : S → Folder) (may_leave : S → Folder → Type 0) (moment : S → ℕ) (left_since : S → ℕ → Folder → Type 0)
+module _ {S : Type 0} (sees : SeesFolder S)
     (log : Log) (turn : Turn) (chain next : Chain) (old new : S) (live : next.live ≡ chain.live) (indexid : next.indexid ≡ chain.indexid) where
   abbrev put : Folder → Folder → Type 0
   put = IsPut name.Log turn.new
 
-  finished : {T E : Type 0} (result : Result T E) → Stands may_leave log (Last turn.new) chain old → Leaves files may_leave moment left_since (Puts name.Log turn.new result) put old new → FinishesQuietly may_leave moment left_since turn chain next result old new
-      → RepairsQuietly may_leave moment left_since log (Last turn.new) chain next result old new
+  finished : {T E : Type 0} (result : Result T E) → Stands sees log (Last turn.new) chain old → Leaves sees (Puts name.Log turn.new result) put old new → FinishesQuietly sees turn chain next result old new
+      → RepairsQuietly sees log (Last turn.new) chain next result old new
   finished {T = T} {E = E} result stands leaves quiet = record {
-    since = gives_since may_leave log (Last turn.new) chain old stands put kept (Last turn.new) (λ is. tt) (λ c is. is) moment left_since new leaves.since quiet.since;
+    since = gives_since sees log (Last turn.new) chain old stands put kept (Last turn.new) (λ is. tt) (λ c is. is) new leaves.since quiet.since;
     ok = ok result quiet.rests;
     err = err result quiet.rests;
   }
@@ -175,23 +176,23 @@ module _ {S : Type 0} (files : S → Folder) (may_leave : S → Folder → Type 
       kept : LeavesKept chain.live.mailbox (Last turn.new) put
       kept = leaves_messages chain.live.mailbox (Last turn.new) put (λ d c is. beside_put name.Log turn.new d c of_log is)
 
-      follows : (c : Folder) → may_leave new c → (d : Folder) × may_leave old d × put d c
+      follows : (c : Folder) → sees.may_leave new c → (d : Folder) × sees.may_leave old d × put d c
       follows c left =
           let from = leaves.crash c left in
           (from.0, from.1, puts_either name.Log turn.new result from.0 c from.2)
 
-      ok : (r : Result T E) → RestsFinished may_leave turn next new r → OnOk r (Stands may_leave log Nothing next new)
-      ok (Ok x) rests = stands_then may_leave log (Last turn.new) chain old stands put kept Nothing (λ is. tt) (λ c is. tt) next new (λ i. (live i).mailbox) indexid rests follows
+      ok : (r : Result T E) → RestsFinished sees turn next new r → OnOk r (Stands sees log Nothing next new)
+      ok (Ok x) rests = stands_then sees log (Last turn.new) chain old stands put kept Nothing (λ is. tt) (λ c is. tt) next new (λ i. (live i).mailbox) indexid rests follows
       ok (Err e) rests = tt
 
-      err : (r : Result T E) → RestsFinished may_leave turn next new r → OnErr r (Stands may_leave log (Last turn.new) next new)
+      err : (r : Result T E) → RestsFinished sees turn next new r → OnErr r (Stands sees log (Last turn.new) next new)
       err (Ok x) rests = tt
-      err (Err e) rests = stands_then may_leave log (Last turn.new) chain old stands put kept (Last turn.new) (λ is. tt) (λ c is. tt) next new (λ i. (live i).mailbox) indexid rests follows
+      err (Err e) rests = stands_then sees log (Last turn.new) chain old stands put kept (Last turn.new) (λ is. tt) (λ c is. tt) next new (λ i. (live i).mailbox) indexid rests follows
 
-  pub finished_quiet : {T E : Type 0} (result : Result T E) (due : Debt) → Fits (Some turn) due → Stands may_leave log due chain old → Leaves files may_leave moment left_since (Puts name.Log turn.new result) put old new
-      → (chain_rest.Rests may_leave (chain_rest.Last turn.new chain.live.mailbox) chain old → FinishesQuietly may_leave moment left_since turn chain next result old new) → RepairsQuietly may_leave moment left_since log due chain next result old new
+  pub finished_quiet : {T E : Type 0} (result : Result T E) (due : Debt) → Fits (Some turn) due → Stands sees log due chain old → Leaves sees (Puts name.Log turn.new result) put old new
+      → (chain_rest.Rests sees (chain_rest.Last turn.new chain.live.mailbox) chain old → FinishesQuietly sees turn chain next result old new) → RepairsQuietly sees log due chain next result old new
   finished_quiet result Nothing fits stands leaves quiet = absurd fits
   finished_quiet result (Pending text after written) fits stands leaves quiet = absurd fits
   finished_quiet result (Last file) fits stands leaves quiet =
-      let here = subst (λ (n : List ℕ). Stands may_leave log (Last n) chain old) (sym fits) stands in
-      subst (λ (n : List ℕ). RepairsQuietly may_leave moment left_since log (Last n) chain next result old new) fits (finished result here leaves (quiet here.rests))
+      let here = subst (λ (n : List ℕ). Stands sees log (Last n) chain old) (sym fits) stands in
+      subst (λ (n : List ℕ). RepairsQuietly sees log (Last n) chain next result old new) fits (finished result here leaves (quiet here.rests))

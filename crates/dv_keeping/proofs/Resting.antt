@@ -17,6 +17,7 @@ use Rattle.dv_keeping.specs.Debts.{Debt, IsOwedOf, KeepsOwed, Last, MayGive, Not
 use Rattle.dv_keeping.specs.Keeping.{Gives, Keeps}
 use Rattle.dv_keeping.specs.Laws.{RestGives, SameMessages}
 use Rattle.dv_keeping.proofs.Kept.{KeepsMessages, kept_same, same_messages}
+use Rattle.dv_shelf.specs.Sees.{SeesFolder}
 
 -- ---- what a folder gives
 
@@ -31,8 +32,8 @@ gives_so log (Pending text after written) chain c named of opens keeps owed =
 gives_so log (Last new) chain c named of opens keeps owed =
     ⊎_elim (λ found. inl (gives_as log chain.live.mailbox (place_of chain) chain c named found keeps)) (λ found. inr (gives_as log chain.live.mailbox (next_mark chain) chain c named found keeps)) opens
 
-pub rests_give : {S : Type 0} (may_leave : S → Folder → Type 0) → RestGives may_leave
-rests_give may_leave log debt chain shelf c stands left =
+pub rests_give : {S : Type 0} (sees : SeesFolder S) → RestGives sees
+rests_give sees log debt chain shelf c stands left =
     let owed = owed_of chain.live.mailbox debt in
     gives_so log debt chain c stands.named stands.written (may_open owed chain c stands.rests.owes (stands.rests.each c left)) (stands.keeps c left) (stands.owed c left)
 
@@ -58,9 +59,9 @@ leaves_messages m debt step same = record { same = λ d c is. same_messages m d 
 
 -- ---- what a crash leaves at any moment
 
-module _ {S : Type 0} (moment : S → ℕ) (left_since : S → ℕ → Folder → Type 0) where
+module _ {S : Type 0} (sees : SeesFolder S) where
   -- two statements at once
-  pub both_only : (old new : S) (P Q R : Folder → Type 0) → LeavesOnly moment left_since old new P → LeavesOnly moment left_since old new Q → ((c : Folder) → P c → Q c → R c) → LeavesOnly moment left_since old new R
+  pub both_only : (old new : S) (P Q R : Folder → Type 0) → LeavesOnly sees old new P → LeavesOnly sees old new Q → ((c : Folder) → P c → Q c → R c) → LeavesOnly sees old new R
   both_only old new P Q R one other both = record {
     later = one.later;
     each = λ c left. both c (one.each c left) (other.each c left);
@@ -68,22 +69,22 @@ module _ {S : Type 0} (moment : S → ℕ) (left_since : S → ℕ → Folder �
   }
 
   -- what a crash may leave behind a call comes by the step by which it comes at any moment of it
-  pub follows_since : (may_leave : S → Folder → Type 0) (old new : S) (step : Folder → Folder → Type 0) → ((c : Folder) → may_leave new c → left_since new (moment old) c) → LeavesOnly moment left_since old new (FromOneOf (may_leave old) step)
-      → Follows step (may_leave old) (may_leave new)
-  follows_since may_leave old new step now since c left = since.each c (now c left)
+  pub follows_since : (old new : S) (step : Folder → Folder → Type 0) → ((c : Folder) → sees.may_leave new c → sees.left_since new (sees.moment old) c) → LeavesOnly sees old new (FromOneOf (sees.may_leave old) step)
+      → Follows step (sees.may_leave old) (sees.may_leave new)
+  follows_since old new step now since c left = since.each c (now c left)
 
 -- ---- a call
 
-module _ {S : Type 0} (may_leave : S → Folder → Type 0) (log : Log) (debt : Debt) (chain : Chain) (old : S) (stands : Stands may_leave log debt chain old) (step : Folder → Folder → Type 0) (kept : LeavesKept chain.live.mailbox debt step)
+module _ {S : Type 0} (sees : SeesFolder S) (log : Log) (debt : Debt) (chain : Chain) (old : S) (stands : Stands sees log debt chain old) (step : Folder → Folder → Type 0) (kept : LeavesKept chain.live.mailbox debt step)
     (given : Debt) (of : IsOwedOf log debt → IsOwedOf log given) (owes : (c : Folder) → KeepsOwed debt c → KeepsOwed given c) where
-  still_keeps : (d c : Folder) → may_leave old d → step d c → Keeps log chain.live.mailbox c
+  still_keeps : (d c : Folder) → sees.may_leave old d → step d c → Keeps log chain.live.mailbox c
   still_keeps d c left is = kept_same log chain.live.mailbox d c (kept.same d c is) (stands.keeps d left)
 
-  still_owed : (d c : Folder) → may_leave old d → step d c → KeepsOwed given c
+  still_owed : (d c : Folder) → sees.may_leave old d → step d c → KeepsOwed given c
   still_owed d c left is = owes c (kept.owed d c is (stands.owed d left))
 
   -- behind it the store is at rest, whose chain is so
-  pub stands_then : (next : Chain) (new : S) → next.live.mailbox ≡ chain.live.mailbox → next.indexid ≡ chain.indexid → Rests may_leave (owed_of next.live.mailbox given) next new → Follows step (may_leave old) (may_leave new) → Stands may_leave log given next new
+  pub stands_then : (next : Chain) (new : S) → next.live.mailbox ≡ chain.live.mailbox → next.indexid ≡ chain.indexid → Rests sees (owed_of next.live.mailbox given) next new → Follows step (sees.may_leave old) (sees.may_leave new) → Stands sees log given next new
   stands_then next new mailbox indexid rests follows = record {
     named = stands.named ∙ sym indexid;
     written = of stands.written;
@@ -97,8 +98,8 @@ module _ {S : Type 0} (may_leave : S → Folder → Type 0) (log : Log) (debt : 
   }
 
   -- at any moment of it a crash leaves a folder that gives what it opens to
-  pub gives_since : (moment : S → ℕ) (left_since : S → ℕ → Folder → Type 0) (new : S) → LeavesOnly moment left_since old new (FromOneOf (may_leave old) step) → LeavesOnly moment left_since old new (MayOpen (owed_of chain.live.mailbox given) chain)
-      → LeavesOnly moment left_since old new (MayGive log given chain)
-  gives_since moment left_since new since opens =
-      both_only moment left_since old new (FromOneOf (may_leave old) step) (MayOpen (owed_of chain.live.mailbox given) chain) (MayGive log given chain) since opens
+  pub gives_since : (new : S) → LeavesOnly sees old new (FromOneOf (sees.may_leave old) step) → LeavesOnly sees old new (MayOpen (owed_of chain.live.mailbox given) chain)
+      → LeavesOnly sees old new (MayGive log given chain)
+  gives_since new since opens =
+      both_only sees old new (FromOneOf (sees.may_leave old) step) (MayOpen (owed_of chain.live.mailbox given) chain) (MayGive log given chain) since opens
       (λ c from found. gives_so log given chain c stands.named (of stands.written) found (still_keeps from.0 c from.1 from.2) (still_owed from.0 c from.1 from.2))

@@ -13,19 +13,20 @@ use Rattle.dv_keeping.specs.Debts.{IsOwedOf, KeepsOwed, Last, Nothing, Stands, d
 use Rattle.dv_keeping.specs.Turning.{TurnsOverQuietly}
 use Rattle.dv_keeping.proofs.Kept.{beside_turn}
 use Rattle.dv_keeping.proofs.Resting.{follows_since, gives_since, leaves_messages, stands_then}
+use Rattle.dv_shelf.specs.Sees.{SeesFolder}
 
-module _ {S : Type 0} (files : S → Folder) (may_leave : S → Folder → Type 0) (moment : S → ℕ) (left_since : S → ℕ → Folder → Type 0)
+module _ {S : Type 0} (sees : SeesFolder S)
     (log : Log) (turn : Turn) (chain next : Chain) (old new : S) (live : next.live ≡ chain.live) (indexid : next.indexid ≡ chain.indexid)
-    (stands : Stands may_leave log Nothing chain old) (now : (c : Folder) → may_leave new c → left_since new (moment old) c) where
+    (stands : Stands sees log Nothing chain old) (now : (c : Folder) → sees.may_leave new c → sees.left_since new (sees.moment old) c) where
   -- which turn is kept, so that what rests owes it
-  turned_over : {T : Type 0} (result : Result T TurnEnd) (left : Option Turn) → Leaves files may_leave moment left_since (Turns turn result) (IsTurning turn) old new → TurnsQuietly may_leave moment left_since turn chain next result old new
-      → Rests may_leave (owed_of next.live.mailbox (debt_of left)) next new → TurnsOverQuietly may_leave moment left_since log turn left chain next old new
+  turned_over : {T : Type 0} (result : Result T TurnEnd) (left : Option Turn) → Leaves sees (Turns turn result) (IsTurning turn) old new → TurnsQuietly sees turn chain next result old new
+      → Rests sees (owed_of next.live.mailbox (debt_of left)) next new → TurnsOverQuietly sees log turn left chain next old new
   turned_over result left leaves quiet rests =
       let kept = leaves_messages chain.live.mailbox Nothing (IsTurning turn) (λ d c step. beside_turn turn d c step) in
-      let follows = follows_since moment left_since may_leave old new (IsTurning turn) now leaves.since in
+      let follows = follows_since sees old new (IsTurning turn) now leaves.since in
       record {
-        since = gives_since may_leave log Nothing chain old stands (IsTurning turn) kept (Last turn.new) (λ is. tt) (λ c is. tt) moment left_since new leaves.since quiet.since;
-        stands = stands_then may_leave log Nothing chain old stands (IsTurning turn) kept (debt_of left) (λ is. of_left left) (by_left left) next new (λ i. (live i).mailbox) indexid rests follows;
+        since = gives_since sees log Nothing chain old stands (IsTurning turn) kept (Last turn.new) (λ is. tt) (λ c is. tt) new leaves.since quiet.since;
+        stands = stands_then sees log Nothing chain old stands (IsTurning turn) kept (debt_of left) (λ is. of_left left) (by_left left) next new (λ i. (live i).mailbox) indexid rests follows;
       }
     where
       of_left : (t : Option Turn) → IsOwedOf log (debt_of t)
@@ -37,14 +38,14 @@ module _ {S : Type 0} (files : S → Folder) (may_leave : S → Folder → Type 
       by_left (Some t) c is = tt
 
   abbrev OverQuietly : Option Turn → Type 0
-  OverQuietly left = TurnsOverQuietly may_leave moment left_since log turn left chain next old new
+  OverQuietly left = TurnsOverQuietly sees log turn left chain next old new
 
   module _ {T : Type 0} where
     abbrev LeavesAt : Result T TurnEnd → Type 0
-    LeavesAt result = Leaves files may_leave moment left_since (Turns turn result) (IsTurning turn) old new
+    LeavesAt result = Leaves sees (Turns turn result) (IsTurning turn) old new
 
     abbrev QuietAt : Result T TurnEnd → Type 0
-    QuietAt result = TurnsQuietly may_leave moment left_since turn chain next result old new
+    QuietAt result = TurnsQuietly sees turn chain next result old new
 
     pub over_done : (x : T) → LeavesAt (Ok x) → QuietAt (Ok x) → OverQuietly None
     over_done x leaves quiet = turned_over (Ok x) None leaves quiet quiet.rests

@@ -10,6 +10,7 @@ use Rattle.dv_commits.specs.Opening.{mark_behind}
 use Rattle.dv_rotation.specs.declared.texts.Turn.{Turn}
 use Rattle.dv_rotation.specs.Texts.{place_of}
 use Rattle.dv_keeping.specs.Keeping.{Gives, Keeps}
+use Rattle.dv_shelf.specs.Sees.{SeesFolder}
 
 -- Nothing; or the gate of a failed commit's group may be open, whose text makes this mailbox, and
 -- then the log is that with its message; or the log may already be this new file of a rotation.
@@ -51,17 +52,17 @@ IsOwedOf log (Pending text after written) = written.indexid ≡ log.indexid
 IsOwedOf log (Last new) = ⊤
 
 -- A store is at rest: its chain is, and each folder that a crash now may leave keeps the mailbox,
--- and that with what is owed. It takes the shelf's member `may_leave`.
-pub record Stands {S : Type 0} (may_leave : S → Folder → Type 0) (log : Log) (debt : Debt)
+-- and that with what is owed. It takes what the shelf shows.
+pub record Stands {S : Type 0} (sees : SeesFolder S) (log : Log) (debt : Debt)
     (chain : Chain) (shelf : S) : Type 0 where
   pub named : log.indexid ≡ chain.indexid
   pub written : IsOwedOf log debt
-  pub rests : Rests may_leave (owed_of chain.live.mailbox debt) chain shelf
-  pub keeps : (c : Folder) → may_leave shelf c → Keeps log chain.live.mailbox c
-  pub owed : (c : Folder) → may_leave shelf c → KeepsOwed debt c
+  pub rests : Rests sees (owed_of chain.live.mailbox debt) chain shelf
+  pub keeps : (c : Folder) → sees.may_leave shelf c → Keeps log chain.live.mailbox c
+  pub owed : (c : Folder) → sees.may_leave shelf c → KeepsOwed debt c
 
--- What a crash leaves gives the mailbox at its place, or with the pending group behind it, or at the
--- first place of the new file.
+-- What a crash leaves gives the mailbox at its place, or with the pending group behind it, or at
+-- the first place of the new file.
 abbrev pub MayGive : Log → Debt → Chain → Folder → Type 0
 MayGive log Nothing chain c = Gives log chain.live.mailbox (place_of chain) c
 MayGive log (Pending text after written) chain c =

@@ -8,6 +8,7 @@ use Rattle.dv_shelf.specs.Folders.{Folder}
 use Rattle.dv_chain.specs.declared.chain.Chain.{Chain}
 use Rattle.dv_keeping.specs.Debts.{Debt, MayGive, Stands}
 use Rattle.dv_keeping.specs.Keeping.{Keeps}
+use Rattle.dv_shelf.specs.Sees.{SeesFolder}
 
 -- the cache file and the message files of a mailbox's rows are as before
 pub record SameMessages (m : Mailbox) (old new : Folder) : Type 0 where
@@ -20,6 +21,6 @@ KeptWhereSame = (log : Log) (m : Mailbox) (old new : Folder) → SameMessages m 
     → Keeps log m old → Keeps log m new
 
 -- whatever a crash leaves of a store at rest gives its mailbox, or that with what is owed
-abbrev pub RestGives : {S : Type 0} → (S → Folder → Type 0) → Type 0
-RestGives {S} may_leave = (log : Log) (debt : Debt) (chain : Chain) (shelf : S) (c : Folder)
-    → Stands may_leave log debt chain shelf → may_leave shelf c → MayGive log debt chain c
+abbrev pub RestGives : {S : Type 0} → SeesFolder S → Type 0
+RestGives {S} sees = (log : Log) (debt : Debt) (chain : Chain) (shelf : S) (c : Folder)
+    → Stands sees log debt chain shelf → sees.may_leave shelf c → MayGive log debt chain c

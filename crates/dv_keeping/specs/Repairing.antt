@@ -1,5 +1,5 @@
 -- What a repair does: to the chain and the turn, to the files, and to what a crash leaves. The
--- records take the members of a shelf's type.
+-- records take what a shelf shows.
 use Rattle.std.specs.Prelude.{◌≡◌, ℕ, ◌<◌, Option, Some, None, IfSome, Result, OnOk, OnErr}
 use Rattle.dv_model.specs.Journals.{Log}
 use Rattle.dv_shelf.specs.declared.shelf.Name.TheVariants as name
@@ -15,6 +15,7 @@ use Rattle.dv_rotation.specs.declared.texts.Turn.{Turn}
 use Rattle.dv_rotation.specs.Leavings.{Puts}
 use Rattle.dv_rotation.specs.Texts.{Advances, ClosesLog, IsTurnOf, closed_at}
 use Rattle.dv_keeping.specs.Debts.{Debt, MayGive, Nothing, Stands}
+use Rattle.dv_shelf.specs.Sees.{SeesFolder}
 
 -- ---- what is owed
 
@@ -72,9 +73,8 @@ pub record KeepsTurn (turn : Turn) (chain new_chain : Chain) {T E : Type 0} (res
 
 -- A repair goes from rest to rest: behind Ok nothing is owed, behind an error the same as before. A
 -- crash at any moment leaves a folder that gives the mailbox, or that with what is owed.
-pub record RepairsQuietly {S : Type 0} (may_leave : S → Folder → Type 0) (moment : S → ℕ)
-    (left_since : S → ℕ → Folder → Type 0) (log : Log) (due : Debt) (chain new_chain : Chain)
+pub record RepairsQuietly {S : Type 0} (sees : SeesFolder S) (log : Log) (due : Debt) (chain new_chain : Chain)
     {T E : Type 0} (result : Result T E) (old new : S) : Type 0 where
-  pub since : LeavesOnly moment left_since old new (MayGive log due chain)
-  pub ok : OnOk result (Stands may_leave log Nothing new_chain new)
-  pub err : OnErr result (Stands may_leave log due new_chain new)
+  pub since : LeavesOnly sees old new (MayGive log due chain)
+  pub ok : OnOk result (Stands sees log Nothing new_chain new)
+  pub err : OnErr result (Stands sees log due new_chain new)

@@ -14,5 +14,5 @@ pub fn kept_where_same()
 /// a group may be open, the mailbox with the group behind it; or, where the last replace of a
 /// rotation is owed, the mailbox at the new file's first place.
 pub fn rest_gives<S: Shelf>()
-    ensures { RestGives S.may_leave }
+    ensures { RestGives S.sees }
 {}

@@ -27,19 +27,21 @@ pub fn repair<S: Shelf>(
     ensures nothing { turn.old ≡ None → chain.old.log.debt ≡ log_debt.None →
         IsOk result × (shelf.new ≡ shelf.old) }
     // The files as reads give them.
-    ensures files { S.tells →
-        RepairsFiles turn.old chain.old.log result (S.files shelf.old) (S.files shelf.new) }
+    ensures files { S.sees.tells →
+        RepairsFiles turn.old chain.old.log result (S.sees.files shelf.old)
+        (S.sees.files shelf.new) }
     // Where no turn was owed, one that was made before may still be used.
-    ensures turns { S.tells → turn.old ≡ None → (made : Turn) →
-        KeepsTurn made chain.old chain.new result (S.files shelf.old) (S.files shelf.new) }
+    ensures turns { S.sees.tells → turn.old ≡ None → (made : Turn) →
+        KeepsTurn made chain.old chain.new result (S.sees.files shelf.old)
+        (S.sees.files shelf.new) }
     // What a crash leaves, at any moment and afterwards; from rest to rest.
-    ensures quiet { S.tells → (log : Log) (due : Debt) → Fits turn.old due →
-        Stands S.may_leave log due chain.old shelf.old →
-        RepairsQuietly S.may_leave S.moment S.left_since log due
+    ensures quiet { S.sees.tells → (log : Log) (due : Debt) → Fits turn.old due →
+        Stands S.sees log due chain.old shelf.old →
+        RepairsQuietly S.sees log due
         chain.old chain.new result shelf.old shelf.new }
     // No message file is read; an error has its cause.
-    ensures mail_reads { S.mail_reads shelf.new ≡ S.mail_reads shelf.old }
-    ensures cause { HasCause (S.fault_count shelf.old) (S.fault_count shelf.new) result }
+    ensures mail_reads { S.sees.mail_reads shelf.new ≡ S.sees.mail_reads shelf.old }
+    ensures cause { HasCause (S.sees.fault_count shelf.old) (S.sees.fault_count shelf.new) result }
 {
     match turn {
         Some(made) => {

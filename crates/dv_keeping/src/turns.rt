@@ -38,16 +38,16 @@ pub fn turn_over<S: Shelf>(
     // The chain and the turn that is kept, also behind an error.
     ensures value { TurnsOver turn owed.new chain.old chain.new result }
     // The files, and what a crash leaves of them, afterwards and at any moment.
-    ensures leaves { S.tells → Leaves S.files S.may_leave S.moment S.left_since
+    ensures leaves { S.sees.tells → Leaves S.sees
         (TurnsFiles turn owed.new result) (IsTurning turn) shelf.old shelf.new }
     // What is left gives the same mailbox; from rest to rest.
-    ensures quiet { S.tells → (log : Log) → Stands S.may_leave log Nothing chain.old shelf.old →
-        ClosesLog chain.old turn (S.files shelf.old) →
-        TurnsOverQuietly S.may_leave S.moment S.left_since log turn owed.new
+    ensures quiet { S.sees.tells → (log : Log) → Stands S.sees log Nothing chain.old shelf.old →
+        ClosesLog chain.old turn (S.sees.files shelf.old) →
+        TurnsOverQuietly S.sees log turn owed.new
         chain.old chain.new shelf.old shelf.new }
     // No message file is read; an error has its cause.
-    ensures mail_reads { S.mail_reads shelf.new ≡ S.mail_reads shelf.old }
-    ensures cause { HasCause (S.fault_count shelf.old) (S.fault_count shelf.new) result }
+    ensures mail_reads { S.sees.mail_reads shelf.new ≡ S.sees.mail_reads shelf.old }
+    ensures cause { HasCause (S.sees.fault_count shelf.old) (S.sees.fault_count shelf.new) result }
 {
     match rotate(chain, shelf, &turn) {
         Ok(()) => Ok(()),

@@ -9,6 +9,7 @@ use Rattle.dv_shelf.proofs.Moments.{started, goes_on}
 use Rattle.dv_shelf.proofs.Torn.{patched_changes}
 use Rattle.dv_logfile.specs.Layout.{bytes_at}
 use Rattle.dv_logfile.specs.Gates.{FromOneOf, KeepsFront, IsShut, IsStaged, IsOpen}
+use Rattle.dv_shelf.specs.Sees.{SeesFolder}
 
 -- ---- lists
 
@@ -78,12 +79,12 @@ pub written_torn : (folder now : Folder) (at : ℕ) (bytes : List ℕ) → now �
 written_torn folder now at bytes wrote = subst (λ (F : Folder). ChangesOnly Log (TornFile at (length bytes)) folder F) (sym wrote) (patched_changes folder Log at bytes)
 
 -- a crash during a write leaves what the write may leave
-module _ {S : Type 0} (moment : S → ℕ) (left_since : S → ℕ → Folder → Type 0) (may_leave : S → Folder → Type 0) where
-  pub written_once : (s0 s1 : S) (at n : ℕ) → ((c : Folder) → left_since s0 (moment s0) c → may_leave s0 c) → Elapses (moment s0) (moment s1) (left_since s0) (left_since s1) (may_leave s1)
-      → Follows (ChangesOnly Log (TornFile at n)) (may_leave s0) (may_leave s1) → LeavesOnly moment left_since s0 s1 (FromOneOf (may_leave s0) (ChangesOnly Log (TornFile at n)))
+module _ {S : Type 0} (sees : SeesFolder S) where
+  pub written_once : (s0 s1 : S) (at n : ℕ) → ((c : Folder) → sees.left_since s0 (sees.moment s0) c → sees.may_leave s0 c) → Elapses (sees.moment s0) (sees.moment s1) (sees.left_since s0) (sees.left_since s1) (sees.may_leave s1)
+      → Follows (ChangesOnly Log (TornFile at n)) (sees.may_leave s0) (sees.may_leave s1) → LeavesOnly sees s0 s1 (FromOneOf (sees.may_leave s0) (ChangesOnly Log (TornFile at n)))
   written_once s0 s1 at n only time crash =
-      let P : Folder → Type 0 = FromOneOf (may_leave s0) (ChangesOnly Log (TornFile at n)) in
-      goes_on moment left_since s0 s0 s1 P (may_leave s1) (started moment left_since s0 P (λ c left. (c, only c left, untouched c at n))) time crash
+      let P : Folder → Type 0 = FromOneOf (sees.may_leave s0) (ChangesOnly Log (TornFile at n)) in
+      goes_on sees s0 s0 s1 P (sees.may_leave s1) (started sees s0 P (λ c left. (c, only c left, untouched c at n))) time crash
 
 -- a write from e on
 pub keeps_torn : (d b c : Folder) (e most at n : ℕ) → e < length (contents d Log) → e ≤ at → at + n ≤ most → KeepsFront d e most b → ChangesOnly Log (TornFile at n) b c

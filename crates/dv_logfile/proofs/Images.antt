@@ -6,6 +6,7 @@ use Rattle.dv_shelf.specs.Folders.{Folder, contents, patched, with_file}
 use Rattle.dv_logfile.specs.Gates.{IsShut, IsStaged, IsOpen, IsBeforeOrAfter, AreLong, FromOneOf}
 use Rattle.dv_shelf.proofs.Moments.{weaker, joined}
 use Rattle.dv_logfile.proofs.Gate.{First, Second, written_torn, shut_torn, staged_first, staged_torn, staged_log, opened_second, contents_of}
+use Rattle.dv_shelf.specs.Sees.{SeesFolder}
 
 -- where a crash leaves the files alone, each outcome is long
 pub only_long : (F : Folder) (e : ℕ) (outcomes : Folder → Type 0) → Only F outcomes → e < length (contents F Log) → AreLong e outcomes
@@ -70,20 +71,20 @@ module _ (e : ℕ) (text behind : List ℕ) (some_text : 1 ≤ length text) (is 
 
 -- ---- every moment
 
-module _ {S : Type 0} (moment : S → ℕ) (left_since : S → ℕ → Folder → Type 0) (may_leave : S → Folder → Type 0) (e : ℕ) (text : List ℕ) (old new : S) where
+module _ {S : Type 0} (sees : SeesFolder S) (e : ℕ) (text : List ℕ) (old new : S) where
   abbrev pub Since : Type 0
-  Since = LeavesOnly moment left_since old new (FromOneOf (may_leave old) (λ d f. IsBeforeOrAfter d e text f))
+  Since = LeavesOnly sees old new (FromOneOf (sees.may_leave old) (λ d f. IsBeforeOrAfter d e text f))
 
   -- where the files alone could be left
-  pub since_only : (F : Folder) → Only F (may_leave old) → Since → LeavesOnly moment left_since old new (IsBeforeOrAfter F e text)
-  since_only F only since = weaker moment left_since old new _ (IsBeforeOrAfter F e text) since (only_step F (may_leave old) (λ d f. IsBeforeOrAfter d e text f) only)
+  pub since_only : (F : Folder) → Only F (sees.may_leave old) → Since → LeavesOnly sees old new (IsBeforeOrAfter F e text)
+  since_only F only since = weaker sees old new _ (IsBeforeOrAfter F e text) since (only_step F (sees.may_leave old) (λ d f. IsBeforeOrAfter d e text f) only)
 
-module _ {S : Type 0} (moment : S → ℕ) (left_since : S → ℕ → Folder → Type 0) (may_leave : S → Folder → Type 0) (e : ℕ) (text behind : List ℕ) (some_text : 1 ≤ length text) (is : behind ≡ drop 1 text)
-    (s0 s2 s4 : S) (long : AreLong e (may_leave s0)) (first : LeavesOnly moment left_since s0 s2 (FromOneOf (may_leave s0) (First e behind))) where
-  pub first_since : Since moment left_since may_leave e text s0 s2
-  first_since = weaker moment left_since s0 s2 _ _ first (first_either e text behind some_text is (may_leave s0) long)
+module _ {S : Type 0} (sees : SeesFolder S) (e : ℕ) (text behind : List ℕ) (some_text : 1 ≤ length text) (is : behind ≡ drop 1 text)
+    (s0 s2 s4 : S) (long : AreLong e (sees.may_leave s0)) (first : LeavesOnly sees s0 s2 (FromOneOf (sees.may_leave s0) (First e behind))) where
+  pub first_since : Since sees e text s0 s2
+  first_since = weaker sees s0 s2 _ _ first (first_either e text behind some_text is (sees.may_leave s0) long)
 
-  pub second_since : (log : List ℕ) → Follows (First e behind) (may_leave s0) (may_leave s2) → ((c : Folder) → may_leave s2 c → c Log ≡ Some (patched log (e + 1) behind))
-      → LeavesOnly moment left_since s2 s4 (FromOneOf (may_leave s2) (Second e)) → Since moment left_since may_leave e text s0 s4
+  pub second_since : (log : List ℕ) → Follows (First e behind) (sees.may_leave s0) (sees.may_leave s2) → ((c : Folder) → sees.may_leave s2 c → c Log ≡ Some (patched log (e + 1) behind))
+      → LeavesOnly sees s2 s4 (FromOneOf (sees.may_leave s2) (Second e)) → Since sees e text s0 s4
   second_since log follows durable second =
-      joined moment left_since s0 s2 s4 _ first_since (weaker moment left_since s2 s4 _ _ second (second_either e text behind some_text is (may_leave s0) long (may_leave s2) log follows durable))
+      joined sees s0 s2 s4 _ first_since (weaker sees s2 s4 _ _ second (second_either e text behind some_text is (sees.may_leave s0) long (sees.may_leave s2) log follows durable))

@@ -1,5 +1,5 @@
--- What a commit and a heal do: to the value, to the files as reads give them, to what a crash leaves
--- in bytes, and to what is read of that. The records take the members of a shelf's type.
+-- What a commit and a heal do: to the value, to the files as reads give them, to what a crash
+-- leaves in bytes, and to what is read of that. The records take what a shelf shows.
 use Rattle.std.specs.Prelude.{◌≡◌, ℕ, ◌+◌, ◌-◌, ◌*◌, ◌^◌, ◌<◌, ◌≤◌, min, List, [], ◌∷◌, length, Some, Result, IfOk, OnOk, OnErr}
 use Rattle.dv_model.specs.declared.types.Mark.{Mark}
 use Rattle.dv_model.specs.declared.types.Record.{Record}
@@ -11,6 +11,7 @@ use Rattle.dv_logfile.specs.declared.commit.LogFile.{LogFile}
 use Rattle.dv_logfile.specs.Layout.{Spelled, closing, longest_log}
 use Rattle.dv_logfile.specs.Gates.{IsBeforeOrAfter, IsStaged, IsOpen, IsLeft, AreLong, FromOneOf}
 use Rattle.dv_logfile.specs.Reading.{IsAtRest, ReadsAs, ReadsWith, ReadsEither, ReadsLeft}
+use Rattle.dv_shelf.specs.Sees.{SeesFolder}
 
 -- ---- the value
 
@@ -35,16 +36,16 @@ pub record SettlesDebt (old new : LogFile) {T E : Type 0} (result : Result T E) 
 
 -- ---- the files, as reads give them
 
--- Bytes are written into the log and synced. A failure leaves any bytes in their place, and so may a
--- crash, which behind Ok leaves the log as it is read.
-pub record WritesSynced {S : Type 0} (files : S → Folder) (may_leave : S → Folder → Type 0) (moment : S → ℕ) (left_since : S → ℕ → Folder → Type 0)
+-- Bytes are written into the log and synced. A failure leaves any bytes in their place, and so may
+-- a crash, which behind Ok leaves the log as it is read.
+pub record WritesSynced {S : Type 0} (sees : SeesFolder S)
     (at : ℕ) (bytes : List ℕ) {T E : Type 0} (result : Result T E) (old new : S) : Type 0 where
-  pub ok : OnOk result (files new ≡ with_file (files old) Log (Some (patched (contents (files old) Log) at bytes)))
-  pub err : OnErr result (ChangesOnly Log (TornFile at (length bytes)) (files old) (files new))
-  pub durable : OnOk result ((c : Folder) → may_leave new c → c Log ≡ files new Log)
-  pub crash : Follows (ChangesOnly Log (TornFile at (length bytes))) (may_leave old) (may_leave new)
-  pub since : LeavesOnly moment left_since old new
-      (FromOneOf (may_leave old) (ChangesOnly Log (TornFile at (length bytes))))
+  pub ok : OnOk result (sees.files new ≡ with_file (sees.files old) Log (Some (patched (contents (sees.files old) Log) at bytes)))
+  pub err : OnErr result (ChangesOnly Log (TornFile at (length bytes)) (sees.files old) (sees.files new))
+  pub durable : OnOk result ((c : Folder) → sees.may_leave new c → c Log ≡ sees.files new Log)
+  pub crash : Follows (ChangesOnly Log (TornFile at (length bytes))) (sees.may_leave old) (sees.may_leave new)
+  pub since : LeavesOnly sees old new
+      (FromOneOf (sees.may_leave old) (ChangesOnly Log (TornFile at (length bytes))))
 
 -- Behind Ok the text stands at the old end. An error leaves the gate as it was, or the group whole
 -- behind it; the debt says which.
@@ -64,35 +65,36 @@ pub record ShutsGate (old : LogFile) {T E : Type 0} (result : Result T E) (befor
 
 -- A crash at any moment leaves the bytes up to the gate as they were, or the whole group behind the
 -- gate; one behind Ok the group, one behind an error what the debt says.
-pub record LeavesGroup {S : Type 0} (files : S → Folder) (may_leave : S → Folder → Type 0) (moment : S → ℕ) (left_since : S → ℕ → Folder → Type 0)
+pub record LeavesGroup {S : Type 0} (sees : SeesFolder S)
     (text : List ℕ) (log new_log : LogFile) {T E : Type 0} (result : Result T E) (old new : S) : Type 0 where
-  pub any_moment : IsSettled files may_leave old → log.end < length (contents (files old) Log)
-      → LeavesOnly moment left_since old new (IsBeforeOrAfter (files old) log.end text)
-  pub since : AreLong log.end (may_leave old)
-      → LeavesOnly moment left_since old new (FromOneOf (may_leave old) (λ d c. IsBeforeOrAfter d log.end text c))
-  pub opened : AreLong log.end (may_leave old)
-      → OnOk result (Follows (λ d c. IsOpen d log.end text c) (may_leave old) (may_leave new))
-  pub left : AreLong log.end (may_leave old)
-      → OnErr result (Follows (λ d c. IsLeft new_log.debt d log.end text c) (may_leave old) (may_leave new))
+  pub any_moment : IsSettled sees old → log.end < length (contents (sees.files old) Log)
+      → LeavesOnly sees old new (IsBeforeOrAfter (sees.files old) log.end text)
+  pub since : AreLong log.end (sees.may_leave old)
+      → LeavesOnly sees old new (FromOneOf (sees.may_leave old) (λ d c. IsBeforeOrAfter d log.end text c))
+  pub opened : AreLong log.end (sees.may_leave old)
+      → OnOk result (Follows (λ d c. IsOpen d log.end text c) (sees.may_leave old) (sees.may_leave new))
+  pub left : AreLong log.end (sees.may_leave old)
+      → OnErr result (Follows (λ d c. IsLeft new_log.debt d log.end text c) (sees.may_leave old) (sees.may_leave new))
 
--- A commit goes from rest to rest. A crash at any moment leaves a log of the records from before, or of
--- those and the group's; one behind Ok of those and the group's, one behind an error what the debt says.
-pub record ReadsGroup {S : Type 0} (may_leave : S → Folder → Type 0) (moment : S → ℕ) (left_since : S → ℕ → Folder → Type 0)
+-- A commit goes from rest to rest. A crash at any moment leaves a log of the records from before,
+-- or of those and the group's; one behind Ok of those and the group's, one behind an error what the
+-- debt says.
+pub record ReadsGroup {S : Type 0} (sees : SeesFolder S)
     (text : List ℕ) (log new_log : LogFile) {T E : Type 0} (result : Result T E) (old new : S) : Type 0 where
-  pub rest : IsAtRest new_log.debt new_log.end text (may_leave new)
-  pub reading : LeavesOnly moment left_since old new (FromOneOf (may_leave old) (ReadsEither log.end text))
-  pub reads_group : OnOk result (Follows (ReadsWith log.end text) (may_leave old) (may_leave new))
-  pub reads_left : OnErr result (Follows (ReadsLeft new_log.debt log.end text) (may_leave old) (may_leave new))
+  pub rest : IsAtRest new_log.debt new_log.end text (sees.may_leave new)
+  pub reading : LeavesOnly sees old new (FromOneOf (sees.may_leave old) (ReadsEither log.end text))
+  pub reads_group : OnOk result (Follows (ReadsWith log.end text) (sees.may_leave old) (sees.may_leave new))
+  pub reads_left : OnErr result (Follows (ReadsLeft new_log.debt log.end text) (sees.may_leave old) (sees.may_leave new))
 
--- A heal goes from rest to rest. Where a debt is owed, a crash at any moment leaves the group behind
--- the gate, whatever the gate is. What is read of the log is its records or, where a debt is owed,
--- those and the group's; behind Ok its records.
-pub record ReadsHealed {S : Type 0} (may_leave : S → Folder → Type 0) (moment : S → ℕ) (left_since : S → ℕ → Folder → Type 0)
+-- A heal goes from rest to rest. Where a debt is owed, a crash at any moment leaves the group
+-- behind the gate, whatever the gate is. What is read of the log is its records or, where a debt is
+-- owed, those and the group's; behind Ok its records.
+pub record ReadsHealed {S : Type 0} (sees : SeesFolder S)
     (text : List ℕ) (log new_log : LogFile) {T E : Type 0} (result : Result T E) (old new : S) : Type 0 where
   pub since : log.debt ≡ debt.Gate
-      → LeavesOnly moment left_since old new (FromOneOf (may_leave old) (λ d c. IsStaged d log.end text c))
-  pub rest : IsAtRest new_log.debt new_log.end text (may_leave new)
+      → LeavesOnly sees old new (FromOneOf (sees.may_leave old) (λ d c. IsStaged d log.end text c))
+  pub rest : IsAtRest new_log.debt new_log.end text (sees.may_leave new)
   pub reading : log.end + length text ≤ longest_log
-      → LeavesOnly moment left_since old new (FromOneOf (may_leave old) (ReadsLeft log.debt log.end text))
+      → LeavesOnly sees old new (FromOneOf (sees.may_leave old) (ReadsLeft log.debt log.end text))
   pub reads_old : log.end + length text ≤ longest_log
-      → OnOk result (Follows (ReadsAs log.end) (may_leave old) (may_leave new))
+      → OnOk result (Follows (ReadsAs log.end) (sees.may_leave old) (sees.may_leave new))

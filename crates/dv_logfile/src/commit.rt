@@ -59,22 +59,24 @@ impl LogFile {
 
         // The files as reads give them: the text stands at the old end, or a failure left what
         // the debt says.
-        ensures bytes { S.tells →
-            WritesGroup text.now self.old self.new result (S.files shelf.old) (S.files shelf.new) }
+        ensures bytes { S.sees.tells →
+            WritesGroup text.now self.old self.new result (S.sees.files shelf.old)
+            (S.sees.files shelf.new) }
 
         // The bytes that a crash leaves, at any moment and afterwards.
-        ensures crash { S.tells → LeavesGroup S.files S.may_leave S.moment S.left_since
+        ensures crash { S.sees.tells → LeavesGroup S.sees
             text.now self.old self.new result shelf.old shelf.new }
 
         // What is read of the log that a crash leaves; from rest to rest.
-        ensures reading { S.tells →
-            IsAtRest Debt.None self.old.end text.now (S.may_leave shelf.old) →
-            ReadsGroup S.may_leave S.moment S.left_since
+        ensures reading { S.sees.tells →
+            IsAtRest Debt.None self.old.end text.now (S.sees.may_leave shelf.old) →
+            ReadsGroup S.sees
             text.now self.old self.new result shelf.old shelf.new }
 
         // No message file is read; a fault of the disk has its cause.
-        ensures mail_reads { S.mail_reads shelf.new ≡ S.mail_reads shelf.old }
-        ensures cause { HasDiskCause (S.fault_count shelf.old) (S.fault_count shelf.new) result }
+        ensures mail_reads { S.sees.mail_reads shelf.new ≡ S.sees.mail_reads shelf.old }
+        ensures cause { HasDiskCause (S.sees.fault_count shelf.old) (S.sees.fault_count shelf.new)
+            result }
     {
         let text = text.as_slice();
         let (_, behind) = text.split_at(1);
@@ -107,18 +109,19 @@ impl LogFile {
         ensures nothing { self.old.debt ≡ Debt.None → IsOk result × (shelf.new ≡ shelf.old) }
 
         // The files as reads give them.
-        ensures bytes { S.tells →
-            ShutsGate self.old result (S.files shelf.old) (S.files shelf.new) }
+        ensures bytes { S.sees.tells →
+            ShutsGate self.old result (S.sees.files shelf.old) (S.sees.files shelf.new) }
 
         // What a crash leaves, at any moment and afterwards; from rest to rest.
-        ensures reading { (text : List ℕ) → IsGroupText text → S.tells →
-            IsAtRest self.old.debt self.old.end text (S.may_leave shelf.old) →
-            ReadsHealed S.may_leave S.moment S.left_since
+        ensures reading { (text : List ℕ) → IsGroupText text → S.sees.tells →
+            IsAtRest self.old.debt self.old.end text (S.sees.may_leave shelf.old) →
+            ReadsHealed S.sees
             text self.old self.new result shelf.old shelf.new }
 
         // No message file is read; a fault of the disk has its cause.
-        ensures mail_reads { S.mail_reads shelf.new ≡ S.mail_reads shelf.old }
-        ensures cause { HasCause (S.fault_count shelf.old) (S.fault_count shelf.new) result }
+        ensures mail_reads { S.sees.mail_reads shelf.new ≡ S.sees.mail_reads shelf.old }
+        ensures cause { HasCause (S.sees.fault_count shelf.old) (S.sees.fault_count shelf.new)
+            result }
     {
         match self.debt {
             Debt::None => Ok(()),
@@ -135,10 +138,10 @@ impl LogFile {
 fn write_synced<S: Shelf>(shelf: &mut S, at: u32, bytes: &[u8]) -> Result<(), Failed>
     requires { at + length bytes.now < 2 ^ 32 }
 
-    ensures writes { S.tells → WritesSynced S.files S.may_leave S.moment S.left_since
+    ensures writes { S.sees.tells → WritesSynced S.sees
         at bytes.now result shelf.old shelf.new }
-    ensures mail_reads { S.mail_reads shelf.new ≡ S.mail_reads shelf.old }
-    ensures cause { HasCause (S.fault_count shelf.old) (S.fault_count shelf.new) result }
+    ensures mail_reads { S.sees.mail_reads shelf.new ≡ S.sees.mail_reads shelf.old }
+    ensures cause { HasCause (S.sees.fault_count shelf.old) (S.sees.fault_count shelf.new) result }
 {
     shelf.write_at(Name::Log, at, bytes)?;
     shelf.sync(Name::Log)

@@ -9,6 +9,7 @@ use Rattle.dv_openings.specs.TrueCaches.{look_of}
 use Rattle.dv_lookups.specs.declared.cache_file.CacheFile.{CacheFile}
 use Rattle.dv_lookups.specs.Kept.{CountsReads, CountsUpTo, Economy, is_read, row_of}
 use Rattle.dv_lookups.proofs.Rows.{found_in}
+use Rattle.dv_shelf.specs.Sees.{SeesFolder}
 
 pub none_read : (before now : ℕ) → now ≡ counted before 0 → CountsReads 0 before now
 none_read before now is = omega (arith, is)
@@ -26,10 +27,10 @@ pub one_upto : (before mid now : ℕ) → CountsReads 0 before mid → now ≡ c
 one_upto before mid now none is = (1, omega arith, one_read before mid now none is)
 
 -- the economy of a look at a row that the mailbox has
-pub economy_of : {S : Type 0} (mail_reads : S → ℕ) (m : Mailbox) (row : Row) (kept : Bool) (before now : CacheFile) (old new : S) → row_of m row.uid ≡ Some row
-    → CountsUpTo 1 (mail_reads old) (mail_reads new) → (is_read before ≡ true → now ≡ before) → (kept ≡ false → now ≡ before) → (look_of m row ≡ None → now ≡ before)
-    → Economy mail_reads m row.uid kept before now old new
-economy_of mail_reads m row kept before now old new is most again aside placed = record {
+pub economy_of : {S : Type 0} (sees : SeesFolder S) (m : Mailbox) (row : Row) (kept : Bool) (before now : CacheFile) (old new : S) → row_of m row.uid ≡ Some row
+    → CountsUpTo 1 (sees.mail_reads old) (sees.mail_reads new) → (is_read before ≡ true → now ≡ before) → (kept ≡ false → now ≡ before) → (look_of m row ≡ None → now ≡ before)
+    → Economy sees m row.uid kept before now old new
+economy_of sees m row kept before now old new is most again aside placed = record {
   most = most;
   gone = λ lacks.
       let has : has_uid m row.uid ≡ true = (found_in row.uid m.rows row is).some in

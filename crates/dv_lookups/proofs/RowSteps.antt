@@ -13,6 +13,7 @@ use Rattle.dv_lookups.specs.Founds.{mail_of}
 use Rattle.dv_lookups.specs.Kept.{Economy, IsFileOf, IsSpared, Spares, can_stand}
 use Rattle.dv_lookups.specs.Reads.{damaged_in, damaged_of, uids_of}
 use Rattle.dv_lookups.proofs.Stepping.{IsNear, SparesBy, reads_more}
+use Rattle.dv_shelf.specs.Sees.{SeesFolder}
 
 -- an error that a call passes on is its own
 pub passed_on : {T U E : Type 0} (r : Result T E) (s : Result U E) (x e y : E) → s ≡ Err x → r ≡ Err e → e ≡ x → r ≡ Err y → s ≡ Err y
@@ -50,16 +51,16 @@ damage_more folder other m uids i uid old new less is same before now =
     now ∙ ap (λ (f : Folder). old ++ damaged_in uid (mail_of f m uid)) same ∙ ap (λ (u : ℕ). old ++ each u) is
     ∙ ap (λ (t : List ℕ). t ++ each (get_or uids i 0)) before ∙ sym (flat_more each uids i 0 less)
 
-module _ {S : Type 0} (tells : Type 0) (files : S → Folder) (indexid : ℕ) (m : Mailbox) (asked : Asked) where
+module _ {S : Type 0} (sees : SeesFolder S) (indexid : ℕ) (m : Mailbox) (asked : Asked) where
   -- message files that are read behind one row more, by its UID
-  pub row_more : (mail_reads : S → ℕ) (uids : List ℕ) (i uid : ℕ) (start mid now : S) (file between after : CacheFile) → i < length uids → uid ≡ get_or uids i 0
-      → (tells → files mid ≡ files start)
-      → (tells → IsFileOf (files start) file → IsFileOf (files start) between)
-      → SparesBy (IsNear tells files indexid m asked start file) m (take i uids) (mail_reads start) (mail_reads mid)
-      → Economy mail_reads m uid (can_stand asked) between after mid now
-      → (tells → IsFileOf (files mid) between → can_stand asked ≡ true → IsSpared (files mid) indexid m uid → Spares mail_reads between mid now)
-      → SparesBy (IsNear tells files indexid m asked start file) m (take (i + 1) uids) (mail_reads start) (mail_reads now)
-  row_more mail_reads uids i uid start mid now file between after less is still kept so_far did spares =
-      reads_more tells files indexid m asked mail_reads uids i start mid now file between after less still kept so_far
-      (subst (λ (u : ℕ). Economy mail_reads m u (can_stand asked) between after mid now) is did)
-      (subst (λ (u : ℕ). tells → IsFileOf (files mid) between → can_stand asked ≡ true → IsSpared (files mid) indexid m u → Spares mail_reads between mid now) is spares)
+  pub row_more : (uids : List ℕ) (i uid : ℕ) (start mid now : S) (file between after : CacheFile) → i < length uids → uid ≡ get_or uids i 0
+      → (sees.tells → sees.files mid ≡ sees.files start)
+      → (sees.tells → IsFileOf (sees.files start) file → IsFileOf (sees.files start) between)
+      → SparesBy (IsNear sees indexid m asked start file) m (take i uids) (sees.mail_reads start) (sees.mail_reads mid)
+      → Economy sees m uid (can_stand asked) between after mid now
+      → (sees.tells → IsFileOf (sees.files mid) between → can_stand asked ≡ true → IsSpared (sees.files mid) indexid m uid → Spares sees between mid now)
+      → SparesBy (IsNear sees indexid m asked start file) m (take (i + 1) uids) (sees.mail_reads start) (sees.mail_reads now)
+  row_more uids i uid start mid now file between after less is still kept so_far did spares =
+      reads_more sees indexid m asked uids i start mid now file between after less still kept so_far
+      (subst (λ (u : ℕ). Economy sees m u (can_stand asked) between after mid now) is did)
+      (subst (λ (u : ℕ). sees.tells → IsFileOf (sees.files mid) between → can_stand asked ≡ true → IsSpared (sees.files mid) indexid m u → Spares sees between mid now) is spares)

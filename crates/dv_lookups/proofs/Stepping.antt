@@ -11,6 +11,7 @@ use Rattle.dv_lookups.specs.Commands.{ReadsBut, SparesEach}
 use Rattle.dv_lookups.specs.declared.cache_file.CacheFile.{CacheFile}
 use Rattle.dv_lookups.specs.Kept.{CountsReads, CountsUpTo, Economy, IsFileOf, IsSpared, Spares, can_stand}
 use Rattle.dv_lookups.proofs.Economies.{same_read}
+use Rattle.dv_shelf.specs.Sees.{SeesFolder}
 
 -- ---- reads
 
@@ -67,27 +68,27 @@ module _ (Spared : ℕ → Type 0) (m : Mailbox) (uids : List ℕ) (i before : �
   pub most_of : (now : ℕ) → SparesBy Spared m (take i uids) before now → CountsUpTo (count_by (has_uid m) uids) before now
   most_of now so_far = spares_wider now so_far (λ uid. false) (λ uid no. absurd (false≢true no))
 
-module _ {S : Type 0} (tells : Type 0) (files : S → Folder) (indexid : ℕ) (m : Mailbox) (asked : Asked) where
+module _ {S : Type 0} (sees : SeesFolder S) (indexid : ℕ) (m : Mailbox) (asked : Asked) where
   -- a row is found in the cache file, where all that is asked can stand there
   abbrev pub IsNear : S → CacheFile → ℕ → Type 0
-  IsNear shelf file uid = tells × IsFileOf (files shelf) file × (can_stand asked ≡ true) × IsSpared (files shelf) indexid m uid
+  IsNear shelf file uid = sees.tells × IsFileOf (sees.files shelf) file × (can_stand asked ≡ true) × IsSpared (sees.files shelf) indexid m uid
 
   pub spares_of : (uids : List ℕ) (i : ℕ) (start : S) (file : CacheFile) (before now : ℕ) → SparesBy (IsNear start file) m (take i uids) before now
-      → tells → IsFileOf (files start) file → can_stand asked ≡ true → SparesEach (files start) indexid m uids before now
+      → sees.tells → IsFileOf (sees.files start) file → can_stand asked ≡ true → SparesEach (sees.files start) indexid m uids before now
   spares_of uids i start file before now so_far told same stand spared are =
       spares_wider (IsNear start file) m uids i before now so_far spared (λ uid is. (told, same, stand, are uid is))
 
   -- message files that are read behind one look more
-  pub reads_more : (mail_reads : S → ℕ) (uids : List ℕ) (i : ℕ) (start mid now : S) (file between after : CacheFile) → i < length uids
-      → (tells → files mid ≡ files start)
-      → (tells → IsFileOf (files start) file → IsFileOf (files start) between)
-      → SparesBy (IsNear start file) m (take i uids) (mail_reads start) (mail_reads mid)
-      → Economy mail_reads m (get_or uids i 0) (can_stand asked) between after mid now
-      → (tells → IsFileOf (files mid) between → can_stand asked ≡ true → IsSpared (files mid) indexid m (get_or uids i 0) → Spares mail_reads between mid now)
-      → SparesBy (IsNear start file) m (take (i + 1) uids) (mail_reads start) (mail_reads now)
-  reads_more mail_reads uids i start mid now file between after less still kept so_far did spares =
-      spares_more (IsNear start file) m uids i (mail_reads start) (mail_reads mid) (mail_reads now) less so_far did.most
-      (λ lacks. same_read (mail_reads mid) (mail_reads now) (ap mail_reads (did.gone lacks)))
+  pub reads_more : (uids : List ℕ) (i : ℕ) (start mid now : S) (file between after : CacheFile) → i < length uids
+      → (sees.tells → sees.files mid ≡ sees.files start)
+      → (sees.tells → IsFileOf (sees.files start) file → IsFileOf (sees.files start) between)
+      → SparesBy (IsNear start file) m (take i uids) (sees.mail_reads start) (sees.mail_reads mid)
+      → Economy sees m (get_or uids i 0) (can_stand asked) between after mid now
+      → (sees.tells → IsFileOf (sees.files mid) between → can_stand asked ≡ true → IsSpared (sees.files mid) indexid m (get_or uids i 0) → Spares sees between mid now)
+      → SparesBy (IsNear start file) m (take (i + 1) uids) (sees.mail_reads start) (sees.mail_reads now)
+  reads_more uids i start mid now file between after less still kept so_far did spares =
+      spares_more (IsNear start file) m uids i (sees.mail_reads start) (sees.mail_reads mid) (sees.mail_reads now) less so_far did.most
+      (λ lacks. same_read (sees.mail_reads mid) (sees.mail_reads now) (ap sees.mail_reads (did.gone lacks)))
       (λ near.
       let same = sym (still near.0) in
       (spares near.0 (subst (λ (f : Folder). IsFileOf f between) same (kept near.0 near.1)) near.2 (subst (λ (f : Folder). IsSpared f indexid m (get_or uids i 0)) same near.3)).none)

@@ -1,5 +1,5 @@
 -- The cache file as far as it was read, what it holds, and how a look at one message calls the
--- shelf. Definitions take the members of a shelf's type.
+-- shelf. Definitions take what a shelf shows.
 use Rattle.std.specs.Prelude.{◌≡◌, ℕ, ◌≤◌, ◌&&◌, Bool, true, false, not, List, Option, Some, None, nat_eq, bytes_eq, find, ⊤}
 use Rattle.std.specs.List.{list_all, list_any}
 use Rattle.std.specs.Str.{str_to_ascii_lowercase}
@@ -14,6 +14,7 @@ use Rattle.dv_openings.specs.TrueCaches.{IsCached, kept_names, look_of}
 use Rattle.dv_responses.specs.declared.asking.Asked.{Asked}
 use Rattle.dv_lookups.specs.declared.cache_file.CacheFile.{CacheFile}
 use Rattle.dv_lookups.specs.declared.cache_file.CacheFile.TheVariants as cache
+use Rattle.dv_shelf.specs.Sees.{SeesFolder}
 
 -- ---- the file
 
@@ -75,15 +76,15 @@ abbrev pub CountsUpTo : ℕ → ℕ → ℕ → Type 0
 CountsUpTo most before now = (n : ℕ) × (n ≤ most) × CountsReads n before now
 
 -- none is read; with the cache file at hand the shelf isn't called
-pub record Spares {S : Type 0} (mail_reads : S → ℕ) (file : CacheFile) (old new : S) : Type 0 where
-  pub none : CountsReads 0 (mail_reads old) (mail_reads new)
+pub record Spares {S : Type 0} (sees : SeesFolder S) (file : CacheFile) (old new : S) : Type 0 where
+  pub none : CountsReads 0 (sees.mail_reads old) (sees.mail_reads new)
   pub still : is_read file ≡ true → new ≡ old
 
 -- At most one is read; the shelf isn't called where the mailbox lacks the UID. The cache file is
 -- read for what can stand in it only, where the mailbox's row has a place there.
-pub record Economy {S : Type 0} (mail_reads : S → ℕ) (m : Mailbox) (uid : ℕ) (kept : Bool)
+pub record Economy {S : Type 0} (sees : SeesFolder S) (m : Mailbox) (uid : ℕ) (kept : Bool)
     (before now : CacheFile) (old new : S) : Type 0 where
-  pub most : CountsUpTo 1 (mail_reads old) (mail_reads new)
+  pub most : CountsUpTo 1 (sees.mail_reads old) (sees.mail_reads new)
   pub gone : has_uid m uid ≡ false → new ≡ old
   pub again : is_read before ≡ true → now ≡ before
   pub aside : kept ≡ false → now ≡ before

@@ -38,15 +38,15 @@ impl CacheFile {
     fn load<S: Shelf>(&mut self, alloc: Global, shelf: &mut S) -> Result<(), ShelfFault>
         // It is at hand, and nothing is changed.
         ensures read { OnOk result (is_read self.new ≡ true) }
-        ensures file { S.tells → IsFileOf (S.files shelf.old) self.old →
-            IsFileOf (S.files shelf.old) self.new }
+        ensures file { S.sees.tells → IsFileOf (S.sees.files shelf.old) self.old →
+            IsFileOf (S.sees.files shelf.old) self.new }
         ensures again { is_read self.old ≡ true → self.new ≡ self.old }
-        ensures looks { S.tells →
-            OnlyLooks S.files S.may_leave S.moment S.left_since shelf.old shelf.new }
+        ensures looks { S.sees.tells →
+            OnlyLooks S.sees shelf.old shelf.new }
         // No message file is read; a fault of the disk has its cause.
-        ensures spares { Spares S.mail_reads self.old shelf.old shelf.new }
+        ensures spares { Spares S.sees self.old shelf.old shelf.new }
         ensures cause { HasCauseOf ShelfFault.Failed
-            (S.fault_count shelf.old) (S.fault_count shelf.new) result }
+            (S.sees.fault_count shelf.old) (S.sees.fault_count shelf.new) result }
     {
         if let CacheFile::Unread = self {
             *self = CacheFile::Read(shelf.read(alloc, Name::Cache)?);
@@ -91,22 +91,23 @@ impl CacheFile {
         may_look: bool,
     ) -> Result<Option<Known>, ShelfFault>
         // What stands in the file, where it may be looked at.
-        ensures found { S.tells → IsFileOf (S.files shelf.old) self.old → may_look ≡ true →
-            IfOk result (IsLookedUp (S.files shelf.old) chain.now.indexid
+        ensures found { S.sees.tells → IsFileOf (S.sees.files shelf.old) self.old →
+            may_look ≡ true →
+            IfOk result (IsLookedUp (S.sees.files shelf.old) chain.now.indexid
             chain.now.live.mailbox row.now) }
         ensures none { may_look ≡ false → IfOk result (λ known. known ≡ None) }
         // The file is as it was read, and it isn't read without need.
-        ensures file { S.tells → IsFileOf (S.files shelf.old) self.old →
-            IsFileOf (S.files shelf.old) self.new }
+        ensures file { S.sees.tells → IsFileOf (S.sees.files shelf.old) self.old →
+            IsFileOf (S.sees.files shelf.old) self.new }
         ensures again { is_read self.old ≡ true → self.new ≡ self.old }
         ensures aside { may_look ≡ false → self.new ≡ self.old }
         ensures placed { look_of chain.now.live.mailbox row.now ≡ None → self.new ≡ self.old }
         // Nothing is changed, no message file is read, and a fault of the disk has its cause.
-        ensures looks { S.tells →
-            OnlyLooks S.files S.may_leave S.moment S.left_since shelf.old shelf.new }
-        ensures spares { Spares S.mail_reads self.old shelf.old shelf.new }
+        ensures looks { S.sees.tells →
+            OnlyLooks S.sees shelf.old shelf.new }
+        ensures spares { Spares S.sees self.old shelf.old shelf.new }
         ensures cause { HasCauseOf ShelfFault.Failed
-            (S.fault_count shelf.old) (S.fault_count shelf.new) result }
+            (S.sees.fault_count shelf.old) (S.sees.fault_count shelf.new) result }
     {
         if !may_look {
             return Ok(None);

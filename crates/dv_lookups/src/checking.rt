@@ -59,14 +59,15 @@ fn held(alloc: Global, message: &[u8]) -> Result<Option<Known>, NoMemory>
 
 // The row of a message, by its file.
 fn cache_row<S: Shelf>(alloc: Global, shelf: &mut S, uid: u32) -> Result<CacheRow, ShelfFault>
-    ensures row { S.tells → IfOk result (λ row. row ≡ held_row (mail_at (S.files shelf.old)) uid) }
+    ensures row { S.sees.tells →
+        IfOk result (λ row. row ≡ held_row (mail_at (S.sees.files shelf.old)) uid) }
     ensures five { IfOk result (λ row. HasFive row.known) }
     // Nothing is changed; one message file is read; a fault of the disk has its cause.
-    ensures looks { S.tells →
-        OnlyLooks S.files S.may_leave S.moment S.left_since shelf.old shelf.new }
-    ensures mail_reads { S.mail_reads shelf.new ≡ counted (S.mail_reads shelf.old) 1 }
+    ensures looks { S.sees.tells →
+        OnlyLooks S.sees shelf.old shelf.new }
+    ensures mail_reads { S.sees.mail_reads shelf.new ≡ counted (S.sees.mail_reads shelf.old) 1 }
     ensures cause { HasCauseOf ShelfFault.Failed
-        (S.fault_count shelf.old) (S.fault_count shelf.new) result }
+        (S.sees.fault_count shelf.old) (S.sees.fault_count shelf.new) result }
 {
     let known = match read_mail(alloc, shelf, uid)? {
         MailFile::Held(message) => in_memory(held(alloc, message.bytes.as_slice()))?,
@@ -78,17 +79,17 @@ fn cache_row<S: Shelf>(alloc: Global, shelf: &mut S, uid: u32) -> Result<CacheRo
 // The text of a cache file to which the rows of the mailbox were added, one by one.
 fn rows_added<S: Shelf>(alloc: Global, shelf: &mut S, live: &Live) -> Result<CacheText, ShelfFault>
     requires few { length live.now.mailbox.rows ≤ 8388608 }
-    ensures rows { S.tells → IfOk result (λ text.
-        text ≡ held_text (mail_at (S.files shelf.old)) (length live.now.mailbox.rows)
+    ensures rows { S.sees.tells → IfOk result (λ text.
+        text ≡ held_text (mail_at (S.sees.files shelf.old)) (length live.now.mailbox.rows)
         live.now.mailbox.rows) }
     // Nothing is changed.
-    ensures looks { S.tells →
-        OnlyLooks S.files S.may_leave S.moment S.left_since shelf.old shelf.new }
+    ensures looks { S.sees.tells →
+        OnlyLooks S.sees shelf.old shelf.new }
     // Each message file is read once; a fault of the disk has its cause.
     ensures mail_reads { ReadsMails (length live.now.mailbox.rows)
-        (S.mail_reads shelf.old) (S.mail_reads shelf.new) result }
+        (S.sees.mail_reads shelf.old) (S.sees.mail_reads shelf.new) result }
     ensures cause { HasCauseOf ShelfFault.Failed
-        (S.fault_count shelf.old) (S.fault_count shelf.new) result }
+        (S.sees.fault_count shelf.old) (S.sees.fault_count shelf.new) result }
 {
     let mut text = CacheText::begin(alloc, live.count());
     for k in 0..live.count() {
@@ -121,17 +122,17 @@ pub fn cache_of_messages<S: Shelf>(
 ) -> Result<Bytes, ShelfFault>
     requires few { length chain.now.live.mailbox.rows ≤ 8388608 }
     // The text is that of the messages in their files.
-    ensures text { S.tells → (mail : ℕ → Mail) →
-        AreMessages (S.files shelf.old) chain.now.live.mailbox mail →
+    ensures text { S.sees.tells → (mail : ℕ → Mail) →
+        AreMessages (S.sees.files shelf.old) chain.now.live.mailbox mail →
         IfOk result (IsCacheText chain.now.indexid seq mail chain.now.live.mailbox) }
     // Nothing is changed.
-    ensures looks { S.tells →
-        OnlyLooks S.files S.may_leave S.moment S.left_since shelf.old shelf.new }
+    ensures looks { S.sees.tells →
+        OnlyLooks S.sees shelf.old shelf.new }
     // Each message file is read once; a fault of the disk has its cause.
     ensures mail_reads { ReadsMails (length chain.now.live.mailbox.rows)
-        (S.mail_reads shelf.old) (S.mail_reads shelf.new) result }
+        (S.sees.mail_reads shelf.old) (S.sees.mail_reads shelf.new) result }
     ensures cause { HasCauseOf ShelfFault.Failed
-        (S.fault_count shelf.old) (S.fault_count shelf.new) result }
+        (S.sees.fault_count shelf.old) (S.sees.fault_count shelf.new) result }
 {
     // The mailbox is valid.
     let _next_uid = chain.live.next_uid();

@@ -52,25 +52,25 @@ impl CacheFile {
         uid: u32,
     ) -> Result<FactsFound, ShelfFault>
         // The facts are those of the message file, where the cache file is true.
-        ensures found { S.tells → IsFileOf (S.files shelf.old) self.old →
-            HasTrueCache (S.files shelf.old) chain.now.indexid chain.now.live.mailbox →
+        ensures found { S.sees.tells → IsFileOf (S.sees.files shelf.old) self.old →
+            HasTrueCache (S.sees.files shelf.old) chain.now.indexid chain.now.live.mailbox →
             IfOk result (λ found. found ≡ facts_found asked.now uid
-            (mail_of (S.files shelf.old) chain.now.live.mailbox uid)) }
+            (mail_of (S.sees.files shelf.old) chain.now.live.mailbox uid)) }
         ensures named { IfOk result (IsNamed uid) }
-        ensures file { S.tells → IsFileOf (S.files shelf.old) self.old →
-            IsFileOf (S.files shelf.old) self.new }
+        ensures file { S.sees.tells → IsFileOf (S.sees.files shelf.old) self.old →
+            IsFileOf (S.sees.files shelf.old) self.new }
         // Nothing is changed.
-        ensures looks { S.tells →
-            OnlyLooks S.files S.may_leave S.moment S.left_since shelf.old shelf.new }
+        ensures looks { S.sees.tells →
+            OnlyLooks S.sees shelf.old shelf.new }
         // The shelf is called no more than is due; a fault of the disk has its cause.
-        ensures economy { Economy S.mail_reads chain.now.live.mailbox uid (can_stand asked.now)
+        ensures economy { Economy S.sees chain.now.live.mailbox uid (can_stand asked.now)
             self.old self.new shelf.old shelf.new }
-        ensures spares { S.tells → IsFileOf (S.files shelf.old) self.old →
+        ensures spares { S.sees.tells → IsFileOf (S.sees.files shelf.old) self.old →
             can_stand asked.now ≡ true →
-            IsSpared (S.files shelf.old) chain.now.indexid chain.now.live.mailbox uid →
-            Spares S.mail_reads self.old shelf.old shelf.new }
+            IsSpared (S.sees.files shelf.old) chain.now.indexid chain.now.live.mailbox uid →
+            Spares S.sees self.old shelf.old shelf.new }
         ensures cause { HasCauseOf ShelfFault.Failed
-            (S.fault_count shelf.old) (S.fault_count shelf.new) result }
+            (S.sees.fault_count shelf.old) (S.sees.fault_count shelf.new) result }
     {
         let source = self.source(alloc, shelf, chain, uid, can_stand(asked))?;
         in_memory(facts_in(alloc, asked, uid, source))

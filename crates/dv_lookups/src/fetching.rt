@@ -90,29 +90,29 @@ impl CacheFile {
         lines: &mut R,
     ) -> Result<(), ShelfFault>
         requires asks { asked.now ≡ fetch_asks items.now }
-        ensures line { S.tells → IsFileOf (S.files shelf.old) self.old →
-            HasTrueCache (S.files shelf.old) chain.now.indexid chain.now.live.mailbox →
+        ensures line { S.sees.tells → IsFileOf (S.sees.files shelf.old) self.old →
+            HasTrueCache (S.sees.files shelf.old) chain.now.indexid chain.now.live.mailbox →
             OnOk result (lines.new ≡ R.with lines.old
             (line_of chain.now.live.mailbox items.now (number, s.now)
-            (mail_of (S.files shelf.old) chain.now.live.mailbox s.now.uid))) }
-        ensures damaged { S.tells → IsFileOf (S.files shelf.old) self.old →
-            HasTrueCache (S.files shelf.old) chain.now.indexid chain.now.live.mailbox →
+            (mail_of (S.sees.files shelf.old) chain.now.live.mailbox s.now.uid))) }
+        ensures damaged { S.sees.tells → IsFileOf (S.sees.files shelf.old) self.old →
+            HasTrueCache (S.sees.files shelf.old) chain.now.indexid chain.now.live.mailbox →
             OnOk result (damaged.new ≡ damaged.old ++ damaged_in s.now.uid
-            (mail_of (S.files shelf.old) chain.now.live.mailbox s.now.uid)) }
+            (mail_of (S.sees.files shelf.old) chain.now.live.mailbox s.now.uid)) }
         ensures failed { result ≡ Err ShelfFault.Failed → lines.new ≡ lines.old }
-        ensures file { S.tells → IsFileOf (S.files shelf.old) self.old →
-            IsFileOf (S.files shelf.old) self.new }
+        ensures file { S.sees.tells → IsFileOf (S.sees.files shelf.old) self.old →
+            IsFileOf (S.sees.files shelf.old) self.new }
         // Nothing is changed, and the shelf is called no more than is due.
-        ensures looks { S.tells →
-            OnlyLooks S.files S.may_leave S.moment S.left_since shelf.old shelf.new }
-        ensures economy { Economy S.mail_reads chain.now.live.mailbox s.now.uid
+        ensures looks { S.sees.tells →
+            OnlyLooks S.sees shelf.old shelf.new }
+        ensures economy { Economy S.sees chain.now.live.mailbox s.now.uid
             (can_stand asked.now) self.old self.new shelf.old shelf.new }
-        ensures spares { S.tells → IsFileOf (S.files shelf.old) self.old →
+        ensures spares { S.sees.tells → IsFileOf (S.sees.files shelf.old) self.old →
             can_stand asked.now ≡ true →
-            IsSpared (S.files shelf.old) chain.now.indexid chain.now.live.mailbox s.now.uid →
-            Spares S.mail_reads self.old shelf.old shelf.new }
+            IsSpared (S.sees.files shelf.old) chain.now.indexid chain.now.live.mailbox s.now.uid →
+            Spares S.sees self.old shelf.old shelf.new }
         ensures cause { HasCauseOf ShelfFault.Failed
-            (S.fault_count shelf.old) (S.fault_count shelf.new) result }
+            (S.sees.fault_count shelf.old) (S.sees.fault_count shelf.new) result }
     {
         let found = self.facts(alloc, shelf, chain, asked, s.uid)?;
         in_memory(take_row(alloc, &chain.live, items, number, s, found, damaged, lines))
@@ -133,33 +133,33 @@ impl CacheFile {
     ) -> Result<List<u32>, ShelfFault>
         requires numbers { All (IsNumber rows.now) numbers.now }
         requires asks { asked.now ≡ fetch_asks items.now }
-        ensures found { S.tells → IsFileOf (S.files shelf.old) self.old →
-            HasTrueCache (S.files shelf.old) chain.now.indexid chain.now.live.mailbox →
-            OnOk result (lines.new ≡ R.with lines.old (lines_of (S.files shelf.old)
+        ensures found { S.sees.tells → IsFileOf (S.sees.files shelf.old) self.old →
+            HasTrueCache (S.sees.files shelf.old) chain.now.indexid chain.now.live.mailbox →
+            OnOk result (lines.new ≡ R.with lines.old (lines_of (S.sees.files shelf.old)
             chain.now.live.mailbox items.now (rows_at rows.now numbers.now))) ×
-            IfOk result (λ damaged. damaged ≡ damaged_of (S.files shelf.old)
+            IfOk result (λ damaged. damaged ≡ damaged_of (S.sees.files shelf.old)
             chain.now.live.mailbox (uids_of (rows_at rows.now numbers.now))) }
-        ensures failed { S.tells → IsFileOf (S.files shelf.old) self.old →
-            HasTrueCache (S.files shelf.old) chain.now.indexid chain.now.live.mailbox →
+        ensures failed { S.sees.tells → IsFileOf (S.sees.files shelf.old) self.old →
+            HasTrueCache (S.sees.files shelf.old) chain.now.indexid chain.now.live.mailbox →
             result ≡ Err ShelfFault.Failed →
             (told : Listed Reply) × (lines.new ≡ R.with lines.old told) }
-        ensures file { S.tells → IsFileOf (S.files shelf.old) self.old →
-            IsFileOf (S.files shelf.old) self.new }
+        ensures file { S.sees.tells → IsFileOf (S.sees.files shelf.old) self.old →
+            IsFileOf (S.sees.files shelf.old) self.new }
         ensures again { is_read self.old ≡ true → self.new ≡ self.old }
         ensures aside { can_stand asked.now ≡ false → self.new ≡ self.old }
         // Nothing is changed, and message files are read no more than is due.
-        ensures looks { S.tells →
-            OnlyLooks S.files S.may_leave S.moment S.left_since shelf.old shelf.new }
+        ensures looks { S.sees.tells →
+            OnlyLooks S.sees shelf.old shelf.new }
         ensures most { CountsUpTo (count_by (has_uid chain.now.live.mailbox)
             (uids_of (rows_at rows.now numbers.now)))
-            (S.mail_reads shelf.old) (S.mail_reads shelf.new) }
-        ensures spares { S.tells → IsFileOf (S.files shelf.old) self.old →
+            (S.sees.mail_reads shelf.old) (S.sees.mail_reads shelf.new) }
+        ensures spares { S.sees.tells → IsFileOf (S.sees.files shelf.old) self.old →
             can_stand asked.now ≡ true →
-            SparesEach (S.files shelf.old) chain.now.indexid chain.now.live.mailbox
+            SparesEach (S.sees.files shelf.old) chain.now.indexid chain.now.live.mailbox
             (uids_of (rows_at rows.now numbers.now))
-            (S.mail_reads shelf.old) (S.mail_reads shelf.new) }
+            (S.sees.mail_reads shelf.old) (S.sees.mail_reads shelf.new) }
         ensures cause { HasCauseOf ShelfFault.Failed
-            (S.fault_count shelf.old) (S.fault_count shelf.new) result }
+            (S.sees.fault_count shelf.old) (S.sees.fault_count shelf.new) result }
     {
         let mut damaged = List::new(alloc);
         for number in numbers {
@@ -194,35 +194,35 @@ impl CacheFile {
     ) -> Result<List<u32>, ShelfFault>
         requires asks { asked.now ≡ fetch_asks items.now }
         requires reads { reads_mail (command.Fetch by_uid set.now items.now) ≡ true }
-        ensures found { S.tells → IsFileOf (S.files shelf.old) self.old →
-            HasTrueCache (S.files shelf.old) chain.now.indexid chain.now.live.mailbox →
+        ensures found { S.sees.tells → IsFileOf (S.sees.files shelf.old) self.old →
+            HasTrueCache (S.sees.files shelf.old) chain.now.indexid chain.now.live.mailbox →
             (mail : ℕ → Message) →
-            AreMessages (S.files shelf.old) chain.now.live.mailbox mail →
+            AreMessages (S.sees.files shelf.old) chain.now.live.mailbox mail →
             OnOk result (lines.new ≡ R.with lines.old (data_of mail
             (command.Fetch by_uid set.now items.now) view.now chain.now.live.mailbox)) ×
             IfOk result (λ damaged. damaged ≡ damaged_uids mail
             (command.Fetch by_uid set.now items.now) view.now chain.now.live.mailbox) }
-        ensures failed { S.tells → IsFileOf (S.files shelf.old) self.old →
-            HasTrueCache (S.files shelf.old) chain.now.indexid chain.now.live.mailbox →
+        ensures failed { S.sees.tells → IsFileOf (S.sees.files shelf.old) self.old →
+            HasTrueCache (S.sees.files shelf.old) chain.now.indexid chain.now.live.mailbox →
             result ≡ Err ShelfFault.Failed →
             (told : Listed Reply) × (lines.new ≡ R.with lines.old told) }
-        ensures file { S.tells → IsFileOf (S.files shelf.old) self.old →
-            IsFileOf (S.files shelf.old) self.new }
+        ensures file { S.sees.tells → IsFileOf (S.sees.files shelf.old) self.old →
+            IsFileOf (S.sees.files shelf.old) self.new }
         ensures again { is_read self.old ≡ true → self.new ≡ self.old }
         ensures aside { can_stand asked.now ≡ false → self.new ≡ self.old }
         // Nothing is changed, and message files are read no more than is due.
-        ensures looks { S.tells →
-            OnlyLooks S.files S.may_leave S.moment S.left_since shelf.old shelf.new }
+        ensures looks { S.sees.tells →
+            OnlyLooks S.sees shelf.old shelf.new }
         ensures most { CountsUpTo (count_by (has_uid chain.now.live.mailbox)
             (uids_read (command.Fetch by_uid set.now items.now) view.now))
-            (S.mail_reads shelf.old) (S.mail_reads shelf.new) }
-        ensures spares { S.tells → IsFileOf (S.files shelf.old) self.old →
+            (S.sees.mail_reads shelf.old) (S.sees.mail_reads shelf.new) }
+        ensures spares { S.sees.tells → IsFileOf (S.sees.files shelf.old) self.old →
             can_stand asked.now ≡ true →
-            SparesEach (S.files shelf.old) chain.now.indexid chain.now.live.mailbox
+            SparesEach (S.sees.files shelf.old) chain.now.indexid chain.now.live.mailbox
             (uids_read (command.Fetch by_uid set.now items.now) view.now)
-            (S.mail_reads shelf.old) (S.mail_reads shelf.new) }
+            (S.sees.mail_reads shelf.old) (S.sees.mail_reads shelf.new) }
         ensures cause { HasCauseOf ShelfFault.Failed
-            (S.fault_count shelf.old) (S.fault_count shelf.new) result }
+            (S.sees.fault_count shelf.old) (S.sees.fault_count shelf.new) result }
     {
         let numbers = in_memory(named(alloc, by_uid, set, view))?;
         in_memory(make_room(items, numbers.len(), lines))?;

@@ -41,37 +41,39 @@ impl CacheFile {
         requires reads { reads_mail c.now ≡ true }
         // The lines and the damaged UIDs are those of the messages in their files, where the cache
         // file is true.
-        ensures found { S.tells → IsFileOf (S.files shelf.old) self.old →
-            HasTrueCache (S.files shelf.old) chain.now.indexid chain.now.live.mailbox →
+        ensures found { S.sees.tells → IsFileOf (S.sees.files shelf.old) self.old →
+            HasTrueCache (S.sees.files shelf.old) chain.now.indexid chain.now.live.mailbox →
             (mail : ℕ → Message) →
-            AreMessages (S.files shelf.old) chain.now.live.mailbox mail →
+            AreMessages (S.sees.files shelf.old) chain.now.live.mailbox mail →
             OnOk result (lines.new ≡ R.with lines.old
             (data_of mail c.now view.now chain.now.live.mailbox)) ×
             IfOk result (λ damaged. damaged
             ≡ damaged_uids mail c.now view.now chain.now.live.mailbox) }
         // What was taken before the disk failed is some replies more.
-        ensures failed { S.tells → IsFileOf (S.files shelf.old) self.old →
-            HasTrueCache (S.files shelf.old) chain.now.indexid chain.now.live.mailbox →
+        ensures failed { S.sees.tells → IsFileOf (S.sees.files shelf.old) self.old →
+            HasTrueCache (S.sees.files shelf.old) chain.now.indexid chain.now.live.mailbox →
             result ≡ Err ShelfFault.Failed →
             (told : Listed Reply) × (lines.new ≡ R.with lines.old told) }
         // The cache file is as it was read, and isn't read again, or without need.
-        ensures file { S.tells → IsFileOf (S.files shelf.old) self.old →
-            IsFileOf (S.files shelf.old) self.new }
+        ensures file { S.sees.tells → IsFileOf (S.sees.files shelf.old) self.old →
+            IsFileOf (S.sees.files shelf.old) self.new }
         ensures again { is_read self.old ≡ true → self.new ≡ self.old }
         ensures aside { CannotStand c.now → self.new ≡ self.old }
         // Nothing is changed.
-        ensures looks { S.tells →
-            OnlyLooks S.files S.may_leave S.moment S.left_since shelf.old shelf.new }
+        ensures looks { S.sees.tells →
+            OnlyLooks S.sees shelf.old shelf.new }
         // A message file is read at most for each row that the mailbox has, and none for one that
         // is found in the cache file.
         ensures most { CountsUpTo (count_by (has_uid chain.now.live.mailbox)
-            (uids_read c.now view.now)) (S.mail_reads shelf.old) (S.mail_reads shelf.new) }
-        ensures spares { S.tells → IsFileOf (S.files shelf.old) self.old → CanStand c.now →
-            SparesEach (S.files shelf.old) chain.now.indexid chain.now.live.mailbox
-            (uids_read c.now view.now) (S.mail_reads shelf.old) (S.mail_reads shelf.new) }
+            (uids_read c.now view.now)) (S.sees.mail_reads shelf.old)
+            (S.sees.mail_reads shelf.new) }
+        ensures spares { S.sees.tells → IsFileOf (S.sees.files shelf.old) self.old →
+            CanStand c.now →
+            SparesEach (S.sees.files shelf.old) chain.now.indexid chain.now.live.mailbox
+            (uids_read c.now view.now) (S.sees.mail_reads shelf.old) (S.sees.mail_reads shelf.new) }
         // A fault of the disk has its cause.
         ensures cause { HasCauseOf ShelfFault.Failed
-            (S.fault_count shelf.old) (S.fault_count shelf.new) result }
+            (S.sees.fault_count shelf.old) (S.sees.fault_count shelf.new) result }
     {
         let asked = in_memory(asked_by(alloc, c))?;
         match c {

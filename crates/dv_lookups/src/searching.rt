@@ -142,30 +142,30 @@ impl CacheFile {
         s: &Shown,
         picked: &mut Picked,
     ) -> Result<(), ShelfFault>
-        ensures numbers { S.tells → IsFileOf (S.files shelf.old) self.old →
-            HasTrueCache (S.files shelf.old) chain.now.indexid chain.now.live.mailbox →
+        ensures numbers { S.sees.tells → IsFileOf (S.sees.files shelf.old) self.old →
+            HasTrueCache (S.sees.files shelf.old) chain.now.indexid chain.now.live.mailbox →
             (k : Searched) (view : Seen) → IsSought k view sought.now → SearchAsks k asked.now →
             OnOk result (picked.new.numbers ≡ picked.old.numbers ++ cond
             (is_found k (candidate view chain.now.live.mailbox s.now)
-            (held_in (mail_of (S.files shelf.old) chain.now.live.mailbox s.now.uid)))
+            (held_in (mail_of (S.sees.files shelf.old) chain.now.live.mailbox s.now.uid)))
             (number_of by_uid (number, s.now) ∷ []) []) }
-        ensures damaged { S.tells → IsFileOf (S.files shelf.old) self.old →
-            HasTrueCache (S.files shelf.old) chain.now.indexid chain.now.live.mailbox →
+        ensures damaged { S.sees.tells → IsFileOf (S.sees.files shelf.old) self.old →
+            HasTrueCache (S.sees.files shelf.old) chain.now.indexid chain.now.live.mailbox →
             OnOk result (picked.new.damaged ≡ picked.old.damaged ++ damaged_in s.now.uid
-            (mail_of (S.files shelf.old) chain.now.live.mailbox s.now.uid)) }
-        ensures file { S.tells → IsFileOf (S.files shelf.old) self.old →
-            IsFileOf (S.files shelf.old) self.new }
+            (mail_of (S.sees.files shelf.old) chain.now.live.mailbox s.now.uid)) }
+        ensures file { S.sees.tells → IsFileOf (S.sees.files shelf.old) self.old →
+            IsFileOf (S.sees.files shelf.old) self.new }
         // Nothing is changed, and the shelf is called no more than is due.
-        ensures looks { S.tells →
-            OnlyLooks S.files S.may_leave S.moment S.left_since shelf.old shelf.new }
-        ensures economy { Economy S.mail_reads chain.now.live.mailbox s.now.uid
+        ensures looks { S.sees.tells →
+            OnlyLooks S.sees shelf.old shelf.new }
+        ensures economy { Economy S.sees chain.now.live.mailbox s.now.uid
             (can_stand asked.now) self.old self.new shelf.old shelf.new }
-        ensures spares { S.tells → IsFileOf (S.files shelf.old) self.old →
+        ensures spares { S.sees.tells → IsFileOf (S.sees.files shelf.old) self.old →
             can_stand asked.now ≡ true →
-            IsSpared (S.files shelf.old) chain.now.indexid chain.now.live.mailbox s.now.uid →
-            Spares S.mail_reads self.old shelf.old shelf.new }
+            IsSpared (S.sees.files shelf.old) chain.now.indexid chain.now.live.mailbox s.now.uid →
+            Spares S.sees self.old shelf.old shelf.new }
         ensures cause { HasCauseOf ShelfFault.Failed
-            (S.fault_count shelf.old) (S.fault_count shelf.new) result }
+            (S.sees.fault_count shelf.old) (S.sees.fault_count shelf.new) result }
     {
         let found = self.facts(alloc, shelf, chain, asked, s.uid)?;
         in_memory(pick(
@@ -191,30 +191,32 @@ impl CacheFile {
         by_uid: bool,
         view: &View,
     ) -> Result<Picked, ShelfFault>
-        ensures numbers { S.tells → IsFileOf (S.files shelf.old) self.old →
-            HasTrueCache (S.files shelf.old) chain.now.indexid chain.now.live.mailbox →
+        ensures numbers { S.sees.tells → IsFileOf (S.sees.files shelf.old) self.old →
+            HasTrueCache (S.sees.files shelf.old) chain.now.indexid chain.now.live.mailbox →
             (k : Searched) → IsSought k view.now sought.now → SearchAsks k asked.now →
-            IfOk result (λ picked. picked.numbers ≡ numbers_found (S.files shelf.old)
+            IfOk result (λ picked. picked.numbers ≡ numbers_found (S.sees.files shelf.old)
             chain.now.live.mailbox k view.now by_uid (numbered view.now)) }
-        ensures damaged { S.tells → IsFileOf (S.files shelf.old) self.old →
-            HasTrueCache (S.files shelf.old) chain.now.indexid chain.now.live.mailbox →
-            IfOk result (λ picked. picked.damaged ≡ damaged_of (S.files shelf.old)
+        ensures damaged { S.sees.tells → IsFileOf (S.sees.files shelf.old) self.old →
+            HasTrueCache (S.sees.files shelf.old) chain.now.indexid chain.now.live.mailbox →
+            IfOk result (λ picked. picked.damaged ≡ damaged_of (S.sees.files shelf.old)
             chain.now.live.mailbox (uids_of (numbered view.now))) }
-        ensures file { S.tells → IsFileOf (S.files shelf.old) self.old →
-            IsFileOf (S.files shelf.old) self.new }
+        ensures file { S.sees.tells → IsFileOf (S.sees.files shelf.old) self.old →
+            IsFileOf (S.sees.files shelf.old) self.new }
         ensures again { is_read self.old ≡ true → self.new ≡ self.old }
         ensures aside { can_stand asked.now ≡ false → self.new ≡ self.old }
         // Nothing is changed, and message files are read no more than is due.
-        ensures looks { S.tells →
-            OnlyLooks S.files S.may_leave S.moment S.left_since shelf.old shelf.new }
+        ensures looks { S.sees.tells →
+            OnlyLooks S.sees shelf.old shelf.new }
         ensures most { CountsUpTo (count_by (has_uid chain.now.live.mailbox)
-            (uids_of (numbered view.now))) (S.mail_reads shelf.old) (S.mail_reads shelf.new) }
-        ensures spares { S.tells → IsFileOf (S.files shelf.old) self.old →
+            (uids_of (numbered view.now))) (S.sees.mail_reads shelf.old)
+            (S.sees.mail_reads shelf.new) }
+        ensures spares { S.sees.tells → IsFileOf (S.sees.files shelf.old) self.old →
             can_stand asked.now ≡ true →
-            SparesEach (S.files shelf.old) chain.now.indexid chain.now.live.mailbox
-            (uids_of (numbered view.now)) (S.mail_reads shelf.old) (S.mail_reads shelf.new) }
+            SparesEach (S.sees.files shelf.old) chain.now.indexid chain.now.live.mailbox
+            (uids_of (numbered view.now)) (S.sees.mail_reads shelf.old)
+            (S.sees.mail_reads shelf.new) }
         ensures cause { HasCauseOf ShelfFault.Failed
-            (S.fault_count shelf.old) (S.fault_count shelf.new) result }
+            (S.sees.fault_count shelf.old) (S.sees.fault_count shelf.new) result }
     {
         let mut picked = Picked {
             numbers: List::new(alloc),
@@ -253,33 +255,33 @@ impl CacheFile {
         requires shallow { levels_of key.now ≤ most_levels }
         requires asks { SearchAsks key.now asked.now }
         requires reads { reads_mail (command.Search by_uid key.now) ≡ true }
-        ensures found { S.tells → IsFileOf (S.files shelf.old) self.old →
-            HasTrueCache (S.files shelf.old) chain.now.indexid chain.now.live.mailbox →
+        ensures found { S.sees.tells → IsFileOf (S.sees.files shelf.old) self.old →
+            HasTrueCache (S.sees.files shelf.old) chain.now.indexid chain.now.live.mailbox →
             (mail : ℕ → Message) →
-            AreMessages (S.files shelf.old) chain.now.live.mailbox mail →
+            AreMessages (S.sees.files shelf.old) chain.now.live.mailbox mail →
             OnOk result (lines.new ≡ R.with lines.old (data_of mail
             (command.Search by_uid key.now) view.now chain.now.live.mailbox)) ×
             IfOk result (λ damaged. damaged ≡ damaged_uids mail
             (command.Search by_uid key.now) view.now chain.now.live.mailbox) }
         ensures failed { result ≡ Err ShelfFault.Failed →
             (told : Listed Said) × (lines.new ≡ R.with lines.old told) }
-        ensures file { S.tells → IsFileOf (S.files shelf.old) self.old →
-            IsFileOf (S.files shelf.old) self.new }
+        ensures file { S.sees.tells → IsFileOf (S.sees.files shelf.old) self.old →
+            IsFileOf (S.sees.files shelf.old) self.new }
         ensures again { is_read self.old ≡ true → self.new ≡ self.old }
         ensures aside { can_stand asked.now ≡ false → self.new ≡ self.old }
         // Nothing is changed, and message files are read no more than is due.
-        ensures looks { S.tells →
-            OnlyLooks S.files S.may_leave S.moment S.left_since shelf.old shelf.new }
+        ensures looks { S.sees.tells →
+            OnlyLooks S.sees shelf.old shelf.new }
         ensures most { CountsUpTo (count_by (has_uid chain.now.live.mailbox)
             (uids_read (command.Search by_uid key.now) view.now))
-            (S.mail_reads shelf.old) (S.mail_reads shelf.new) }
-        ensures spares { S.tells → IsFileOf (S.files shelf.old) self.old →
+            (S.sees.mail_reads shelf.old) (S.sees.mail_reads shelf.new) }
+        ensures spares { S.sees.tells → IsFileOf (S.sees.files shelf.old) self.old →
             can_stand asked.now ≡ true →
-            SparesEach (S.files shelf.old) chain.now.indexid chain.now.live.mailbox
+            SparesEach (S.sees.files shelf.old) chain.now.indexid chain.now.live.mailbox
             (uids_read (command.Search by_uid key.now) view.now)
-            (S.mail_reads shelf.old) (S.mail_reads shelf.new) }
+            (S.sees.mail_reads shelf.old) (S.sees.mail_reads shelf.new) }
         ensures cause { HasCauseOf ShelfFault.Failed
-            (S.fault_count shelf.old) (S.fault_count shelf.new) result }
+            (S.sees.fault_count shelf.old) (S.sees.fault_count shelf.new) result }
     {
         let sought = in_memory(Sought::new(alloc, key, view))?;
         let picked = self.search_rows(alloc, shelf, chain, asked, &sought, by_uid, view)?;

@@ -38,16 +38,16 @@ pub fn body<S: Shelf>(
     uid: u32,
 ) -> Result<BodyFound, ShelfFault>
     // The message, as its file has it.
-    ensures found { S.tells →
-        IfOk result (IsBody (S.files shelf.old) live.now.mailbox uid) }
+    ensures found { S.sees.tells →
+        IfOk result (IsBody (S.sees.files shelf.old) live.now.mailbox uid) }
     // Nothing is changed.
-    ensures looks { S.tells →
-        OnlyLooks S.files S.may_leave S.moment S.left_since shelf.old shelf.new }
+    ensures looks { S.sees.tells →
+        OnlyLooks S.sees shelf.old shelf.new }
     // One message file is read at most; a fault of the disk has its cause.
-    ensures most { CountsUpTo 1 (S.mail_reads shelf.old) (S.mail_reads shelf.new) }
+    ensures most { CountsUpTo 1 (S.sees.mail_reads shelf.old) (S.sees.mail_reads shelf.new) }
     ensures gone { has_uid live.now.mailbox uid ≡ false → shelf.new ≡ shelf.old }
     ensures cause { HasCauseOf ShelfFault.Failed
-        (S.fault_count shelf.old) (S.fault_count shelf.new) result }
+        (S.sees.fault_count shelf.old) (S.sees.fault_count shelf.new) result }
 {
     if !has_uid(live, uid) {
         return Ok(BodyFound::Gone);
@@ -110,24 +110,24 @@ impl CacheFile {
         name: &[u8],
     ) -> Result<FieldFound, ShelfFault>
         // The field is that of the message file, where the cache file is true.
-        ensures found { S.tells → IsFileOf (S.files shelf.old) self.old →
-            HasTrueCache (S.files shelf.old) chain.now.indexid chain.now.live.mailbox →
+        ensures found { S.sees.tells → IsFileOf (S.sees.files shelf.old) self.old →
+            HasTrueCache (S.sees.files shelf.old) chain.now.indexid chain.now.live.mailbox →
             IfOk result (λ found. found ≡ field_found name.now
-            (mail_of (S.files shelf.old) chain.now.live.mailbox uid)) }
-        ensures file { S.tells → IsFileOf (S.files shelf.old) self.old →
-            IsFileOf (S.files shelf.old) self.new }
+            (mail_of (S.sees.files shelf.old) chain.now.live.mailbox uid)) }
+        ensures file { S.sees.tells → IsFileOf (S.sees.files shelf.old) self.old →
+            IsFileOf (S.sees.files shelf.old) self.new }
         // Nothing is changed.
-        ensures looks { S.tells →
-            OnlyLooks S.files S.may_leave S.moment S.left_since shelf.old shelf.new }
+        ensures looks { S.sees.tells →
+            OnlyLooks S.sees shelf.old shelf.new }
         // The shelf is called no more than is due; a fault of the disk has its cause.
-        ensures economy { Economy S.mail_reads chain.now.live.mailbox uid (is_kept name.now)
+        ensures economy { Economy S.sees chain.now.live.mailbox uid (is_kept name.now)
             self.old self.new shelf.old shelf.new }
-        ensures spares { S.tells → IsFileOf (S.files shelf.old) self.old →
+        ensures spares { S.sees.tells → IsFileOf (S.sees.files shelf.old) self.old →
             is_kept name.now ≡ true →
-            IsSpared (S.files shelf.old) chain.now.indexid chain.now.live.mailbox uid →
-            Spares S.mail_reads self.old shelf.old shelf.new }
+            IsSpared (S.sees.files shelf.old) chain.now.indexid chain.now.live.mailbox uid →
+            Spares S.sees self.old shelf.old shelf.new }
         ensures cause { HasCauseOf ShelfFault.Failed
-            (S.fault_count shelf.old) (S.fault_count shelf.new) result }
+            (S.sees.fault_count shelf.old) (S.sees.fault_count shelf.new) result }
     {
         let source = self.source(alloc, shelf, chain, uid, is_kept(name))?;
         in_memory(field_in(alloc, name, &source))
@@ -144,23 +144,23 @@ impl CacheFile {
         uid: u32,
     ) -> Result<SizesFound, ShelfFault>
         // The sizes are those of the message in its file, where the cache file is true.
-        ensures found { S.tells → IsFileOf (S.files shelf.old) self.old →
-            HasTrueCache (S.files shelf.old) chain.now.indexid chain.now.live.mailbox →
+        ensures found { S.sees.tells → IsFileOf (S.sees.files shelf.old) self.old →
+            HasTrueCache (S.sees.files shelf.old) chain.now.indexid chain.now.live.mailbox →
             IfOk result (λ found. found ≡ sizes_found
-            (mail_of (S.files shelf.old) chain.now.live.mailbox uid)) }
-        ensures file { S.tells → IsFileOf (S.files shelf.old) self.old →
-            IsFileOf (S.files shelf.old) self.new }
+            (mail_of (S.sees.files shelf.old) chain.now.live.mailbox uid)) }
+        ensures file { S.sees.tells → IsFileOf (S.sees.files shelf.old) self.old →
+            IsFileOf (S.sees.files shelf.old) self.new }
         // Nothing is changed.
-        ensures looks { S.tells →
-            OnlyLooks S.files S.may_leave S.moment S.left_since shelf.old shelf.new }
+        ensures looks { S.sees.tells →
+            OnlyLooks S.sees shelf.old shelf.new }
         // The shelf is called no more than is due; a fault of the disk has its cause.
-        ensures economy { Economy S.mail_reads chain.now.live.mailbox uid true
+        ensures economy { Economy S.sees chain.now.live.mailbox uid true
             self.old self.new shelf.old shelf.new }
-        ensures spares { S.tells → IsFileOf (S.files shelf.old) self.old →
-            IsSpared (S.files shelf.old) chain.now.indexid chain.now.live.mailbox uid →
-            Spares S.mail_reads self.old shelf.old shelf.new }
+        ensures spares { S.sees.tells → IsFileOf (S.sees.files shelf.old) self.old →
+            IsSpared (S.sees.files shelf.old) chain.now.indexid chain.now.live.mailbox uid →
+            Spares S.sees self.old shelf.old shelf.new }
         ensures cause { HasCauseOf ShelfFault.Failed
-            (S.fault_count shelf.old) (S.fault_count shelf.new) result }
+            (S.sees.fault_count shelf.old) (S.sees.fault_count shelf.new) result }
     {
         let source = self.source(alloc, shelf, chain, uid, true)?;
         Ok(sizes_in(&source))

@@ -34,14 +34,15 @@ pub(crate) enum Source {
 
 // The message by its file.
 fn read_source<S: Shelf>(alloc: Global, shelf: &mut S, uid: u32) -> Result<Source, ShelfFault>
-    ensures found { S.tells → IfOk result (IsSourceOf (Some (mail_at (S.files shelf.old) uid))) }
+    ensures found { S.sees.tells →
+        IfOk result (IsSourceOf (Some (mail_at (S.sees.files shelf.old) uid))) }
     ensures from { (kept : Bool) → IfOk result (IsFrom kept) }
     // Nothing is changed; one message file is read; a fault of the disk has its cause.
-    ensures looks { S.tells →
-        OnlyLooks S.files S.may_leave S.moment S.left_since shelf.old shelf.new }
-    ensures mail_reads { S.mail_reads shelf.new ≡ counted (S.mail_reads shelf.old) 1 }
+    ensures looks { S.sees.tells →
+        OnlyLooks S.sees shelf.old shelf.new }
+    ensures mail_reads { S.sees.mail_reads shelf.new ≡ counted (S.sees.mail_reads shelf.old) 1 }
     ensures cause { HasCauseOf ShelfFault.Failed
-        (S.fault_count shelf.old) (S.fault_count shelf.new) result }
+        (S.sees.fault_count shelf.old) (S.sees.fault_count shelf.new) result }
 {
     match read_mail(alloc, shelf, uid)? {
         MailFile::Held(message) => Ok(Source::Held(message)),
@@ -61,23 +62,24 @@ impl CacheFile {
     ) -> Result<Source, ShelfFault>
         requires row { row_of chain.now.live.mailbox row.now.uid ≡ Some row.now }
         // The message, where the cache file is true.
-        ensures found { S.tells → IsFileOf (S.files shelf.old) self.old →
-            HasTrueCache (S.files shelf.old) chain.now.indexid chain.now.live.mailbox →
-            IfOk result (IsSourceOf (mail_of (S.files shelf.old) chain.now.live.mailbox
+        ensures found { S.sees.tells → IsFileOf (S.sees.files shelf.old) self.old →
+            HasTrueCache (S.sees.files shelf.old) chain.now.indexid chain.now.live.mailbox →
+            IfOk result (IsSourceOf (mail_of (S.sees.files shelf.old) chain.now.live.mailbox
             row.now.uid)) }
         ensures from { IfOk result (IsFrom may_look) }
-        ensures file { S.tells → IsFileOf (S.files shelf.old) self.old →
-            IsFileOf (S.files shelf.old) self.new }
+        ensures file { S.sees.tells → IsFileOf (S.sees.files shelf.old) self.old →
+            IsFileOf (S.sees.files shelf.old) self.new }
         // Nothing is changed, and the shelf is called no more than is due.
-        ensures looks { S.tells →
-            OnlyLooks S.files S.may_leave S.moment S.left_since shelf.old shelf.new }
-        ensures economy { Economy S.mail_reads chain.now.live.mailbox row.now.uid may_look
+        ensures looks { S.sees.tells →
+            OnlyLooks S.sees shelf.old shelf.new }
+        ensures economy { Economy S.sees chain.now.live.mailbox row.now.uid may_look
             self.old self.new shelf.old shelf.new }
-        ensures spares { S.tells → IsFileOf (S.files shelf.old) self.old → may_look ≡ true →
-            IsSpared (S.files shelf.old) chain.now.indexid chain.now.live.mailbox row.now.uid →
-            Spares S.mail_reads self.old shelf.old shelf.new }
+        ensures spares { S.sees.tells → IsFileOf (S.sees.files shelf.old) self.old →
+            may_look ≡ true →
+            IsSpared (S.sees.files shelf.old) chain.now.indexid chain.now.live.mailbox row.now.uid →
+            Spares S.sees self.old shelf.old shelf.new }
         ensures cause { HasCauseOf ShelfFault.Failed
-            (S.fault_count shelf.old) (S.fault_count shelf.new) result }
+            (S.sees.fault_count shelf.old) (S.sees.fault_count shelf.new) result }
     {
         match self.known_of(alloc, shelf, chain, row, may_look)? {
             Some(known) => Ok(Source::Cached(known)),
@@ -96,22 +98,23 @@ impl CacheFile {
         may_look: bool,
     ) -> Result<Source, ShelfFault>
         // The message, where the cache file is true.
-        ensures found { S.tells → IsFileOf (S.files shelf.old) self.old →
-            HasTrueCache (S.files shelf.old) chain.now.indexid chain.now.live.mailbox →
-            IfOk result (IsSourceOf (mail_of (S.files shelf.old) chain.now.live.mailbox uid)) }
+        ensures found { S.sees.tells → IsFileOf (S.sees.files shelf.old) self.old →
+            HasTrueCache (S.sees.files shelf.old) chain.now.indexid chain.now.live.mailbox →
+            IfOk result (IsSourceOf (mail_of (S.sees.files shelf.old) chain.now.live.mailbox uid)) }
         ensures from { IfOk result (IsFrom may_look) }
-        ensures file { S.tells → IsFileOf (S.files shelf.old) self.old →
-            IsFileOf (S.files shelf.old) self.new }
+        ensures file { S.sees.tells → IsFileOf (S.sees.files shelf.old) self.old →
+            IsFileOf (S.sees.files shelf.old) self.new }
         // Nothing is changed, and the shelf is called no more than is due.
-        ensures looks { S.tells →
-            OnlyLooks S.files S.may_leave S.moment S.left_since shelf.old shelf.new }
-        ensures economy { Economy S.mail_reads chain.now.live.mailbox uid may_look
+        ensures looks { S.sees.tells →
+            OnlyLooks S.sees shelf.old shelf.new }
+        ensures economy { Economy S.sees chain.now.live.mailbox uid may_look
             self.old self.new shelf.old shelf.new }
-        ensures spares { S.tells → IsFileOf (S.files shelf.old) self.old → may_look ≡ true →
-            IsSpared (S.files shelf.old) chain.now.indexid chain.now.live.mailbox uid →
-            Spares S.mail_reads self.old shelf.old shelf.new }
+        ensures spares { S.sees.tells → IsFileOf (S.sees.files shelf.old) self.old →
+            may_look ≡ true →
+            IsSpared (S.sees.files shelf.old) chain.now.indexid chain.now.live.mailbox uid →
+            Spares S.sees self.old shelf.old shelf.new }
         ensures cause { HasCauseOf ShelfFault.Failed
-            (S.fault_count shelf.old) (S.fault_count shelf.new) result }
+            (S.sees.fault_count shelf.old) (S.sees.fault_count shelf.new) result }
     {
         match chain.live.position(uid) {
             Some(k) => self.row_source(alloc, shelf, chain, chain.live.row(k), may_look),

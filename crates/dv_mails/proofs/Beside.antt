@@ -18,6 +18,7 @@ use Rattle.dv_chain.proofs.Named.{same_named}
 use Rattle.dv_rotation.specs.Leavings.{IsPut, Leaves}
 use Rattle.dv_mails.specs.Quiet.{KeepsRest}
 use Rattle.dv_mails.specs.Writing.{IsSwept, mail_names}
+use Rattle.dv_shelf.specs.Sees.{SeesFolder}
 
 -- ---- folders that differ in message files alone
 
@@ -102,10 +103,10 @@ module _ (chain : Chain) (old new : Folder) (same : KeepsIndex old new) where
 
 -- ---- a call
 
-pub rests_beside : {S : Type 0} (files : S → Folder) (may_leave : S → Folder → Type 0) (moment : S → ℕ) (left_since : S → ℕ → Folder → Type 0) (old new : S) (behind at_any : Folder → Folder → Type 0) (owed : Owed) (chain : Chain)
-    → ((d c : Folder) → behind d c → KeepsIndex d c) → ((d c : Folder) → at_any d c → KeepsIndex d c) → Leaves files may_leave moment left_since behind at_any old new → Rests may_leave owed chain old
-    → KeepsRest may_leave moment left_since owed chain old new
-rests_beside files may_leave moment left_since old new behind at_any owed chain late early leaves rests = record {
+pub rests_beside : {S : Type 0} (sees : SeesFolder S) (old new : S) (behind at_any : Folder → Folder → Type 0) (owed : Owed) (chain : Chain)
+    → ((d c : Folder) → behind d c → KeepsIndex d c) → ((d c : Folder) → at_any d c → KeepsIndex d c) → Leaves sees behind at_any old new → Rests sees owed chain old
+    → KeepsRest sees owed chain old new
+rests_beside sees old new behind at_any owed chain late early leaves rests = record {
   rests = record {
     bounds = rests.bounds;
     owes = rests.owes;
@@ -113,5 +114,5 @@ rests_beside files may_leave moment left_since old new behind at_any owed chain 
         let from = leaves.crash c left in
         resting_beside chain from.0 c (late from.0 c from.2) owed (rests.each from.0 from.1);
   };
-  since = weaker moment left_since old new (FromOneOf (may_leave old) at_any) (IsResting owed chain) leaves.since (λ c from. resting_beside chain from.0 c (early from.0 c from.2) owed (rests.each from.0 from.1));
+  since = weaker sees old new (FromOneOf (sees.may_leave old) at_any) (IsResting owed chain) leaves.since (λ c from. resting_beside chain from.0 c (early from.0 c from.2) owed (rests.each from.0 from.1));
 }

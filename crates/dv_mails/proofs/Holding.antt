@@ -10,6 +10,7 @@ use Rattle.dv_dbox.specs.Mails.{content_in, no_guid}
 use Rattle.dv_dbox.specs.Reading.{written_content}
 use Rattle.dv_dbox.proofs.Taken.{written_is_taken}
 use Rattle.dv_mails.specs.Writing.{HasMail, HoldsMail, IsFileOf}
+use Rattle.dv_shelf.specs.Sees.{SeesFolder}
 
 -- a folder with the file has the message
 has_mail : (uid : ℕ) (message guid text : List ℕ) (folder : Folder) → IsFileOf message guid text → folder (name.Mail uid) ≡ Some text → HasMail uid message guid folder
@@ -22,15 +23,15 @@ has_mail uid message guid text folder is there =
     }
 
 -- behind a replace that answered Ok
-pub put_holds : {S T E : Type 0} (files : S → Folder) (may_leave : S → Folder → Type 0) (old new : S) (uid : ℕ) (message guid text bytes : List ℕ) (result : Result T E)
+pub put_holds : {S T E : Type 0} (sees : SeesFolder S) (old new : S) (uid : ℕ) (message guid text bytes : List ℕ) (result : Result T E)
     → bytes ≡ text → IsFileOf message guid text
-    → OnOk result (files new ≡ with_file (files old) (name.Mail uid) (Some bytes)) → OnOk result ((c : Folder) → may_leave new c → c (name.Mail uid) ≡ Some bytes)
-    → OnOk result (HoldsMail files may_leave uid message guid new)
-put_holds files may_leave old new uid message guid text bytes (Ok x) same is put durable = record {
-  seen = has_mail uid message guid text (files new) is (ap (λ (f : Folder). f (name.Mail uid)) put ∙ with_here (files old) (name.Mail uid) (Some bytes) ∙ ap (λ (t : List ℕ). Some t) same);
+    → OnOk result (sees.files new ≡ with_file (sees.files old) (name.Mail uid) (Some bytes)) → OnOk result ((c : Folder) → sees.may_leave new c → c (name.Mail uid) ≡ Some bytes)
+    → OnOk result (HoldsMail sees uid message guid new)
+put_holds sees old new uid message guid text bytes (Ok x) same is put durable = record {
+  seen = has_mail uid message guid text (sees.files new) is (ap (λ (f : Folder). f (name.Mail uid)) put ∙ with_here (sees.files old) (name.Mail uid) (Some bytes) ∙ ap (λ (t : List ℕ). Some t) same);
   crash = λ c left. has_mail uid message guid text c is (durable c left ∙ ap (λ (t : List ℕ). Some t) same);
 }
-put_holds files may_leave old new uid message guid text bytes (Err e) same is put durable = tt
+put_holds sees old new uid message guid text bytes (Err e) same is put durable = tt
 
 -- the text that is made of a message is its file
 pub text_is : {E : Type 0} (now : ℕ) (guid message : List ℕ) (result : Result (List ℕ) E) → length guid ≡ 16 → ((i : ℕ) → slice_index guid i < 256) → now < 2 ^ 32 → length message < 2 ^ 63

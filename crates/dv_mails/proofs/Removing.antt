@@ -13,6 +13,7 @@ use Rattle.dv_shelf.proofs.Moments.{goes_on, started}
 use Rattle.dv_rotation.specs.Leavings.{Leaves}
 use Rattle.dv_rotation.proofs.Replacing.{leaves_both}
 use Rattle.dv_mails.specs.Writing.{IsRemoved, IsSweeping, IsSwept, Removes, StaysAtPut, StaysAtSweep, SweepsEach, mail_names, swept}
+use Rattle.dv_shelf.specs.Sees.{SeesFolder}
 
 -- ---- one file
 
@@ -97,25 +98,25 @@ sweep_stays uid uids old new lacks some =
     by_name true has = absurd (lacks (named_uid uids uid (first_named some.0 uids (name.Mail uid) has)))
     by_name false none = refl
 
-module _ {S : Type 0} (files : S → Folder) (may_leave : S → Folder → Type 0) (moment : S → ℕ) (left_since : S → ℕ → Folder → Type 0) where
-  pub removed : {T E : Type 0} (old new : S) (n : Name) (result : Result T E) → ((c : Folder) → left_since old (moment old) c → may_leave old c)
-      → OnOk result (files new ≡ with_file (files old) n None) → OnErr result (ChangesOnly n (IsEither None) (files old) (files new))
-      → OnOk result ((c : Folder) → may_leave new c → c n ≡ None) → Follows (ChangesOnly n (IsEither None)) (may_leave old) (may_leave new)
-      → Elapses (moment old) (moment new) (left_since old) (left_since new) (may_leave new) → Leaves files may_leave moment left_since (Removes n result) (IsRemoved n) old new
+module _ {S : Type 0} (sees : SeesFolder S) where
+  pub removed : {T E : Type 0} (old new : S) (n : Name) (result : Result T E) → ((c : Folder) → sees.left_since old (sees.moment old) c → sees.may_leave old c)
+      → OnOk result (sees.files new ≡ with_file (sees.files old) n None) → OnErr result (ChangesOnly n (IsEither None) (sees.files old) (sees.files new))
+      → OnOk result ((c : Folder) → sees.may_leave new c → c n ≡ None) → Follows (ChangesOnly n (IsEither None)) (sees.may_leave old) (sees.may_leave new)
+      → Elapses (sees.moment old) (sees.moment new) (sees.left_since old) (sees.left_since new) (sees.may_leave new) → Leaves sees (Removes n result) (IsRemoved n) old new
   removed {T = T} {E = E} old new n result now ok err durable follows time = record {
     seen = seen result ok err;
     crash = crash result durable;
-    since = goes_on moment left_since old old new _ (may_leave new) (started moment left_since old _ (λ c left. (c, now c left, inl refl))) time
+    since = goes_on sees old old new _ (sees.may_leave new) (started sees old _ (λ c left. (c, now c left, inl refl))) time
         (λ c left.
         let from = follows c left in
         (from.0, from.1, either_removed from.0 c n from.2));
   }
     where
-      seen : (r : Result T E) → OnOk r (files new ≡ with_file (files old) n None) → OnErr r (ChangesOnly n (IsEither None) (files old) (files new)) → Removes n r (files old) (files new)
+      seen : (r : Result T E) → OnOk r (sees.files new ≡ with_file (sees.files old) n None) → OnErr r (ChangesOnly n (IsEither None) (sees.files old) (sees.files new)) → Removes n r (sees.files old) (sees.files new)
       seen (Ok x) ok err = ok
-      seen (Err e) ok err = either_removed (files old) (files new) n err
+      seen (Err e) ok err = either_removed (sees.files old) (sees.files new) n err
 
-      crash : (r : Result T E) → OnOk r ((c : Folder) → may_leave new c → c n ≡ None) → Follows (Removes n r) (may_leave old) (may_leave new)
+      crash : (r : Result T E) → OnOk r ((c : Folder) → sees.may_leave new c → c n ≡ None) → Follows (Removes n r) (sees.may_leave old) (sees.may_leave new)
       crash (Ok x) durable = λ c left.
           let from = follows c left in
           (from.0, from.1, with_file_is from.0 c n None (durable c left) from.2.others)
@@ -127,20 +128,20 @@ module _ {S : Type 0} (files : S → Folder) (may_leave : S → Folder → Type 
 
   module _ (uids : List ℕ) where
     abbrev Swept : List ℕ → S → S → Type 0
-    Swept us old new = Leaves files may_leave moment left_since (IsSwept us) (IsSweeping uids) old new
+    Swept us old new = Leaves sees (IsSwept us) (IsSweeping uids) old new
 
-    pub none_removed : (old : S) → ((c : Folder) → left_since old (moment old) c → may_leave old c) → Swept [] old old
+    pub none_removed : (old : S) → ((c : Folder) → sees.left_since old (sees.moment old) c → sees.may_leave old c) → Swept [] old old
     none_removed old now = record {
-      seen = none_swept (files old);
+      seen = none_swept (sees.files old);
       crash = λ c left. (c, left, none_swept c);
-      since = started moment left_since old _ (λ c left. (c, now c left, (0, none_swept c)));
+      since = started sees old _ (λ c left. (c, now c left, (0, none_swept c)));
     }
 
     module _ (i : ℕ) (old mid new : S) (less : i < length uids) where
-      pub one_removed : Swept (take i uids) old mid → Leaves files may_leave moment left_since (λ e c. c ≡ with_file e (name.Mail (get_or uids i 0)) None) (IsRemoved (name.Mail (get_or uids i 0))) mid new → Swept (take (i + 1) uids) old new
+      pub one_removed : Swept (take i uids) old mid → Leaves sees (λ e c. c ≡ with_file e (name.Mail (get_or uids i 0)) None) (IsRemoved (name.Mail (get_or uids i 0))) mid new → Swept (take (i + 1) uids) old new
       one_removed so_far one =
-          leaves_both files may_leave moment left_since old mid new _ _ _ _ (IsSwept (take (i + 1) uids)) (IsSweeping uids) so_far one (λ d e c is gone. swept-further uids i d e c less is gone) (λ d c some. some) (λ d e c is step. sweeping_on uids i d e c less is step)
+          leaves_both sees old mid new _ _ _ _ (IsSwept (take (i + 1) uids)) (IsSweeping uids) so_far one (λ d e c is gone. swept-further uids i d e c less is gone) (λ d c some. some) (λ d e c is step. sweeping_on uids i d e c less is step)
 
-      pub one_failed : Swept (take i uids) old mid → Leaves files may_leave moment left_since (IsRemoved (name.Mail (get_or uids i 0))) (IsRemoved (name.Mail (get_or uids i 0))) mid new → Leaves files may_leave moment left_since (IsSweeping uids) (IsSweeping uids) old new
+      pub one_failed : Swept (take i uids) old mid → Leaves sees (IsRemoved (name.Mail (get_or uids i 0))) (IsRemoved (name.Mail (get_or uids i 0))) mid new → Leaves sees (IsSweeping uids) (IsSweeping uids) old new
       one_failed so_far one =
-          leaves_both files may_leave moment left_since old mid new _ _ _ _ (IsSweeping uids) (IsSweeping uids) so_far one (λ d e c is step. sweeping_on uids i d e c less is step) (λ d c some. some) (λ d e c is step. sweeping_on uids i d e c less is step)
+          leaves_both sees old mid new _ _ _ _ (IsSweeping uids) (IsSweeping uids) so_far one (λ d e c is step. sweeping_on uids i d e c less is step) (λ d c some. some) (λ d e c is step. sweeping_on uids i d e c less is step)

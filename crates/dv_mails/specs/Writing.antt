@@ -8,6 +8,7 @@ use Rattle.dv_dbox.specs.BoxTexts.{written}
 use Rattle.dv_dbox.specs.Reading.{IsWritable}
 use Rattle.dv_rotation.specs.Leavings.{IsPut}
 use Rattle.dv_mails.specs.Reading.{guid_at, mail_at}
+use Rattle.dv_shelf.specs.Sees.{SeesFolder}
 
 -- ---- a message file that is written
 
@@ -23,12 +24,12 @@ pub record HasMail (uid : ℕ) (message guid : List ℕ) (folder : Folder) : Typ
   pub held : mail_at folder uid ≡ Held message
   pub named : guid_at folder uid ≡ guid
 
--- So have the files as they are read, and each folder that a crash now may leave. It takes the
--- members of a shelf's type.
-pub record HoldsMail {S : Type 0} (files : S → Folder) (may_leave : S → Folder → Type 0) (uid : ℕ)
+-- So have the files as they are read, and each folder that a crash now may leave. It takes what a
+-- shelf shows.
+pub record HoldsMail {S : Type 0} (sees : SeesFolder S) (uid : ℕ)
     (message guid : List ℕ) (shelf : S) : Type 0 where
-  pub seen : HasMail uid message guid (files shelf)
-  pub crash : (c : Folder) → may_leave shelf c → HasMail uid message guid c
+  pub seen : HasMail uid message guid (sees.files shelf)
+  pub crash : (c : Folder) → sees.may_leave shelf c → HasMail uid message guid c
 
 -- ---- message files that are removed
 

@@ -51,14 +51,15 @@ fn taken_as(alloc: Global, bytes: &[u8]) -> Result<MailFile, ShelfFault>
 /// `dv_dbox::read`. Reads the file once and writes nothing.
 pub fn read_mail<S: Shelf>(alloc: Global, shelf: &mut S, uid: u32) -> Result<MailFile, ShelfFault>
     // The message, or that there is none.
-    ensures found { S.tells → IfOk result (IsTakenAs (S.files shelf.old (name.Mail uid))) }
+    ensures found { S.sees.tells →
+        IfOk result (IsTakenAs (S.sees.files shelf.old (name.Mail uid))) }
     // Nothing is changed.
-    ensures looks { S.tells →
-        OnlyLooks S.files S.may_leave S.moment S.left_since shelf.old shelf.new }
+    ensures looks { S.sees.tells →
+        OnlyLooks S.sees shelf.old shelf.new }
     // One message file is read; a fault of the disk has its cause.
-    ensures mail_reads { S.mail_reads shelf.new ≡ counted (S.mail_reads shelf.old) 1 }
+    ensures mail_reads { S.sees.mail_reads shelf.new ≡ counted (S.sees.mail_reads shelf.old) 1 }
     ensures cause { HasCauseOf ShelfFault.Failed
-        (S.fault_count shelf.old) (S.fault_count shelf.new) result }
+        (S.sees.fault_count shelf.old) (S.sees.fault_count shelf.new) result }
 {
     match shelf.read(alloc, Name::Mail(uid))? {
         Some(bytes) => taken_as(alloc, bytes.as_slice()),
@@ -90,15 +91,16 @@ pub fn guids_of<S: Shelf>(
     // The rows, beside the UIDs, each with a GUID.
     ensures beside { IfOk result (λ rows. (map (λ row. row.uid) rows ≡ uids.now)
         × All (λ row. IsGuid row.guid) rows) }
-    ensures rows { S.tells → IfOk result (λ rows. rows ≡ guid_rows (S.files shelf.old) uids.now) }
+    ensures rows { S.sees.tells →
+        IfOk result (λ rows. rows ≡ guid_rows (S.sees.files shelf.old) uids.now) }
     // Nothing is changed.
-    ensures looks { S.tells →
-        OnlyLooks S.files S.may_leave S.moment S.left_since shelf.old shelf.new }
+    ensures looks { S.sees.tells →
+        OnlyLooks S.sees shelf.old shelf.new }
     // Each message file is read once; a fault of the disk has its cause.
     ensures mail_reads { ReadsMails (length uids.now)
-        (S.mail_reads shelf.old) (S.mail_reads shelf.new) result }
+        (S.sees.mail_reads shelf.old) (S.sees.mail_reads shelf.new) result }
     ensures cause { HasCauseOf ShelfFault.Failed
-        (S.fault_count shelf.old) (S.fault_count shelf.new) result }
+        (S.sees.fault_count shelf.old) (S.sees.fault_count shelf.new) result }
 {
     let mut rows = List::new(alloc);
     for uid in uids {

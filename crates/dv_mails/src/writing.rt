@@ -34,29 +34,29 @@ pub fn mail_text(
 /// Takes no memory. After `Failed` the file is as before or has the text.
 pub fn put<S: Shelf>(shelf: &mut S, uid: u32, text: &Bytes) -> Result<(), Failed>
     // The files, and what a crash leaves of them, afterwards and at any moment.
-    ensures leaves { S.tells → Leaves S.files S.may_leave S.moment S.left_since
+    ensures leaves { S.sees.tells → Leaves S.sees
         (Puts (name.Mail uid) text.now result) (IsPut (name.Mail uid) text.now)
         shelf.old shelf.new }
     // Behind Ok the message is there with its GUID, whatever a crash leaves.
-    ensures held { S.tells → (message guid : List ℕ) → IsFileOf message guid text.now →
-        OnOk result (HoldsMail S.files S.may_leave uid message guid shelf.new) }
+    ensures held { S.sees.tells → (message guid : List ℕ) → IsFileOf message guid text.now →
+        OnOk result (HoldsMail S.sees uid message guid shelf.new) }
     // A chain at rest stays so, whatever it owes.
-    ensures quiet { S.tells → (owed : Owed) (chain : Chain) →
-        Rests S.may_leave owed chain shelf.old →
-        KeepsRest S.may_leave S.moment S.left_since owed chain shelf.old shelf.new }
+    ensures quiet { S.sees.tells → (owed : Owed) (chain : Chain) →
+        Rests S.sees owed chain shelf.old →
+        KeepsRest S.sees owed chain shelf.old shelf.new }
     // No message file is read; an error has its cause.
-    ensures mail_reads { S.mail_reads shelf.new ≡ S.mail_reads shelf.old }
-    ensures cause { HasCause (S.fault_count shelf.old) (S.fault_count shelf.new) result }
+    ensures mail_reads { S.sees.mail_reads shelf.new ≡ S.sees.mail_reads shelf.old }
+    ensures cause { HasCause (S.sees.fault_count shelf.old) (S.sees.fault_count shelf.new) result }
 {
     shelf.replace(Name::Mail(uid), text.as_slice())
 }
 
 /// Removes the message file of a UID.
 fn remove_mail<S: Shelf>(shelf: &mut S, uid: u32) -> Result<(), Failed>
-    ensures leaves { S.tells → Leaves S.files S.may_leave S.moment S.left_since
+    ensures leaves { S.sees.tells → Leaves S.sees
         (Removes (name.Mail uid) result) (IsRemoved (name.Mail uid)) shelf.old shelf.new }
-    ensures mail_reads { S.mail_reads shelf.new ≡ S.mail_reads shelf.old }
-    ensures cause { HasCause (S.fault_count shelf.old) (S.fault_count shelf.new) result }
+    ensures mail_reads { S.sees.mail_reads shelf.new ≡ S.sees.mail_reads shelf.old }
+    ensures cause { HasCause (S.sees.fault_count shelf.old) (S.sees.fault_count shelf.new) result }
 {
     shelf.remove(Name::Mail(uid))
 }
@@ -66,15 +66,15 @@ fn remove_mail<S: Shelf>(shelf: &mut S, uid: u32) -> Result<(), Failed>
 /// all.
 pub fn sweep<S: Shelf>(shelf: &mut S, uids: &[u32]) -> Result<(), Failed>
     // The files, and what a crash leaves of them, afterwards and at any moment.
-    ensures leaves { S.tells → Leaves S.files S.may_leave S.moment S.left_since
+    ensures leaves { S.sees.tells → Leaves S.sees
         (Sweeps uids.now result) (IsSweeping uids.now) shelf.old shelf.new }
     // A chain at rest stays so, whatever it owes.
-    ensures quiet { S.tells → (owed : Owed) (chain : Chain) →
-        Rests S.may_leave owed chain shelf.old →
-        KeepsRest S.may_leave S.moment S.left_since owed chain shelf.old shelf.new }
+    ensures quiet { S.sees.tells → (owed : Owed) (chain : Chain) →
+        Rests S.sees owed chain shelf.old →
+        KeepsRest S.sees owed chain shelf.old shelf.new }
     // No message file is read; an error has its cause.
-    ensures mail_reads { S.mail_reads shelf.new ≡ S.mail_reads shelf.old }
-    ensures cause { HasCause (S.fault_count shelf.old) (S.fault_count shelf.new) result }
+    ensures mail_reads { S.sees.mail_reads shelf.new ≡ S.sees.mail_reads shelf.old }
+    ensures cause { HasCause (S.sees.fault_count shelf.old) (S.sees.fault_count shelf.new) result }
 {
     for uid in uids {
         remove_mail(shelf, *uid)?;

@@ -7,3 +7,4 @@ pub mod Writing
 pub mod Removing
 pub mod Naming
 pub mod Starting
+pub mod Mailboxes

@@ -1,10 +1,10 @@
 -- One call more: the folder behind it, and what a crash might have left.
-use Rattle.std.proofs.Common.{◌≡◌, ◌⊎◌, inl, inr, ⊎_elim, ℕ, ◌+◌, ◌≤◌, List, [], ◌∷◌, ◌++◌, length, take, Result, Ok, Err, OnOk, OnErr, refl, sym, ◌∙◌, ap, subst, arith, length-append}
+use Rattle.std.proofs.Common.{◌≡◌, ◌⊎◌, inl, inr, ⊎_elim, ℕ, ◌+◌, ◌≤◌, List, [], ◌∷◌, ◌++◌, length, take, Result, Ok, Err, OnOk, OnErr, sym, ◌∙◌, ap, subst, arith, length-append}
 use Rattle.std.proofs.lemmas.List.{take_all, take-append-le}
 use Rattle.std.proofs.lemmas.List.Sums.{fold-append}
 use Rattle.dv_shelf.specs.Folders.{Folder}
 use Rattle.dv_shelf.specs.Crashes.{Elapses}
-use Rattle.dv_system.specs.Disks.{Disk, LeftBy}
+use Rattle.dv_system.specs.Disks.{LeftBy}
 use Rattle.dv_memory_system.specs.declared.step.Deed.{Deed}
 use Rattle.dv_memory_system.specs.declared.step.Step.{Step}
 use Rattle.dv_memory_system.specs.Steps.{deed_then, disk_after, new_disk, step_then, with_step, IsTried}

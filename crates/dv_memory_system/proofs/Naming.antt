@@ -1,5 +1,5 @@
 -- The names of the files that calls are on, and whether the folder may vanish.
-use Rattle.std.proofs.Common.{◌≡◌, ◌≢◌, ◌⊎◌, inl, inr, ⊎_elim, ℕ, ◌+◌, ◌<◌, ◌≤◌, Bool, true, false, ◌||◌, List, [], ◌∷◌, ◌++◌, length, take, map, fold, get_or, Option, Some, None, IsSome, Contains, refl, sym, ◌∙◌, ap, subst, arith}
+use Rattle.std.proofs.Common.{◌≡◌, ◌≢◌, ◌⊎◌, inl, inr, ⊎_elim, ℕ, ◌+◌, ◌<◌, ◌≤◌, Bool, true, false, ◌||◌, List, [], ◌∷◌, ◌++◌, length, take, map, fold, get_or, Option, IsSome, Contains, refl, sym, ◌∙◌, ap, subst, arith}
 use Rattle.std.specs.Prelude.{AllPairs}
 use Rattle.std.specs.List.{list_any}
 use Rattle.std.proofs.lemmas.List.{map-append, take_more, take_all}
@@ -11,7 +11,7 @@ use Rattle.dv_shelf.specs.Samples.{AreNamesWith}
 use Rattle.dv_shelf.proofs.FolderLemmas.{same_is, with_here, with_else}
 use Rattle.dv_shelf.proofs.NameLemmas.{has_none}
 use Rattle.dv_system.specs.declared.system.Entry.TheVariants as entry
-use Rattle.dv_system.specs.Entries.{At, read_at, IsEntryImage}
+use Rattle.dv_system.specs.Entries.{read_at, IsEntryImage}
 use Rattle.dv_system.specs.Disks.{Disk, Place, Missing, Loose, Doubted, Firm, IsReadable, LeftBy, doubted_place, files_of, made_place, may_vanish}
 use Rattle.dv_system.proofs.Named.{by_names}
 use Rattle.dv_memory_system.specs.declared.step.Deed.{Deed}

@@ -1,5 +1,5 @@
 -- What is known of an entry, behind each change of it.
-use Rattle.std.proofs.Common.{◌≡◌, ◌≢◌, ◌⊎◌, inl, inr, ℕ, ◌+◌, ◌≤◌, Bool, true, false, cond, List, [], ◌∷◌, ◌++◌, length, take, get_or, min, ◌<◌, fold, All, Option, Some, None, refl, sym, ◌∙◌, ap, subst, arith}
+use Rattle.std.proofs.Common.{◌≡◌, ◌≢◌, ◌⊎◌, inl, inr, ℕ, ◌+◌, ◌≤◌, Bool, true, false, cond, List, [], ◌∷◌, ◌++◌, length, take, get_or, min, ◌<◌, All, Option, Some, refl, sym, ◌∙◌, ap, subst, arith}
 use Rattle.std.proofs.lemmas.List.{take_all, take_more, length-take}
 use Rattle.std.proofs.lemmas.List.Sums.{fold-append}
 use Rattle.std.proofs.lemmas.List.Elements.{All-append, All-cons, All-nil, All-weaker}
@@ -8,10 +8,9 @@ use Rattle.dv_shelf.specs.Disks.{Version, Gone, version_bytes, version_written, 
 use Rattle.dv_shelf.specs.Folders.{same_name}
 use Rattle.dv_shelf.specs.Images.{IsFileImage, IsImageOfOne}
 use Rattle.dv_shelf.proofs.FolderLemmas.{is_same}
-use Rattle.dv_system.specs.declared.system.Entry.{Entry}
 use Rattle.dv_system.specs.declared.system.Entry.TheVariants as entry
 use Rattle.dv_system.specs.Entries.{At, absent, put_at, hidden_at, written_at, synced_at, swept_at}
-use Rattle.dv_system.specs.Disks.{Disk, changed, with_named}
+use Rattle.dv_system.specs.Disks.{Disk, changed}
 use Rattle.dv_system.proofs.Named.{named_here, named_else}
 use Rattle.dv_memory_system.specs.declared.samples.Samples.{Samples}
 use Rattle.dv_memory_system.specs.declared.state.State.{State}

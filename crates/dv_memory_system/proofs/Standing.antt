@@ -4,11 +4,9 @@ use Rattle.std.specs.Prelude.{IfOk, IsErr, MatchOption}
 use Rattle.std.proofs.lemmas.List.{drop-append-le, drop_all}
 use Rattle.std.proofs.lemmas.List.Sums.{fold-append}
 use Rattle.dv_shelf.specs.declared.shelf.Name.{Name}
-use Rattle.dv_shelf.specs.Folders.{same_name}
 use Rattle.dv_shelf.proofs.FolderLemmas.{same_is, is_same}
 use Rattle.dv_system.specs.declared.system.Entry.{Entry}
 use Rattle.dv_system.specs.declared.system.Entry.TheVariants.{File, Temporary}
-use Rattle.dv_memory_system.specs.declared.step.Change.{Change}
 use Rattle.dv_memory_system.specs.declared.step.Change.TheVariants.{Unlink}
 use Rattle.dv_memory_system.specs.declared.step.Deed.{Deed}
 use Rattle.dv_memory_system.specs.declared.step.Deed.TheVariants as deed

@@ -12,7 +12,7 @@ use Rattle.dv_disk.specs.States.{IsPlaceTrusted, IsTrusted, trusts, trusts_place
 use Rattle.dv_memory_system.specs.declared.step.Change.TheVariants.{Found}
 use Rattle.dv_memory_system.specs.declared.step.Deed.TheVariants as deed
 use Rattle.dv_memory_system.specs.declared.step.Step.{Step}
-use Rattle.dv_memory_system.specs.Steps.{disk_after, found_at, found_place, new_disk, with_step}
+use Rattle.dv_memory_system.specs.Steps.{disk_after, found_at, found_place, with_step}
 use Rattle.dv_memory_system.specs.Starts.{IsFound}
 use Rattle.dv_memory_system.proofs.Moments.{disk_more}
 

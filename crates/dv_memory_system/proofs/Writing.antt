@@ -1,12 +1,12 @@
 -- Calls on an open file.
-use Rattle.std.proofs.Common.{◌≡◌, ◌⊎◌, inl, inr, ⊎_elim, ℕ, ◌/◌, ◌≤◌, true, false, List, [], length, take, Option, Some, None, Result, Ok, Err, OnOk, OnErr, refl, sym, ◌∙◌, ap, subst, arith}
+use Rattle.std.proofs.Common.{◌≡◌, inl, inr, ⊎_elim, ℕ, ◌/◌, ◌≤◌, true, false, List, [], length, Option, Some, None, Result, Ok, Err, OnOk, OnErr, refl, sym, ◌∙◌, ap, arith}
 use Rattle.std.specs.Prelude.{nat_eq}
 use Rattle.std.proofs.lemmas.Bool.{eq-eqb, eqb-true}
 use Rattle.std.proofs.lemmas.List.{take_all}
 use Rattle.dv_system.specs.declared.system.Entry.{Entry}
-use Rattle.dv_system.specs.Entries.{At, written_at, synced_at, doubted_at}
-use Rattle.dv_system.specs.Disks.{Disk, changed, IsUnchangedOr}
-use Rattle.dv_memory_system.specs.declared.step.Change.TheVariants.{Write, Sync}
+use Rattle.dv_system.specs.Entries.{written_at, synced_at, doubted_at}
+use Rattle.dv_system.specs.Disks.{changed, IsUnchangedOr}
+use Rattle.dv_memory_system.specs.declared.step.Change.TheVariants.{Write}
 use Rattle.dv_memory_system.specs.declared.step.Deed.{Deed}
 use Rattle.dv_memory_system.specs.declared.step.Deed.TheVariants as deed
 use Rattle.dv_memory_system.specs.declared.step.Step.{Step}

@@ -1,7 +1,7 @@
 -- What a system in memory keeps of the laws of the trait: a crash may leave each file as reads give
 -- it, and what it may leave now is what it might have left at some time and what it might have
 -- left last.
-use Rattle.std.proofs.Common.{◌≡◌, ℕ, ◌≤◌, Bool, true, false, cond, List, [], ◌∷◌, length, take, fold, Option, Some, sym, subst, arith}
+use Rattle.std.proofs.Common.{◌≡◌, ℕ, ◌≤◌, Bool, true, false, cond, List, [], ◌∷◌, length, take, fold, Some, sym, subst, arith}
 use Rattle.std.proofs.lemmas.List.{take_all, length-take}
 use Rattle.dv_shelf.specs.declared.shelf.Name.{Name}
 use Rattle.dv_shelf.specs.Folders.{Folder, same_name}
@@ -19,7 +19,7 @@ use Rattle.dv_memory_system.specs.declared.step.Deed.TheVariants as deed
 use Rattle.dv_memory_system.specs.declared.step.Step.{Step}
 use Rattle.dv_memory_system.specs.declared.system.MemSystem.{MemSystem}
 use Rattle.dv_memory_system.specs.Steps.{change_at, deed_then, disk_after, new_disk, step_then}
-use Rattle.dv_memory_system.specs.Systems.{LeftSince, disk_of, left_of, moment_of}
+use Rattle.dv_memory_system.specs.Systems.{disk_of, left_of, moment_of}
 
 -- the file that stands at an entry, as reads give it, is one of its images
 abbrev IsReadableAt : At → Type 0

@@ -84,9 +84,9 @@ IsTried hidden shown bytes old new =
 abbrev pub synced_so : Entry → Bool → Deed
 synced_so entry is_done = deed.File entry (Sync is_done)
 
--- a file of a name was removed, and reads see that or not
-abbrev pub unlinked_so : Name → Bool → Deed
-unlinked_so name is_seen = deed.File (entry.File name) (Unlink is_seen)
+-- a file was removed, and reads see that or not
+abbrev pub unlinked_so : Entry → Bool → Deed
+unlinked_so there is_seen = deed.File there (Unlink is_seen)
 
 -- a write that failed wrote some of the bytes from the front, or changed nothing
 abbrev pub IsWrittenPart : ℕ → List ℕ → Entry → Disk → Disk → Type 0

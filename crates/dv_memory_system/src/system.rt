@@ -1,14 +1,15 @@
 ghost use Rattle.std.specs.Prelude.{◌≡◌, [], Some, None, true, false, length, is_some, IsErr, IfOk, MatchOption, OnOk, OnErr};
 ghost use Rattle.dv_memory_system.specs.Steps.{synced_so, unlinked_so};
 ghost use Rattle.dv_memory_system.specs.Places.{name_of, place_then, same_entry, unless_at};
-ghost use Rattle.dv_memory_system.specs.Listing.{has_entry};
+ghost use Rattle.std.specs.List.{list_any};
+ghost use Rattle.dv_memory_system.specs.Listing.{has_entry, is_mailbox_entry, makes_folder};
 
 use crate::failing::{Trace, Turn, is_behind, is_listed};
 use crate::state::States;
 use crate::step::{Change, Deed, Step};
 use dv_model::{Bytes, List, NoMemory};
-use dv_shelf::{Failed, Folder, Name, ShelfFault};
-use dv_system::{Entry, System};
+use dv_shelf::{Failed, Folder, Name, ShelfFault, is_of_mailbox};
+use dv_system::{Access, Entry, System};
 use std::alloc::Global;
 
 /// An open file of a system in memory: where it stood after so many calls that did something.
@@ -414,14 +415,13 @@ impl MemSystem {
         )
     }
 
-    fn unlink_there(&mut self, name: Name) -> Result<bool, Failed>
+    fn unlink_there(&mut self, entry: Entry) -> Result<bool, Failed>
         ensures ok { IfOk result (λ was. (was ≡ true) × (self.new.steps
-            ≡ with_step self.old.steps (unlinked_so name true) [])) }
-        ensures err { OnErr result (IsTried (unlinked_so name false) (unlinked_so name true) []
+            ≡ with_step self.old.steps (unlinked_so entry true) [])) }
+        ensures err { OnErr result (IsTried (unlinked_so entry false) (unlinked_so entry true) []
             self.old.steps self.new.steps) }
         ensures lock { self.new.is_locked ≡ self.old.is_locked }
     {
-        let entry = Entry::File(name);
         let done = Deed::File {
             entry,
             change: Change::Unlink { is_seen: true },
@@ -494,7 +494,7 @@ impl System for MemSystem {
         Ok(())
     }
 
-    fn open(&mut self, entry: Entry) -> Result<Option<MemFile>, Failed> {
+    fn open(&mut self, entry: Entry, _access: Access) -> Result<Option<MemFile>, Failed> {
         self.open_there(entry)
     }
 
@@ -545,9 +545,9 @@ impl System for MemSystem {
         }
     }
 
-    fn unlink(&mut self, name: Name) -> Result<bool, Failed> {
-        if self.found(Entry::File(name))? {
-            self.unlink_there(name)
+    fn unlink(&mut self, entry: Entry) -> Result<bool, Failed> {
+        if self.found(entry)? {
+            self.unlink_there(entry)
         } else {
             self.unlink_missing()
         }
@@ -555,6 +555,21 @@ impl System for MemSystem {
 
     fn list(&mut self, alloc: Global) -> Result<List<Entry>, ShelfFault> {
         self.list_there(alloc)
+    }
+
+    fn has_mailbox(&mut self, alloc: Global) -> Result<bool, ShelfFault> {
+        match self.list_there(alloc) {
+            Ok(entries) => Ok(are_of_mailbox(entries.as_slice())),
+            Err(fault) => Err(fault),
+        }
+    }
+
+    fn find_folder(&mut self) -> Result<(), Failed> {
+        if has_folder(self.steps()) {
+            self.look()
+        } else {
+            self.refuse()
+        }
     }
 
     fn make_folder(&mut self) -> Result<(), Failed> {
@@ -637,4 +652,33 @@ fn has_entry(entries: &[Entry], entry: Entry) -> bool
     ensures { result ≡ has_entry entries.now entry }
 {
     entries.iter().any(|e| same_entry(*e, entry))
+}
+
+/// Whether one of the entries is a file of a mailbox.
+fn are_of_mailbox(entries: &[Entry]) -> bool
+    ensures { result ≡ list_any is_mailbox_entry entries.now }
+{
+    entries.iter().any(|entry| is_mailbox_entry(*entry))
+}
+
+fn is_mailbox_entry(entry: Entry) -> bool
+    ensures { result ≡ is_mailbox_entry entry }
+{
+    match entry {
+        Entry::File(name) => is_of_mailbox(name),
+        Entry::Temporary => false,
+    }
+}
+
+/// Whether the folder is there behind some calls.
+fn has_folder(steps: &[Step]) -> bool
+    ensures { result ≡ list_any (λ s. makes_folder s.deed) steps.now }
+{
+    steps.iter().any(|step| makes_folder(step.deed))
+}
+
+fn makes_folder(deed: Deed) -> bool
+    ensures { result ≡ makes_folder deed }
+{
+    matches!(deed, Deed::FoundFolder | Deed::MakeFolder)
 }

@@ -2,7 +2,7 @@
 #![tactic(auto)]
 
 use dv_chain::open;
-use dv_folder::Folder;
+use dv_folder::{Folder, Layout, Missing};
 use dv_shelf::{Name, Shelf};
 use std::process::ExitCode;
 use std::time::Instant;
@@ -40,7 +40,14 @@ fn folder_named(rt: HostRuntime) -> Option<Folder> {
     if words.next().is_some() {
         return None;
     }
-    Folder::new(rt.alloc(), rt, path.as_str()).ok()
+    Folder::new(
+        rt.alloc(),
+        rt,
+        path.as_str(),
+        Layout::Mailbox,
+        Missing::Make,
+    )
+    .ok()
 }
 
 /// The status is 1 where the word, the output or the clock fails.

@@ -14,6 +14,7 @@ use Rattle.dv_keeping.specs.Debts.{MayGive, Nothing, Stands}
 use Rattle.dv_keeping.specs.Keeping.{Keeps}
 use Rattle.dv_keeping.proofs.Resting.{gives_as}
 use Rattle.dv_phases.specs.Quiet.{IsQuiet}
+use Rattle.dv_shelf.specs.Sees.{SeesFolder}
 
 -- what each folder has that a crash may leave of a store that owes nothing
 pub record HasAll (log : Log) (chain : Chain) (c : Folder) : Type 0 where
@@ -23,14 +24,14 @@ pub record HasAll (log : Log) (chain : Chain) (c : Folder) : Type 0 where
 pub all_gives : (log : Log) (chain : Chain) (c : Folder) → log.indexid ≡ chain.indexid → Owes chain rest.Nothing → HasAll log chain c → MayGive log Nothing chain c
 all_gives log chain c named owes has = gives_as log chain.live.mailbox (place_of chain) chain c named (may_open rest.Nothing chain c owes has.rest) has.keeps
 
-module _ {S : Type 0} (files : S → Folder) (may_leave : S → Folder → Type 0) (moment : S → ℕ) (left_since : S → ℕ → Folder → Type 0) (log : Log) (chain : Chain) where
-  pub stands_all : (old : S) → Stands may_leave log Nothing chain old → (c : Folder) → may_leave old c → HasAll log chain c
+module _ {S : Type 0} (sees : SeesFolder S) (log : Log) (chain : Chain) where
+  pub stands_all : (old : S) → Stands sees log Nothing chain old → (c : Folder) → sees.may_leave old c → HasAll log chain c
   stands_all old stands c left = record { rest = stands.rests.each c left; keeps = stands.keeps c left }
 
   pub quiet_steps : (old new : S) (behind at_any : Folder → Folder → Type 0) → ((d c : Folder) → behind d c → HasAll log chain d → HasAll log chain c) → ((d c : Folder) → at_any d c → HasAll log chain d → HasAll log chain c)
-      → Leaves files may_leave moment left_since behind at_any old new → Stands may_leave log Nothing chain old → IsQuiet may_leave moment left_since log chain old new
+      → Leaves sees behind at_any old new → Stands sees log Nothing chain old → IsQuiet sees log chain old new
   quiet_steps old new behind at_any late early leaves stands = record {
-    any_moment = weaker moment left_since old new (FromOneOf (may_leave old) at_any) (MayGive log Nothing chain) leaves.since
+    any_moment = weaker sees old new (FromOneOf (sees.may_leave old) at_any) (MayGive log Nothing chain) leaves.since
         (λ c from. all_gives log chain c stands.named stands.rests.owes (early from.0 c from.2 (stands_all old stands from.0 from.1)));
     stands = record {
       named = stands.named;
@@ -41,11 +42,11 @@ module _ {S : Type 0} (files : S → Folder) (may_leave : S → Folder → Type 
     };
   }
     where
-      has : (c : Folder) → may_leave new c → HasAll log chain c
+      has : (c : Folder) → sees.may_leave new c → HasAll log chain c
       has c left =
           let from = leaves.crash c left in
           late from.0 c from.2 (stands_all old stands from.0 from.1)
 
   -- one call behind another
-  pub quiet_both : (old mid new : S) → IsQuiet may_leave moment left_since log chain old mid → IsQuiet may_leave moment left_since log chain mid new → IsQuiet may_leave moment left_since log chain old new
-  quiet_both old mid new first second = record { any_moment = joined moment left_since old mid new (MayGive log Nothing chain) first.any_moment second.any_moment; stands = second.stands }
+  pub quiet_both : (old mid new : S) → IsQuiet sees log chain old mid → IsQuiet sees log chain mid new → IsQuiet sees log chain old new
+  quiet_both old mid new first second = record { any_moment = joined sees old mid new (MayGive log Nothing chain) first.any_moment second.any_moment; stands = second.stands }

@@ -23,6 +23,7 @@ use Rattle.dv_keeping.specs.Keeping.{Keeps}
 use Rattle.dv_phases.specs.Renewals.{IsCacheOf, IsRenewing, Renews, with_index}
 use Rattle.dv_phases.proofs.Quiet.{HasAll}
 use Rattle.dv_keeping.proofs.Kept.{kept_same}
+use Rattle.dv_shelf.specs.Sees.{SeesFolder}
 
 -- the other files are as before
 pub put_else : (n k : Name) (text : List ℕ) (d c : Folder) → k ≢ n → IsPut n text d c → c k ≡ d k
@@ -75,17 +76,17 @@ renews_by : {T E : Type 0} (index cache : List ℕ) (r : Result T E) (d e c : Fo
 renews_by index cache (Ok x) d e c is put = put ∙ ap (λ (f : Folder). with_file f name.Cache (Some cache)) is
 renews_by index cache (Err f) d e c is put = cache_renews index cache d e c is put
 
-module _ {S : Type 0} (files : S → Folder) (may_leave : S → Folder → Type 0) (moment : S → ℕ) (left_since : S → ℕ → Folder → Type 0) (index cache : List ℕ) where
-  pub first_renews : (old new : S) → Leaves files may_leave moment left_since (IsPut name.Index index) (IsPut name.Index index) old new → Leaves files may_leave moment left_since (IsRenewing index cache) (IsRenewing index cache) old new
+module _ {S : Type 0} (sees : SeesFolder S) (index cache : List ℕ) where
+  pub first_renews : (old new : S) → Leaves sees (IsPut name.Index index) (IsPut name.Index index) old new → Leaves sees (IsRenewing index cache) (IsRenewing index cache) old new
   first_renews old new first = record {
-    seen = index_renews index cache (files old) (files new) first.seen;
+    seen = index_renews index cache (sees.files old) (sees.files new) first.seen;
     crash = λ c left.
         let from = first.crash c left in
         (from.0, from.1, index_renews index cache from.0 c from.2);
-    since = weaker moment left_since old new (FromOneOf (may_leave old) (IsPut name.Index index)) (FromOneOf (may_leave old) (IsRenewing index cache)) first.since (λ c from. (from.0, from.1, index_renews index cache from.0 c from.2));
+    since = weaker sees old new (FromOneOf (sees.may_leave old) (IsPut name.Index index)) (FromOneOf (sees.may_leave old) (IsRenewing index cache)) first.since (λ c from. (from.0, from.1, index_renews index cache from.0 c from.2));
   }
 
-  pub both_renew : {T E : Type 0} (old mid new : S) (r : Result T E) → Leaves files may_leave moment left_since (λ d e. e ≡ with_index index d) (IsPut name.Index index) old mid → Leaves files may_leave moment left_since (Puts name.Cache cache r) (IsPut name.Cache cache) mid new
-      → Leaves files may_leave moment left_since (Renews index cache r) (IsRenewing index cache) old new
+  pub both_renew : {T E : Type 0} (old mid new : S) (r : Result T E) → Leaves sees (λ d e. e ≡ with_index index d) (IsPut name.Index index) old mid → Leaves sees (Puts name.Cache cache r) (IsPut name.Cache cache) mid new
+      → Leaves sees (Renews index cache r) (IsRenewing index cache) old new
   both_renew old mid new r first second =
-      leaves_both files may_leave moment left_since old mid new _ _ _ _ (Renews index cache r) (IsRenewing index cache) first second (λ d e c is put. renews_by index cache r d e c is put) (index_renews index cache) (λ d e c is put. cache_renews index cache d e c is put)
+      leaves_both sees old mid new _ _ _ _ (Renews index cache r) (IsRenewing index cache) first second (λ d e c is put. renews_by index cache r d e c is put) (index_renews index cache) (λ d e c is put. cache_renews index cache d e c is put)

@@ -20,29 +20,30 @@ use Rattle.dv_keeping.specs.Keeping.{Keeps}
 use Rattle.dv_phases.specs.Groups.{KeepsNext, WritesGroup, debt_after}
 use Rattle.dv_keeping.proofs.Kept.{beside_log, kept_same, same_messages}
 use Rattle.dv_keeping.proofs.Resting.{gives_as}
+use Rattle.dv_shelf.specs.Sees.{SeesFolder}
 
-module _ {S : Type 0} (files : S → Folder) (may_leave : S → Folder → Type 0) (moment : S → ℕ) (left_since : S → ℕ → Folder → Type 0)
-    (text : List ℕ) (log written : Log) (after : Mailbox) (chain next : Chain) (old new : S) (stands : Stands may_leave log Nothing chain old)
-    (pending : IsPending text after chain) (keeps_next : KeepsNext may_leave log written after old) {E : Type 0} (result : Result Committed E) (value : AdvancesChain text chain next result)
-    (group : CommitsGroup files may_leave moment left_since text after chain next result old new) (now : (c : Folder) → may_leave new c → left_since new (moment old) c) where
+module _ {S : Type 0} (sees : SeesFolder S)
+    (text : List ℕ) (log written : Log) (after : Mailbox) (chain next : Chain) (old new : S) (stands : Stands sees log Nothing chain old)
+    (pending : IsPending text after chain) (keeps_next : KeepsNext sees log written after old) {E : Type 0} (result : Result Committed E) (value : AdvancesChain text chain next result)
+    (group : CommitsGroup sees text after chain next result old new) (now : (c : Folder) → sees.may_leave new c → sees.left_since new (sees.moment old) c) where
   abbrev m : Mailbox
   m = chain.live.mailbox
 
   -- each folder now keeps both mailboxes
-  kept : (c : Folder) → may_leave new c → Keeps log m c × Keeps written after c
+  kept : (c : Folder) → sees.may_leave new c → Keeps log m c × Keeps written after c
   kept c left =
       let from = group.any_moment.each c (now c left) in (
         kept_same log m from.0 c (same_messages m from.0 c (beside_log from.0 c from.2.0)) (stands.keeps from.0 from.1),
         kept_same written after from.0 c (same_messages after from.0 c (beside_log from.0 c from.2.0)) (keeps_next.keeps from.0 from.1),
       )
 
-  gives : (c : Folder) → FromOneOf (may_leave old) (OpensBeside (rest.Pending text after) chain) c → MayGive log (Pending text after written) chain c
+  gives : (c : Folder) → FromOneOf (sees.may_leave old) (OpensBeside (rest.Pending text after) chain) c → MayGive log (Pending text after written) chain c
   gives c from =
       let one = kept_same log m from.0 c (same_messages m from.0 c (beside_log from.0 c from.2.0)) (stands.keeps from.0 from.1) in
       let other = kept_same written after from.0 c (same_messages after from.0 c (beside_log from.0 c from.2.0)) (keeps_next.keeps from.0 from.1) in
       ⊎_elim (λ opens. inl (gives_as log m (place_of chain) chain c stands.named opens one)) (λ opens. inr (gives_as written after (mark_behind text chain) chain c (keeps_next.named ∙ stands.named) opens other)) from.2.1
 
-  ok_by : (r : Result Committed E) → AdvancesChain text chain next r → OnOk r (Rests may_leave rest.Nothing next new) → OnOk r (Stands may_leave written Nothing next new)
+  ok_by : (r : Result Committed E) → AdvancesChain text chain next r → OnOk r (Rests sees rest.Nothing next new) → OnOk r (Stands sees written Nothing next new)
   ok_by (Ok x) value rests = record {
     named = keeps_next.named ∙ stands.named ∙ sym value.file.1;
     written = tt {0};
@@ -52,7 +53,7 @@ module _ {S : Type 0} (files : S → Folder) (may_leave : S → Folder → Type 
   }
   ok_by (Err e) value rests = rests
 
-  err_debt : (debt : LogDebt) → next.live ≡ chain.live → Rests may_leave (owed_after debt text after) next new → Stands may_leave log (debt_after debt text after written) next new
+  err_debt : (debt : LogDebt) → next.live ≡ chain.live → Rests sees (owed_after debt text after) next new → Stands sees log (debt_after debt text after written) next new
   err_debt log_debt.None same rests = record {
     named = stands.named ∙ sym value.file.1;
     written = tt {0};
@@ -68,14 +69,14 @@ module _ {S : Type 0} (files : S → Folder) (may_leave : S → Folder → Type 
     owed = λ c left. (kept c left).1;
   }
 
-  err_by : (r : Result Committed E) → AdvancesChain text chain next r → OnErr r (Rests may_leave (owed_after next.log.debt text after) next new) → OnErr r (Stands may_leave log (debt_after next.log.debt text after written) next new)
+  err_by : (r : Result Committed E) → AdvancesChain text chain next r → OnErr r (Rests sees (owed_after next.log.debt text after) next new) → OnErr r (Stands sees log (debt_after next.log.debt text after written) next new)
   err_by (Ok x) value rests = rests
   err_by (Err e) value rests = err_debt next.log.debt value.failed.0 rests
 
-  pub group_written : WritesGroup files may_leave moment left_since text after log written chain next result old new
+  pub group_written : WritesGroup sees text after log written chain next result old new
   group_written = record {
     ok = ok_by result value group.ok;
     err = err_by result value group.err;
-    any_moment = weaker moment left_since old new (FromOneOf (may_leave old) (OpensBeside (rest.Pending text after) chain)) (MayGive log (Pending text after written) chain) group.any_moment gives;
+    any_moment = weaker sees old new (FromOneOf (sees.may_leave old) (OpensBeside (rest.Pending text after) chain)) (MayGive log (Pending text after written) chain) group.any_moment gives;
     others = group.others;
   }

@@ -1,4 +1,4 @@
--- What a commit does to a store at rest. The records take the members of a shelf's type.
+-- What a commit does to a store at rest. The records take what a shelf shows.
 use Rattle.std.specs.Prelude.{◌≡◌, ℕ, List, Result, OnOk, OnErr}
 use Rattle.dv_model.specs.declared.types.Mailbox.{Mailbox}
 use Rattle.dv_model.specs.Journals.{Log}
@@ -10,29 +10,29 @@ use Rattle.dv_chain.specs.declared.chain.Chain.{Chain}
 use Rattle.dv_commits.specs.Commits.{KeepsOthers}
 use Rattle.dv_keeping.specs.Debts.{Debt, MayGive, Nothing, Pending, Stands}
 use Rattle.dv_keeping.specs.Keeping.{Keeps}
+use Rattle.dv_shelf.specs.Sees.{SeesFolder}
 
 -- the log with the group is of the same index, and each folder that a crash now may leave keeps the
 -- mailbox with the group
-pub record KeepsNext {S : Type 0} (may_leave : S → Folder → Type 0) (log written : Log)
+pub record KeepsNext {S : Type 0} (sees : SeesFolder S) (log written : Log)
     (after : Mailbox) (shelf : S) : Type 0 where
   pub named : written.indexid ≡ log.indexid
-  pub keeps : (c : Folder) → may_leave shelf c → Keeps written after c
+  pub keeps : (c : Folder) → sees.may_leave shelf c → Keeps written after c
 
 -- what is owed behind a commit that failed, by the log's debt
 abbrev pub debt_after : LogDebt → List ℕ → Mailbox → Log → Debt
 debt_after log_debt.None text after written = Nothing
 debt_after log_debt.Gate text after written = Pending text after written
 
--- At any moment a crash leaves a folder that gives the mailbox, or that with the group. Behind Ok the
--- store is at rest with the group and owes nothing, behind an error it is as before, and owes what
--- the log does.
-pub record WritesGroup {S : Type 0} (files : S → Folder) (may_leave : S → Folder → Type 0)
-    (moment : S → ℕ) (left_since : S → ℕ → Folder → Type 0) (text : List ℕ) (after : Mailbox)
+-- At any moment a crash leaves a folder that gives the mailbox, or that with the group. Behind Ok
+-- the store is at rest with the group and owes nothing, behind an error it is as before, and owes
+-- what the log does.
+pub record WritesGroup {S : Type 0} (sees : SeesFolder S) (text : List ℕ) (after : Mailbox)
     (log written : Log) (chain new_chain : Chain) {T E : Type 0} (result : Result T E) (old new : S)
     : Type 0 where
-  pub ok : OnOk result (Stands may_leave written Nothing new_chain new)
+  pub ok : OnOk result (Stands sees written Nothing new_chain new)
   pub err : OnErr result
-      (Stands may_leave log (debt_after new_chain.log.debt text after written) new_chain new)
-  pub any_moment : LeavesOnly moment left_since old new
+      (Stands sees log (debt_after new_chain.log.debt text after written) new_chain new)
+  pub any_moment : LeavesOnly sees old new
       (MayGive log (Pending text after written) chain)
-  pub others : KeepsOthers (files old) (files new)
+  pub others : KeepsOthers (sees.files old) (sees.files new)

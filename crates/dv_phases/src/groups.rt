@@ -29,15 +29,16 @@ pub fn commit_group<S: Shelf>(
     // The mailbox, the mark, the touched UIDs and the debt; what an error keeps.
     ensures value { AdvancesChain text.now chain.old chain.new result }
     // What the folder gives, at any moment and afterwards; the files but the log stay.
-    ensures gives { S.tells → (log written : Log) (after : Mailbox) →
-        Stands S.may_leave log Nothing chain.old shelf.old →
+    ensures gives { S.sees.tells → (log written : Log) (after : Mailbox) →
+        Stands S.sees log Nothing chain.old shelf.old →
         IsPending text.now after chain.old →
-        KeepsNext S.may_leave log written after shelf.old →
-        WritesGroup S.files S.may_leave S.moment S.left_since text.now after log written
+        KeepsNext S.sees log written after shelf.old →
+        WritesGroup S.sees text.now after log written
         chain.old chain.new result shelf.old shelf.new }
     // No message file is read; a fault of the disk has its cause.
-    ensures mail_reads { S.mail_reads shelf.new ≡ S.mail_reads shelf.old }
-    ensures cause { HasDiskCause (S.fault_count shelf.old) (S.fault_count shelf.new) result }
+    ensures mail_reads { S.sees.mail_reads shelf.new ≡ S.sees.mail_reads shelf.old }
+    ensures cause { HasDiskCause (S.sees.fault_count shelf.old) (S.sees.fault_count shelf.new)
+        result }
 {
     commit(chain, shelf, text, prepared)
 }

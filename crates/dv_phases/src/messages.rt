@@ -20,22 +20,22 @@ use dv_shelf::{Failed, Shelf};
 /// or has the text.
 pub fn put_message<S: Shelf>(chain: &Chain, shelf: &mut S, text: &Bytes) -> Result<(), Failed>
     // This file alone, in the files and in what a crash leaves of them.
-    ensures leaves { S.tells → Leaves S.files S.may_leave S.moment S.left_since
+    ensures leaves { S.sees.tells → Leaves S.sees
         (Puts (name.Mail chain.now.live.mailbox.next_uid) text.now result)
         (IsPut (name.Mail chain.now.live.mailbox.next_uid) text.now) shelf.old shelf.new }
     // Behind Ok the message is there with its GUID, whatever a crash leaves.
-    ensures held { S.tells → (message guid : List ℕ) → IsFileOf message guid text.now →
-        OnOk result (HoldsMail S.files S.may_leave chain.now.live.mailbox.next_uid
+    ensures held { S.sees.tells → (message guid : List ℕ) → IsFileOf message guid text.now →
+        OnOk result (HoldsMail S.sees chain.now.live.mailbox.next_uid
         message guid shelf.new) }
     // No row has that UID.
     ensures valid { IsValid chain.now.live.mailbox }
     // What the folder gives stays, at any moment.
-    ensures quiet { S.tells → (log : Log) →
-        Stands S.may_leave log Nothing chain.now shelf.old →
-        IsQuiet S.may_leave S.moment S.left_since log chain.now shelf.old shelf.new }
+    ensures quiet { S.sees.tells → (log : Log) →
+        Stands S.sees log Nothing chain.now shelf.old →
+        IsQuiet S.sees log chain.now shelf.old shelf.new }
     // No message file is read; an error has its cause.
-    ensures mail_reads { S.mail_reads shelf.new ≡ S.mail_reads shelf.old }
-    ensures cause { HasCause (S.fault_count shelf.old) (S.fault_count shelf.new) result }
+    ensures mail_reads { S.sees.mail_reads shelf.new ≡ S.sees.mail_reads shelf.old }
+    ensures cause { HasCause (S.sees.fault_count shelf.old) (S.sees.fault_count shelf.new) result }
 {
     put(shelf, chain.live.next_uid(), text)
 }

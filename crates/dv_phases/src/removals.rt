@@ -66,15 +66,15 @@ pub fn unlisted(alloc: Global, live: &Live, names: &List<Name>) -> Result<List<u
 pub fn clear<S: Shelf>(chain: &Chain, shelf: &mut S, uids: &[u32]) -> Result<(), Failed>
     requires { All (IsFree chain.now.live.mailbox) uids.now }
     // Behind Ok they are gone; every other file stays.
-    ensures leaves { S.tells → Leaves S.files S.may_leave S.moment S.left_since
+    ensures leaves { S.sees.tells → Leaves S.sees
         (Sweeps uids.now result) (IsSweeping uids.now) shelf.old shelf.new }
     // What the folder gives stays, at any moment.
-    ensures quiet { S.tells → (log : Log) →
-        Stands S.may_leave log Nothing chain.now shelf.old →
-        IsQuiet S.may_leave S.moment S.left_since log chain.now shelf.old shelf.new }
+    ensures quiet { S.sees.tells → (log : Log) →
+        Stands S.sees log Nothing chain.now shelf.old →
+        IsQuiet S.sees log chain.now shelf.old shelf.new }
     // No message file is read; an error has its cause.
-    ensures mail_reads { S.mail_reads shelf.new ≡ S.mail_reads shelf.old }
-    ensures cause { HasCause (S.fault_count shelf.old) (S.fault_count shelf.new) result }
+    ensures mail_reads { S.sees.mail_reads shelf.new ≡ S.sees.mail_reads shelf.old }
+    ensures cause { HasCause (S.sees.fault_count shelf.old) (S.sees.fault_count shelf.new) result }
 {
     sweep(shelf, uids)
 }

@@ -17,10 +17,10 @@ use dv_shelf::{Failed, Name, Shelf};
 
 /// Replaces the cache file.
 fn put_cache<S: Shelf>(shelf: &mut S, text: &Bytes) -> Result<(), Failed>
-    ensures leaves { S.tells → Leaves S.files S.may_leave S.moment S.left_since
+    ensures leaves { S.sees.tells → Leaves S.sees
         (Puts name.Cache text.now result) (IsPut name.Cache text.now) shelf.old shelf.new }
-    ensures mail_reads { S.mail_reads shelf.new ≡ S.mail_reads shelf.old }
-    ensures cause { HasCause (S.fault_count shelf.old) (S.fault_count shelf.new) result }
+    ensures mail_reads { S.sees.mail_reads shelf.new ≡ S.sees.mail_reads shelf.old }
+    ensures cause { HasCause (S.sees.fault_count shelf.old) (S.sees.fault_count shelf.new) result }
 {
     shelf.replace(Name::Cache, text.as_slice())
 }
@@ -36,17 +36,17 @@ pub fn renew<S: Shelf>(
 ) -> Result<(), Failed>
     requires index { IsSnapshotOf chain.now index.now }
     // Both files, in this order; every other file stays.
-    ensures leaves { S.tells → Leaves S.files S.may_leave S.moment S.left_since
+    ensures leaves { S.sees.tells → Leaves S.sees
         (Renews index.now cache.now result) (IsRenewing index.now cache.now)
         shelf.old shelf.new }
     // What the folder gives stays, at any moment.
-    ensures quiet { S.tells → (log : Log) →
-        Stands S.may_leave log Nothing chain.now shelf.old →
+    ensures quiet { S.sees.tells → (log : Log) →
+        Stands S.sees log Nothing chain.now shelf.old →
         IsCacheOf log chain.now.live.mailbox cache.now →
-        IsQuiet S.may_leave S.moment S.left_since log chain.now shelf.old shelf.new }
+        IsQuiet S.sees log chain.now shelf.old shelf.new }
     // No message file is read; an error has its cause.
-    ensures mail_reads { S.mail_reads shelf.new ≡ S.mail_reads shelf.old }
-    ensures cause { HasCause (S.fault_count shelf.old) (S.fault_count shelf.new) result }
+    ensures mail_reads { S.sees.mail_reads shelf.new ≡ S.sees.mail_reads shelf.old }
+    ensures cause { HasCause (S.sees.fault_count shelf.old) (S.sees.fault_count shelf.new) result }
 {
     checkpoint(chain, shelf, index)?;
     put_cache(shelf, cache)

@@ -82,15 +82,16 @@ fn before_change<S: Shelf>(
     requires owing { IsOwing chain.now owed.now }
     requires turn { is_some times.turn ≡ turns owed.now chain.now }
     ensures is { IfOk result (IsBefore c.now uids.now owed.now chain.now times) }
-    ensures read { S.tells → IfOk result
-        (IsRead c.now uids.now chain.now times.received (S.files shelf.old)) }
+    ensures read { S.sees.tells → IfOk result
+        (IsRead c.now uids.now chain.now times.received (S.sees.files shelf.old)) }
     // Nothing is changed.
-    ensures looks { S.tells →
-        OnlyLooks S.files S.may_leave S.moment S.left_since shelf.old shelf.new }
+    ensures looks { S.sees.tells →
+        OnlyLooks S.sees shelf.old shelf.new }
     // Each of these message files is read once; a fault of the disk has its cause.
     ensures mail_reads { CountsMails (length (removed_of c.now uids.now))
-        (S.mail_reads shelf.old) (S.mail_reads shelf.new) result }
-    ensures cause { HasFaultCause (S.fault_count shelf.old) (S.fault_count shelf.new) result }
+        (S.sees.mail_reads shelf.old) (S.sees.mail_reads shelf.new) result }
+    ensures cause { HasFaultCause (S.sees.fault_count shelf.old) (S.sees.fault_count shelf.new)
+        result }
 {
     let guids = removed_guids(alloc, c, uids, shelf)?;
     let turn = turn_at(alloc, chain, shelf, times.turn)?;
@@ -114,15 +115,16 @@ pub fn read_before<S: Shelf>(
     requires owing { IsOwing chain.now owed.now }
     requires turn { is_some times.turn ≡ turns owed.now chain.now }
     ensures is { IfOk result (IsBefore c.now uids.now owed.now chain.now times) }
-    ensures read { S.tells → IfOk result
-        (IsRead c.now uids.now chain.now times.received (S.files shelf.old)) }
+    ensures read { S.sees.tells → IfOk result
+        (IsRead c.now uids.now chain.now times.received (S.sees.files shelf.old)) }
     // Nothing is changed.
-    ensures looks { S.tells →
-        OnlyLooks S.files S.may_leave S.moment S.left_since shelf.old shelf.new }
+    ensures looks { S.sees.tells →
+        OnlyLooks S.sees shelf.old shelf.new }
     // Each of these message files is read once; a fault of the disk has its cause.
     ensures mail_reads { CountsMails (reads_of c.now chain.now.live.mailbox uids.now)
-        (S.mail_reads shelf.old) (S.mail_reads shelf.new) result }
-    ensures cause { HasFaultCause (S.fault_count shelf.old) (S.fault_count shelf.new) result }
+        (S.sees.mail_reads shelf.old) (S.sees.mail_reads shelf.new) result }
+    ensures cause { HasFaultCause (S.sees.fault_count shelf.old) (S.sees.fault_count shelf.new)
+        result }
 {
     match c {
         Command::Check => before_check(alloc, chain, owed, times, shelf),

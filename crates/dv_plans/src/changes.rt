@@ -65,15 +65,16 @@ pub fn plan_group<S: Shelf>(
 ) -> Result<Group, StoreFault>
     // The group, over any shelf with some GUIDs.
     ensures group { IfOk result (IsGroupOf c.now view.now live.now.mailbox) }
-    ensures read { S.tells → IfOk result (λ group. group
-        ≡ group_of c.now view.now live.now.mailbox (guid_at (S.files shelf.old))) }
+    ensures read { S.sees.tells → IfOk result (λ group. group
+        ≡ group_of c.now view.now live.now.mailbox (guid_at (S.sees.files shelf.old))) }
     // Nothing is changed.
-    ensures looks { S.tells →
-        OnlyLooks S.files S.may_leave S.moment S.left_since shelf.old shelf.new }
+    ensures looks { S.sees.tells →
+        OnlyLooks S.sees shelf.old shelf.new }
     // Each of these message files is read once; a fault of the disk has its cause.
     ensures mail_reads { CountsMails (length (expunged_uids c.now view.now live.now.mailbox))
-        (S.mail_reads shelf.old) (S.mail_reads shelf.new) result }
-    ensures cause { HasStoreCause (S.fault_count shelf.old) (S.fault_count shelf.new) result }
+        (S.sees.mail_reads shelf.old) (S.sees.mail_reads shelf.new) result }
+    ensures cause { HasStoreCause (S.sees.fault_count shelf.old) (S.sees.fault_count shelf.new)
+        result }
 {
     have_bounds(view, live);
     let uids = changed_uids(alloc, c, view, live)?;

@@ -52,7 +52,7 @@ pub fn chain_fault(told: ChainFault) -> StoreFault
 
 /// What a shelf answers, with its count of faults.
 pub fn told<S: Shelf>(shelf: &S, fault: ShelfFault) -> ChainFault
-    ensures { result ≡ shelf_told (S.fault_count shelf.now) fault }
+    ensures { result ≡ shelf_told (S.sees.fault_count shelf.now) fault }
 {
     match fault {
         ShelfFault::Failed => ChainFault::Disk(shelf.faults()),

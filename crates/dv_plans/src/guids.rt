@@ -27,15 +27,16 @@ pub fn removed_guids<S: Shelf>(
 ) -> Result<List<GuidRow>, ChainFault>
     // The GUIDs beside the UIDs.
     ensures beside { IfOk result (AreGuidsOf (removed_of c.now uids.now)) }
-    ensures rows { S.tells → IfOk result
-        (λ rows. rows ≡ guid_rows (S.files shelf.old) (removed_of c.now uids.now)) }
+    ensures rows { S.sees.tells → IfOk result
+        (λ rows. rows ≡ guid_rows (S.sees.files shelf.old) (removed_of c.now uids.now)) }
     // Nothing is changed.
-    ensures looks { S.tells →
-        OnlyLooks S.files S.may_leave S.moment S.left_since shelf.old shelf.new }
+    ensures looks { S.sees.tells →
+        OnlyLooks S.sees shelf.old shelf.new }
     // Each of these message files is read once; a fault of the disk has its cause.
     ensures mail_reads { CountsMails (length (removed_of c.now uids.now))
-        (S.mail_reads shelf.old) (S.mail_reads shelf.new) result }
-    ensures cause { HasFaultCause (S.fault_count shelf.old) (S.fault_count shelf.new) result }
+        (S.sees.mail_reads shelf.old) (S.sees.mail_reads shelf.new) result }
+    ensures cause { HasFaultCause (S.sees.fault_count shelf.old) (S.sees.fault_count shelf.new)
+        result }
 {
     if !removes(c) {
         return Ok(List::new(alloc));

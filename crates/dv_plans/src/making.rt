@@ -55,24 +55,25 @@ pub fn make_ready<S: Shelf, C: Clock>(
         ((shelf.new ≡ shelf.old) × (clock.new ≡ clock.old)) }
     // The group, its text and the steps, over any shelf; what they are by the folder and the time.
     ensures steps { OnPlan result (IsPlanOf c.now view.now owed.now chain.new) }
-    ensures write { S.tells → C.tells → OnPlan result
+    ensures write { S.sees.tells → C.sees.tells → OnPlan result
         (PlansEach c.now view.now owed.now
-        (received_at (turns owed.now chain.old) (C.upcoming clock.old))
-        chain.new (S.files shelf.new)) }
-    ensures files { S.tells → C.tells → OnPlan result (λ plan. AreFilesMade chain.old
-        (received_at (turns owed.now chain.old) (C.upcoming clock.old))
-        (S.files shelf.old) c.now plan.steps.files) }
+        (received_at (turns owed.now chain.old) (C.sees.upcoming clock.old))
+        chain.new (S.sees.files shelf.new)) }
+    ensures files { S.sees.tells → C.sees.tells → OnPlan result (λ plan. AreFilesMade chain.old
+        (received_at (turns owed.now chain.old) (C.sees.upcoming clock.old))
+        (S.sees.files shelf.old) c.now plan.steps.files) }
     // Nothing is changed.
-    ensures looks { S.tells →
-        OnlyLooks S.files S.may_leave S.moment S.left_since shelf.old shelf.new }
+    ensures looks { S.sees.tells →
+        OnlyLooks S.sees shelf.old shelf.new }
     // The readings of the clock; each of these message files is read once; a fault has its cause.
-    ensures clock { C.tells → TakesReadings (readings_of c.now owed.now chain.old)
-        (C.upcoming clock.old) (C.upcoming clock.new) result }
+    ensures clock { C.sees.tells → TakesReadings (readings_of c.now owed.now chain.old)
+        (C.sees.upcoming clock.old) (C.sees.upcoming clock.new) result }
     ensures mail_reads { CountsPlanned
         (reads_of c.now chain.old.live.mailbox
         (changed_uids c.now view.now chain.old.live.mailbox))
-        (S.mail_reads shelf.old) (S.mail_reads shelf.new) result }
-    ensures cause { HasStoreCause (S.fault_count shelf.old) (S.fault_count shelf.new) result }
+        (S.sees.mail_reads shelf.old) (S.sees.mail_reads shelf.new) result }
+    ensures cause { HasStoreCause (S.sees.fault_count shelf.old) (S.sees.fault_count shelf.new)
+        result }
 {
     let found = find_changes(alloc, c, view, chain)?;
     let uids = match found {

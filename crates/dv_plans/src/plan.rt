@@ -59,22 +59,23 @@ pub fn make_plan<S: Shelf, C: Clock>(
     ensures chain { AreEqual chain.new chain.old }
     // The group, its text and the steps, over any shelf; what they are by the folder and the time.
     ensures steps { IfOk result (IsPlanOf c.now view.now owed.now chain.new) }
-    ensures write { S.tells → C.tells → IfOk result
+    ensures write { S.sees.tells → C.sees.tells → IfOk result
         (PlansEach c.now view.now owed.now
-        (received_at (turns owed.now chain.old) (C.upcoming clock.old))
-        chain.new (S.files shelf.new)) }
-    ensures files { S.tells → C.tells → IfOk result (λ plan. AreFilesMade chain.old
-        (received_at (turns owed.now chain.old) (C.upcoming clock.old))
-        (S.files shelf.old) c.now plan.steps.files) }
+        (received_at (turns owed.now chain.old) (C.sees.upcoming clock.old))
+        chain.new (S.sees.files shelf.new)) }
+    ensures files { S.sees.tells → C.sees.tells → IfOk result (λ plan. AreFilesMade chain.old
+        (received_at (turns owed.now chain.old) (C.sees.upcoming clock.old))
+        (S.sees.files shelf.old) c.now plan.steps.files) }
     // Nothing is changed.
-    ensures looks { S.tells →
-        OnlyLooks S.files S.may_leave S.moment S.left_since shelf.old shelf.new }
+    ensures looks { S.sees.tells →
+        OnlyLooks S.sees shelf.old shelf.new }
     // The readings of the clock; each of these message files is read once; a fault has its cause.
-    ensures clock { C.tells → C.upcoming clock.new
-        ≡ behind (C.upcoming clock.old) (readings_of c.now owed.now chain.old) }
+    ensures clock { C.sees.tells → C.sees.upcoming clock.new
+        ≡ behind (C.sees.upcoming clock.old) (readings_of c.now owed.now chain.old) }
     ensures mail_reads { CountsMails (reads_of c.now chain.old.live.mailbox uids.now)
-        (S.mail_reads shelf.old) (S.mail_reads shelf.new) result }
-    ensures cause { HasFaultCause (S.fault_count shelf.old) (S.fault_count shelf.new) result }
+        (S.sees.mail_reads shelf.old) (S.sees.mail_reads shelf.new) result }
+    ensures cause { HasFaultCause (S.sees.fault_count shelf.old) (S.sees.fault_count shelf.new)
+        result }
 {
     have_bounds(view, &chain.live);
     let times = read_times(clock, is_turn_due(chain, owed), is_append(c));

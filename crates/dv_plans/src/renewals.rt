@@ -30,13 +30,14 @@ use std::alloc::Global;
 /// folder once, and writes nothing.
 fn gone_uids<S: Shelf>(alloc: Global, live: &Live, shelf: &mut S) -> Result<List<u32>, ChainFault>
     ensures free { IfOk result (All (IsFree live.now.mailbox)) }
-    ensures gone { S.tells → IfOk result (AreGone live.now.mailbox (S.files shelf.old)) }
+    ensures gone { S.sees.tells → IfOk result (AreGone live.now.mailbox (S.sees.files shelf.old)) }
     // Nothing is changed.
-    ensures looks { S.tells →
-        OnlyLooks S.files S.may_leave S.moment S.left_since shelf.old shelf.new }
+    ensures looks { S.sees.tells →
+        OnlyLooks S.sees shelf.old shelf.new }
     // No message file is read; a fault of the disk has its cause.
-    ensures mail_reads { CountsReads 0 (S.mail_reads shelf.old) (S.mail_reads shelf.new) }
-    ensures cause { HasFaultCause (S.fault_count shelf.old) (S.fault_count shelf.new) result }
+    ensures mail_reads { CountsReads 0 (S.sees.mail_reads shelf.old) (S.sees.mail_reads shelf.new) }
+    ensures cause { HasFaultCause (S.sees.fault_count shelf.old) (S.sees.fault_count shelf.new)
+        result }
 {
     let names = match shelf.list(alloc) {
         Ok(names) => names,
@@ -49,14 +50,15 @@ fn gone_uids<S: Shelf>(alloc: Global, live: &Live, shelf: &mut S) -> Result<List
 /// file once, by rising UID, and writes nothing.
 fn next_cache<S: Shelf>(alloc: Global, chain: &Chain, shelf: &mut S) -> Result<Bytes, ChainFault>
     requires { length chain.now.live.mailbox.rows ≤ 8388608 }
-    ensures text { S.tells → IfOk result (IsNextCache chain.now (S.files shelf.old)) }
+    ensures text { S.sees.tells → IfOk result (IsNextCache chain.now (S.sees.files shelf.old)) }
     // Nothing is changed.
-    ensures looks { S.tells →
-        OnlyLooks S.files S.may_leave S.moment S.left_since shelf.old shelf.new }
+    ensures looks { S.sees.tells →
+        OnlyLooks S.sees shelf.old shelf.new }
     // Each of their message files is read once; a fault of the disk has its cause.
     ensures mail_reads { CountsMails (length chain.now.live.mailbox.rows)
-        (S.mail_reads shelf.old) (S.mail_reads shelf.new) result }
-    ensures cause { HasFaultCause (S.fault_count shelf.old) (S.fault_count shelf.new) result }
+        (S.sees.mail_reads shelf.old) (S.sees.mail_reads shelf.new) result }
+    ensures cause { HasFaultCause (S.sees.fault_count shelf.old) (S.sees.fault_count shelf.new)
+        result }
 {
     match cache_of_messages(alloc, shelf, chain, next_cache_number(&chain.live)) {
         Ok(text) => Ok(text),
@@ -78,15 +80,16 @@ pub fn before_check<S: Shelf>(
     requires turn { is_some times.turn ≡ turns owed.now chain.now }
     ensures is { (uids : Listed ℕ) →
         IfOk result (IsBefore Command.Check uids owed.now chain.now times) }
-    ensures read { S.tells → (uids : Listed ℕ) → IfOk result
-        (IsRead Command.Check uids chain.now times.received (S.files shelf.old)) }
+    ensures read { S.sees.tells → (uids : Listed ℕ) → IfOk result
+        (IsRead Command.Check uids chain.now times.received (S.sees.files shelf.old)) }
     // Nothing is changed.
-    ensures looks { S.tells →
-        OnlyLooks S.files S.may_leave S.moment S.left_since shelf.old shelf.new }
+    ensures looks { S.sees.tells →
+        OnlyLooks S.sees shelf.old shelf.new }
     // Each of their message files is read once; a fault of the disk has its cause.
     ensures mail_reads { CountsMails (length chain.now.live.mailbox.rows)
-        (S.mail_reads shelf.old) (S.mail_reads shelf.new) result }
-    ensures cause { HasFaultCause (S.fault_count shelf.old) (S.fault_count shelf.new) result }
+        (S.sees.mail_reads shelf.old) (S.sees.mail_reads shelf.new) result }
+    ensures cause { HasFaultCause (S.sees.fault_count shelf.old) (S.sees.fault_count shelf.new)
+        result }
 {
     let cache = next_cache(alloc, chain, shelf)?;
     let turn = turn_at(alloc, chain, shelf, times.turn)?;

@@ -29,8 +29,8 @@ pub fn is_turn_due(chain: &Chain, owed: &Option<Turn>) -> bool
 /// One reading for a new log file.
 fn turn_time<C: Clock>(clock: &mut C, turns: bool) -> Option<u32>
     ensures turn { is_some result ≡ turns }
-    ensures clock { C.tells →
-        C.upcoming clock.new ≡ behind (C.upcoming clock.old) (count_of turns) }
+    ensures clock { C.sees.tells →
+        C.sees.upcoming clock.new ≡ behind (C.sees.upcoming clock.old) (count_of turns) }
 {
     if !turns {
         return None;
@@ -40,9 +40,9 @@ fn turn_time<C: Clock>(clock: &mut C, turns: bool) -> Option<u32>
 
 /// One reading for a message.
 fn message_time<C: Clock>(clock: &mut C, appends: bool) -> u32
-    ensures received { C.tells → appends ≡ true → result ≡ C.upcoming clock.old 0 }
-    ensures clock { C.tells →
-        C.upcoming clock.new ≡ behind (C.upcoming clock.old) (count_of appends) }
+    ensures received { C.sees.tells → appends ≡ true → result ≡ C.sees.upcoming clock.old 0 }
+    ensures clock { C.sees.tells →
+        C.sees.upcoming clock.new ≡ behind (C.sees.upcoming clock.old) (count_of appends) }
 {
     if !appends {
         return 0;
@@ -53,10 +53,10 @@ fn message_time<C: Clock>(clock: &mut C, appends: bool) -> u32
 /// Reads the clock once where the log is rotated, and then once where a message is appended.
 pub fn read_times<C: Clock>(clock: &mut C, turns: bool, appends: bool) -> Times
     ensures turn { is_some result.turn ≡ turns }
-    ensures received { C.tells → appends ≡ true →
-        result.received ≡ received_at turns (C.upcoming clock.old) }
-    ensures clock { C.tells → C.upcoming clock.new
-        ≡ behind (C.upcoming clock.old) (count_of turns + count_of appends) }
+    ensures received { C.sees.tells → appends ≡ true →
+        result.received ≡ received_at turns (C.sees.upcoming clock.old) }
+    ensures clock { C.sees.tells → C.sees.upcoming clock.new
+        ≡ behind (C.sees.upcoming clock.old) (count_of turns + count_of appends) }
 {
     let turn = turn_time(clock, turns);
     let received = message_time(clock, appends);

@@ -24,14 +24,15 @@ pub fn turn_at<S: Shelf>(
     // The texts.
     ensures is { IfOk result (λ made. (is_some made ≡ is_some time)
         × IfSome made (IsTurnOf chain.now)) }
-    ensures closes { S.tells → IfOk result (λ made. IfSome made
-        (λ turn. ClosesLog chain.now turn (S.files shelf.old))) }
+    ensures closes { S.sees.tells → IfOk result (λ made. IfSome made
+        (λ turn. ClosesLog chain.now turn (S.sees.files shelf.old))) }
     // Nothing is changed.
-    ensures looks { S.tells →
-        OnlyLooks S.files S.may_leave S.moment S.left_since shelf.old shelf.new }
+    ensures looks { S.sees.tells →
+        OnlyLooks S.sees shelf.old shelf.new }
     // No message file is read; a fault of the disk has its cause.
-    ensures mail_reads { CountsReads 0 (S.mail_reads shelf.old) (S.mail_reads shelf.new) }
-    ensures cause { HasFaultCause (S.fault_count shelf.old) (S.fault_count shelf.new) result }
+    ensures mail_reads { CountsReads 0 (S.sees.mail_reads shelf.old) (S.sees.mail_reads shelf.new) }
+    ensures cause { HasFaultCause (S.sees.fault_count shelf.old) (S.sees.fault_count shelf.new)
+        result }
 {
     match time {
         Some(now) => Ok(Some(turn(alloc, chain, shelf, now)?)),

@@ -25,7 +25,7 @@ anew_none log before start made none is all = all ∙ ap (with_file log) is ∙ 
 -- ---- from a snapshot
 
 module _ (log : GoodLog) (s : Snapshot) where
-  there_in_log : (left : List Spot) → s.mark.file_seq ≡ log.header.file_seq → records_from log s.mark.offset ≡ Some left
+  pub there_in_log : (left : List Spot) → s.mark.file_seq ≡ log.header.file_seq → records_from log s.mark.offset ≡ Some left
       → salvaged_in_log log s ≡ Some (with_file_from log s.mark.offset left (from_snapshot (with_numbers s (number_before log left))))
   there_in_log left seq there = rw (eq-eqb s.mark.file_seq log.header.file_seq seq, there, salvaged_in_log) refl
 
@@ -48,7 +48,7 @@ module _ (log : GoodLog) (s : Snapshot) where
       in_first : salvaged_in_rotated log (Some first) s ≡ None
       in_first = rw (seq, there, salvaged_in_rotated) refl
 
-  there_in_first : (first : GoodLog) (left : List Spot) → nat_eq (s.mark.file_seq + 1) log.header.file_seq ≡ true → records_from first s.mark.offset ≡ Some left
+  pub there_in_first : (first : GoodLog) (left : List Spot) → nat_eq (s.mark.file_seq + 1) log.header.file_seq ≡ true → records_from first s.mark.offset ≡ Some left
       → salvaged_in_rotated log (Some first) s ≡ Some (with_file log (with_file_from first s.mark.offset left (from_snapshot (with_numbers s (number_before first left)))))
   there_in_first first left seq there = rw (seq, there, salvaged_in_rotated) refl
 

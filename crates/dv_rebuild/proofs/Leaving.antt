@@ -16,6 +16,7 @@ use Rattle.dv_rebuild.specs.declared.planning.NewLog.{NewLog}
 use Rattle.dv_rebuild.specs.declared.rebuilding.Rebuilt.{Rebuilt}
 use Rattle.dv_rebuild.specs.Rebuilding.{IsOldOrPut, IsOldOrRebuilt, IsPrepared, IsRebuilt, LeavesPut, LeavesRebuilt, Rebuilds}
 use Rattle.dv_rebuild.proofs.Opens.{rebuilt_opens}
+use Rattle.dv_shelf.specs.Sees.{SeesFolder}
 
 module _ (old : Folder) (now : ℕ) (log : NewLog) (rebuilt : Rebuilt) (is : IsPrepared old now (log, rebuilt)) (clock : now < 2 ^ 32) where
   abbrev pub put_rebuilds : (new : Folder) → new ≡ with_file old name.Log (Some log.text) → IsRebuilt old now new
@@ -30,7 +31,7 @@ module _ (old : Folder) (now : ℕ) (log : NewLog) (rebuilt : Rebuilt) (is : IsP
       }
 
   pub put_told : (new : Folder) → new ≡ with_file old name.Log (Some log.text) → Rebuilds old now new rebuilt
-  put_told new put = record { made = put_rebuilds new put; tells = is.tells }
+  put_told new put = record { made = put_rebuilds new put; tells = is.tells; reports = is.reports }
 
   pub either_rebuilt : (new : Folder) → IsOldOrPut old log.text new → IsOldOrRebuilt old now new
   either_rebuilt new step = ⊎_elim (λ same. inl same) (λ put. inr (put_rebuilds new put)) step
@@ -39,10 +40,10 @@ module _ (old : Folder) (now : ℕ) (log : NewLog) (rebuilt : Rebuilt) (is : IsP
   fault_left new fault.NoMemory leaves = absurd leaves
   fault_left new (fault.Disk n) leaves = either_rebuilt new leaves
 
-module _ {S : Type 0} (files : S → Folder) (may_leave : S → Folder → Type 0) (moment : S → ℕ) (left_since : S → ℕ → Folder → Type 0) where
-  pub rebuilt_since : (old mid new : S) (now : ℕ) (log : NewLog) (rebuilt : Rebuilt) → IsPrepared (files old) now (log, rebuilt) → now < 2 ^ 32 → Only (files old) (may_leave old) → OnlyLooks files may_leave moment left_since old mid
-      → LeavesOnly moment left_since mid new (IsOldOrPut (files mid) log.text) → LeavesOnly moment left_since old new (IsOldOrRebuilt (files old) now)
+module _ {S : Type 0} (sees : SeesFolder S) where
+  pub rebuilt_since : (old mid new : S) (now : ℕ) (log : NewLog) (rebuilt : Rebuilt) → IsPrepared (sees.files old) now (log, rebuilt) → now < 2 ^ 32 → Only (sees.files old) (sees.may_leave old) → OnlyLooks sees old mid
+      → LeavesOnly sees mid new (IsOldOrPut (sees.files mid) log.text) → LeavesOnly sees old new (IsOldOrRebuilt (sees.files old) now)
   rebuilt_since old mid new now log rebuilt is clock only looks since =
-      looked_then files may_leave moment left_since old mid new (IsOldOrRebuilt (files old) now) only (inl refl) looks
-      (weaker moment left_since mid new (IsOldOrPut (files mid) log.text) (IsOldOrRebuilt (files old) now) since
-      (λ c step. either_rebuilt (files old) now log rebuilt is clock c (subst (λ (d : Folder). IsOldOrPut d log.text c) looks.same step)))
+      looked_then sees old mid new (IsOldOrRebuilt (sees.files old) now) only (inl refl) looks
+      (weaker sees mid new (IsOldOrPut (sees.files mid) log.text) (IsOldOrRebuilt (sees.files old) now) since
+      (λ c step. either_rebuilt (sees.files old) now log rebuilt is clock c (subst (λ (d : Folder). IsOldOrPut d log.text c) looks.same step)))

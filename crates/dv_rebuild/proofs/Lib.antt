@@ -1,8 +1,11 @@
 pub mod Walks
 pub mod Joins
 pub mod Sorted
+pub mod Sifted
+pub mod Sourced
 pub mod Plans
 pub mod Noted
+pub mod Unknown
 pub mod Kept
 pub mod Named
 pub mod Fresh

@@ -1,9 +1,9 @@
 -- The UIDs of the kept messages, by keyword, and their flags.
 use Rattle.std.proofs.Common.{◌≡◌, ◌≢◌, ℕ, zero, suc, ◌+◌, ◌<◌, ◌≤◌, true, false, Bool, nat_eq, nat_lt, List, [], ◌∷◌, ◌++◌, length, take, drop, get_or, set, Option, Some, None, refl, sym, ◌∙◌, ap, arith, All}
-use Rattle.std.specs.Prelude.{cond, if◌then◌else◌, ◌||◌, filter, flat_map, option_map, position, slice_get, unwrap_or}
+use Rattle.std.specs.Prelude.{cond, if◌then◌else◌, ◌||◌, filter, flat_map, is_some, option_map, position, slice_get, unwrap_or}
 use Rattle.std.specs.List.{enumerate_from, list_any, position_or_len}
 use Rattle.std.specs.List.Sorted.{IsStrictlyIncreasing}
-use Rattle.std.proofs.lemmas.Bool.{eqb-true, eqb-false, ltb-false, ne_eqb}
+use Rattle.std.proofs.lemmas.Bool.{eqb-true, eqb-false, ltb-false, ltb-true, ne_eqb}
 use Rattle.std.proofs.lemmas.List.{append-nil, drop_all, flat_map_more, get_or_default, get_or-set_same, get_or-set_other, length-set, length_push, take_all, take_more}
 use Rattle.std.proofs.lemmas.List.Elements.{filter_more}
 use Rattle.std.proofs.lemmas.List.Folds.{find_at, list_any-append}
@@ -32,6 +32,19 @@ past_all : {X : Type 0} (xs : List X) (k : ℕ) → length xs ≤ k → slice_ge
 past_all [] k le = refl
 past_all (x ∷ xs) zero le = absurd (omega (arith, le))
 past_all (x ∷ xs) (suc k) le = past_all xs k (omega (arith, le))
+
+there_all : {X : Type 0} (xs : List X) (k : ℕ) → k < length xs → is_some (slice_get xs k) ≡ true
+there_all [] k less = absurd (omega (arith, less))
+there_all (x ∷ xs) zero less = refl
+there_all (x ∷ xs) (suc k) less = there_all xs k (omega (arith, less))
+
+pub row_found : (m : Mailbox) (uid at : ℕ) → position (is_uid uid) m.rows ≡ Some at → is_some (row_of m uid) ≡ true
+row_found m uid at is =
+    ap is_some (find_at (is_uid uid) m.rows) ∙ there_all m.rows (position_or_len (is_uid uid) m.rows) (inside (nat_lt (position_or_len (is_uid uid) m.rows) (length m.rows)) refl is)
+  where
+    inside : (b : Bool) → nat_lt (position_or_len (is_uid uid) m.rows) (length m.rows) ≡ b → cond b (Some (position_or_len (is_uid uid) m.rows)) None ≡ Some at → position_or_len (is_uid uid) m.rows < length m.rows
+    inside true less e = ltb-true (position_or_len (is_uid uid) m.rows) (length m.rows) less
+    inside false less e = absurd cc
 
 pub row_gone : (m : Mailbox) (uid : ℕ) → position (is_uid uid) m.rows ≡ None → row_of m uid ≡ None
 row_gone m uid is = find_at (is_uid uid) m.rows ∙ past_all m.rows (position_or_len (is_uid uid) m.rows) (past (nat_lt (position_or_len (is_uid uid) m.rows) (length m.rows)) refl is)

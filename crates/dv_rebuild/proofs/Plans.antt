@@ -1,6 +1,6 @@
 -- The new log, made ready.
 use Rattle.std.proofs.Common.{◌≡◌, inl, inr, ℕ, zero, suc, ◌+◌, ◌<◌, ◌≤◌, true, false, Bool, List, [], ◌∷◌, ◌++◌, length, take, drop, nat_eq, Option, Some, None, refl, sym, ◌∙◌, ap, subst, arith}
-use Rattle.std.specs.Prelude.{if◌then◌else◌, option_map, IfOk, IfSome, IsNone, Result, Ok, Err}
+use Rattle.std.specs.Prelude.{if◌then◌else◌, is_some, option_map, IfOk, IfSome, IsNone, Result, Ok, Err}
 use Rattle.std.specs.List.{list_any}
 use Rattle.std.proofs.lemmas.Bool.{le-leb}
 use Rattle.std.proofs.lemmas.List.{drop_all}
@@ -22,12 +22,19 @@ use Rattle.dv_chain.proofs.Mended.{cut_at_end}
 use Rattle.dv_rebuild.specs.declared.mails.Sifted.{Sifted}
 use Rattle.dv_rebuild.specs.declared.planning.NewLog.{NewLog}
 use Rattle.dv_rebuild.specs.declared.reading.Texts.{Texts}
+use Rattle.dv_rebuild.specs.declared.reporting.Remains.{Remains}
+use Rattle.dv_rebuild.specs.declared.reporting.Report.{Report}
+use Rattle.dv_rebuild.specs.declared.reporting.Sources.{Sources}
+use Rattle.dv_rebuild.specs.declared.sourcing.Taken.{Taken}
+use Rattle.dv_rebuild.specs.declared.sourcing.Which.{Which}
 use Rattle.dv_rebuild.specs.declared.rebuilding.Rebuilt.{Rebuilt}
-use Rattle.dv_rebuild.specs.Mails.{AreNumbersOf, IsSifted}
-use Rattle.dv_rebuild.specs.Plans.{AreUsed, IsPlan, Salvages}
+use Rattle.dv_rebuild.specs.Mails.{AreNumbersOf, IsSifted, is_cache}
+use Rattle.dv_rebuild.specs.Plans.{AreUsed, IsPlan, Salvages, there_in}
 use Rattle.dv_rebuild.specs.Reading.{AreTexts, IsCut, IsFrontOf, IsGoodOf, IsWholeIn}
 use Rattle.dv_rebuild.specs.Rebuilding.{IsPrepared}
-use Rattle.dv_rebuild.proofs.Sorted.{mail_numbers}
+use Rattle.dv_rebuild.specs.Reports as reports
+use Rattle.dv_rebuild.specs.Sources.{read_in, sources_in, sources_of, taken_in}
+use Rattle.dv_rebuild.proofs.Sorted.{cache_listed, mail_numbers}
 
 -- ---- the log, up to its first fault
 
@@ -109,18 +116,21 @@ joined_none log (Good other) is = absurd (is other refl)
 
 -- ---- what is salvaged
 
-pub salvages_of : (texts : Texts) (file rotated : Option File) (index : Option Snapshot) (used : List ℕ) (salvaged : Salvaged) → IsFrontOf texts.log file → IsWholeIn texts.rotated rotated → IsIndex texts.index index
+pub salvages_of : (texts : Texts) (file rotated : Option File) (index : Option Snapshot) (used : List ℕ) (salvaged : Salvaged) (there read : Which) (taken : Taken) (sources : Sources) → IsFrontOf texts.log file → IsWholeIn texts.rotated rotated → IsIndex texts.index index
     → ((front : Option GoodLog) → IsFileOf file front → AreUsed front texts.rotated index used)
-    → ((front : Option GoodLog) (scan : Scanned) → IsFileOf file front → IsGoodOf rotated scan → salvaged ≡ salvaged_in front scan index) → Salvages texts salvaged used
-salvages_of texts file rotated index used salvaged front whole there are is = record {
+    → ((front : Option GoodLog) (scan : Scanned) → IsFileOf file front → IsGoodOf rotated scan → salvaged ≡ salvaged_in front scan index)
+    → there ≡ there_in texts → ((front : Option GoodLog) (scan : Scanned) → IsFileOf file front → IsGoodOf rotated scan → read ≡ read_in front scan index)
+    → ((front : Option GoodLog) (scan : Scanned) → IsFileOf file front → IsGoodOf rotated scan → taken ≡ taken_in front scan index) → sources ≡ sources_of there read taken → Salvages texts salvaged used sources
+salvages_of texts file rotated index used salvaged there read taken sources front whole found are is stand reads takes come = record {
   log = front.log;
   rotated = whole.scan;
   index = index;
   log_file = front.front;
   rotated_file = whole.scanned;
-  index_file = there;
+  index_file = found;
   is = is front.log whole.scan front.is whole.is;
   used_are = are front.log front.is;
+  sources_are = come ∙ (λ i. sources_of (stand i) (reads front.log whole.scan front.is whole.is i) (takes front.log whole.scan front.is whole.is i));
 }
 
 pub log_used : (file : File) (front : Option GoodLog) → IsFileOf (Some file) front → option_map (λ (log : GoodLog). log.header.indexid) front ≡ Some file.header.indexid
@@ -176,9 +186,12 @@ raised_end used i n past = ap (λ (l : List ℕ). raised_while used l n) (drop_a
 -- ---- all of it
 
 pub prepared : (folder : Folder) (now : ℕ) (texts : Texts) (numbers : List ℕ) (sifted : Sifted) (log : NewLog) (rebuilt : Rebuilt) → AreTexts folder texts → AreNumbersOf texts.names numbers → IsSifted folder numbers sifted → IsPlan texts sifted.kept now log
-    → rebuilt.kept ≡ length sifted.kept → rebuilt.skipped ≡ sifted.skipped → rebuilt.indexid ≡ log.indexid → IsPrepared folder now (log, rebuilt)
-prepared folder now texts numbers sifted log rebuilt read are sifts plan kept skipped indexid =
+    → rebuilt.kept ≡ length sifted.kept → rebuilt.skipped ≡ sifted.skipped → rebuilt.indexid ≡ log.indexid → rebuilt.report.remains ≡ log.remains → rebuilt.report.skips ≡ sifted.skips → rebuilt.report.has_cache ≡ list_any is_cache texts.names
+    → IsPrepared folder now (log, rebuilt)
+prepared folder now texts numbers sifted log rebuilt read are sifts plan kept skipped indexid remains skips cache =
     let s = plan.salvages in
+    let told = remains ∙ plan.remains in
+    let there : there_in texts ≡ reports.there_in folder = λ i. record { log = is_some (read.log i); rotated = is_some (read.rotated i); index = is_some (read.index i) } in
     let does : Rebuild = record { salvaged = plan.salvaged; kept = sifted.kept; skipped = sifted.skipped; indexid = log.indexid; stamp = stamp_of now } in
     let is : IsRebuild folder now does = record {
       salvages = record {
@@ -205,6 +218,14 @@ prepared folder now texts numbers sifted log rebuilt read are sifts plan kept sk
       fits = le-leb (log_end (rebuilt_records plan.salvaged sifted.kept log.indexid)) last_end plan.fits;
       text = plan.text;
       tells = record { kept = kept; skipped = skipped; indexid = indexid };
+      reports = record {
+        sources = ap (λ (r : Remains). r.sources) told ∙ s.sources_are ∙ (λ i. sources_in (there i) s.log s.rotated s.index);
+        is_cut = ap (λ (r : Remains). r.is_cut) told;
+        unknown = ap (λ (r : Remains). r.unknown) told;
+        validity = ap (λ (r : Remains). r.validity) told;
+        skips = skips ∙ sifts.skips;
+        has_cache = cache ∙ cache_listed folder texts.names read.names;
+      };
       good = plan.good;
       records = plan.records;
       left = plan.left;

@@ -1,17 +1,16 @@
 -- The message files of a folder.
-use Rattle.std.proofs.Common.{◌≡◌, ◌↔◌, ⊎_elim, ℕ, zero, suc, ◌+◌, ◌<◌, true, false, Bool, not, List, [], ◌∷◌, ◌++◌, length, take, get_or, refl, sym, ◌∙◌, ap, subst, arith}
-use Rattle.std.specs.Prelude.{Contains, if◌then◌else◌, All}
+use Rattle.std.proofs.Common.{◌≡◌, ◌↔◌, ⊎_elim, ℕ, zero, suc, ◌+◌, ◌<◌, true, false, Bool, List, [], ◌∷◌, ◌++◌, length, get_or, refl, sym, ◌∙◌, ap, subst, arith, is_some}
+use Rattle.std.specs.Prelude.{Contains}
+use Rattle.std.specs.List.{list_any}
 use Rattle.std.specs.List.Sorted.{IsStrictlyIncreasing}
-use Rattle.std.proofs.lemmas.List.{append-nil}
-use Rattle.std.proofs.lemmas.List.Elements.{All-push, Contains-append_cases, Contains-append_right, filter_more}
-use Rattle.std.proofs.lemmas.List.Sums.{count_by_more_no, count_by_more_yes}
-use Rattle.dv_model.specs.Spelling.{IsUid}
+use Rattle.std.specs.Bool.{one_answer}
+use Rattle.std.proofs.lemmas.List.Folds.{list_any_at}
+use Rattle.std.proofs.lemmas.List.Elements.{Contains-append_cases, Contains-append_right}
 use Rattle.dv_shelf.specs.declared.shelf.Name.{Name}
 use Rattle.dv_shelf.specs.declared.shelf.Name.TheVariants as name
 use Rattle.dv_shelf.specs.Folders.{Folder, Lists}
-use Rattle.dv_openings.specs.Rebuilds.{AreMailNumbers, is_kept, kept_of, skipped_of}
-use Rattle.dv_rebuild.specs.declared.mails.Sifted.{Sifted}
-use Rattle.dv_rebuild.specs.Mails.{Adds, AreNumbersOf, number_in, numbers_in}
+use Rattle.dv_openings.specs.Rebuilds.{AreMailNumbers}
+use Rattle.dv_rebuild.specs.Mails.{AreNumbersOf, is_cache, number_in, numbers_in}
 
 -- ---- their numbers
 
@@ -51,27 +50,21 @@ mail_numbers folder names numbers lists are = record {
   each = λ n. (λ there. (are.each n).0 ((lists.each (name.Mail n)).0 there), λ there. (lists.each (name.Mail n)).1 ((are.each n).1 there));
 }
 
--- ---- what is kept
+-- ---- the cache file
 
-kept_yes : (folder : Folder) (numbers : List ℕ) (i : ℕ) → i < length numbers → is_kept folder (get_or numbers i 0) ≡ true → kept_of folder (take (i + 1) numbers) ≡ kept_of folder (take i numbers) ++ get_or numbers i 0 ∷ []
-kept_yes folder numbers i less is =
-    filter_more (is_kept folder) numbers i 0 less ∙ ap (λ (b : Bool). kept_of folder (take i numbers) ++ (if b then get_or numbers i 0 ∷ [] else [])) is
+behind : (x : Name) (names : List Name) → Contains names name.Cache → Contains (x ∷ names) name.Cache
+behind x names (k, less, is) = (suc k, omega (arith, less), is)
 
-kept_no : (folder : Folder) (numbers : List ℕ) (i : ℕ) → i < length numbers → is_kept folder (get_or numbers i 0) ≡ false → kept_of folder (take (i + 1) numbers) ≡ kept_of folder (take i numbers)
-kept_no folder numbers i less is =
-    filter_more (is_kept folder) numbers i 0 less ∙ ap (λ (b : Bool). kept_of folder (take i numbers) ++ (if b then get_or numbers i 0 ∷ [] else [])) is
-    ∙ append-nil (kept_of folder (take i numbers))
+cache_there : (names : List Name) → list_any is_cache names ≡ true → Contains names name.Cache
+cache_there [] is = absurd cc
+cache_there (name.Cache ∷ names) is = (0, omega arith, refl)
+cache_there (name.Index ∷ names) is = behind name.Index names (cache_there names is)
+cache_there (name.Log ∷ names) is = behind name.Log names (cache_there names is)
+cache_there (name.Log2 ∷ names) is = behind name.Log2 names (cache_there names is)
+cache_there (name.Mail n ∷ names) is = behind (name.Mail n) names (cache_there names is)
 
-pub kept_more : (folder : Folder) (numbers : List ℕ) (i : ℕ) (b : Bool) (old new : Sifted) → i < length numbers → b ≡ is_kept folder (get_or numbers i 0) → Adds (get_or numbers i 0) b old new → old.kept ≡ kept_of folder (take i numbers)
-    → new.kept ≡ kept_of folder (take (i + 1) numbers)
-kept_more folder numbers i true old new less is adds was = adds.0 ∙ ap (λ (l : List ℕ). l ++ get_or numbers i 0 ∷ []) was ∙ sym (kept_yes folder numbers i less (sym is))
-kept_more folder numbers i false old new less is adds was = adds.0 ∙ was ∙ sym (kept_no folder numbers i less (sym is))
+cache_found : (names : List Name) → Contains names name.Cache → list_any is_cache names ≡ true
+cache_found names there = list_any_at is_cache names there.0 name.Cache there.1 (ap is_cache there.2)
 
-pub skipped_more : (folder : Folder) (numbers : List ℕ) (i : ℕ) (b : Bool) (old new : Sifted) → i < length numbers → b ≡ is_kept folder (get_or numbers i 0) → Adds (get_or numbers i 0) b old new → old.skipped ≡ skipped_of folder (take i numbers)
-    → new.skipped ≡ skipped_of folder (take (i + 1) numbers)
-skipped_more folder numbers i true old new less is adds was = adds.1 ∙ was ∙ sym (count_by_more_no (λ (n : ℕ). not (is_kept folder n)) numbers i 0 less (ap not (sym is)))
-skipped_more folder numbers i false old new less is adds was = adds.1 ∙ ap (λ (k : ℕ). k + 1) was ∙ sym (count_by_more_yes (λ (n : ℕ). not (is_kept folder n)) numbers i 0 less (ap not (sym is)))
-
-pub uids_more : (n : ℕ) (b : Bool) (old new : Sifted) → Adds n b old new → (b ≡ true → IsUid n) → All IsUid old.kept → All IsUid new.kept
-uids_more n true old new adds is all = subst (All IsUid) (sym adds.0) (All-push IsUid old.kept n all (is refl))
-uids_more n false old new adds is all = subst (All IsUid) (sym adds.0) all
+pub cache_listed : (folder : Folder) (names : List Name) → Lists folder names → list_any is_cache names ≡ is_some (folder name.Cache)
+cache_listed folder names lists = one_answer (list_any is_cache names) (is_some (folder name.Cache)) (cache_there names, cache_found names) (lists.each name.Cache)

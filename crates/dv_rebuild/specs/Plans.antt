@@ -1,5 +1,5 @@
 -- The new log, made ready.
-use Rattle.std.specs.Prelude.{◌≡◌, ℕ, ◌^◌, ◌<◌, ◌≤◌, List, All, Option}
+use Rattle.std.specs.Prelude.{◌≡◌, ℕ, ◌^◌, ◌<◌, ◌≤◌, List, All, Option, is_some}
 use Rattle.dv_model.specs.declared.types.Mailbox.{Mailbox}
 use Rattle.dv_model.specs.Mailboxes.{IsValid}
 use Rattle.dv_model.specs.Spelling.{IsRecord}
@@ -11,6 +11,10 @@ use Rattle.dv_openings.specs.Rebuilds.{IsHeaderIn, new_indexid, stamp_of, used_i
 use Rattle.dv_openings.specs.Salvages.{IsLogFront, Salvaged, rebuilt_records, salvaged_in}
 use Rattle.dv_rebuild.specs.declared.planning.NewLog.{NewLog}
 use Rattle.dv_rebuild.specs.declared.reading.Texts.{Texts}
+use Rattle.dv_rebuild.specs.declared.reporting.Sources.{Sources}
+use Rattle.dv_rebuild.specs.declared.sourcing.Which.{Which}
+use Rattle.dv_rebuild.specs.Reports.{remains_of}
+use Rattle.dv_rebuild.specs.Sources.{sources_in}
 
 -- the header of a rebuilt log
 abbrev pub header_of : ℕ → ℕ → ℕ → LogHeader
@@ -24,8 +28,17 @@ pub record AreUsed (log : Option GoodLog) (rotated : Option (List ℕ)) (index :
   pub there : IsHeaderIn rotated header
   pub are : used ≡ used_indexids log header index
 
--- what is salvaged of these texts, and the indexids that they have
-pub record Salvages (texts : Texts) (salvaged : Salvaged) (used : List ℕ) : Type 0 where
+-- which of the files have a text
+abbrev pub there_in : Texts → Which
+there_in texts = record {
+  log = is_some texts.log;
+  rotated = is_some texts.rotated;
+  index = is_some texts.index;
+}
+
+-- what is salvaged of these texts, the indexids that they have, and what came of each
+pub record Salvages (texts : Texts) (salvaged : Salvaged) (used : List ℕ) (sources : Sources)
+    : Type 0 where
   pub log : Option GoodLog
   pub rotated : Scanned
   pub index : Option Snapshot
@@ -34,6 +47,7 @@ pub record Salvages (texts : Texts) (salvaged : Salvaged) (used : List ℕ) : Ty
   pub index_file : IsIndex texts.index index
   pub is : salvaged ≡ salvaged_in log rotated index
   pub used_are : AreUsed log texts.rotated index used
+  pub sources_are : sources ≡ sources_in (there_in texts) log rotated index
 
 -- a mailbox that records leave: its numbers are ones that a log may have
 pub record HasLogNumbers (m : Mailbox) : Type 0 where
@@ -45,9 +59,11 @@ pub record HasLogNumbers (m : Mailbox) : Type 0 where
 pub record IsPlan (texts : Texts) (kept : List ℕ) (now : ℕ) (plan : NewLog) : Type 0 where
   pub salvaged : Salvaged
   pub used : List ℕ
-  pub salvages : Salvages texts salvaged used
+  pub sources : Sources
+  pub salvages : Salvages texts salvaged used sources
   pub named : plan.indexid ≡ new_indexid used now
   pub text : plan.text ≡ log_text (header_of plan.indexid (stamp_of now) salvaged.mailbox.highest) (rebuilt_records salvaged kept plan.indexid)
+  pub remains : plan.remains ≡ remains_of sources salvaged kept plan.indexid
   pub fits : log_end (rebuilt_records salvaged kept plan.indexid) ≤ last_end
   pub good : IsGoodHeader (header_of plan.indexid (stamp_of now) salvaged.mailbox.highest)
   pub records : All IsRecord (rebuilt_records salvaged kept plan.indexid)

@@ -16,6 +16,7 @@ use Rattle.dv_rebuild.specs.declared.fault.RebuildFault.TheVariants as fault
 use Rattle.dv_rebuild.specs.declared.planning.NewLog.{NewLog}
 use Rattle.dv_rebuild.specs.declared.rebuilding.Rebuilt.{Rebuilt}
 use Rattle.dv_rebuild.specs.Plans.{HasLogNumbers}
+use Rattle.dv_rebuild.specs.Reports.{Reports}
 
 -- ---- what is made ready
 
@@ -32,6 +33,7 @@ pub record IsPrepared (folder : Folder) (now : ℕ) (x : NewLog × Rebuilt) : Ty
   pub fits : rebuilt_fits does ≡ true
   pub text : x.0.text ≡ rebuilt_text does
   pub tells : Tells does x.1
+  pub reports : Reports folder now does is x.1.report
   pub good : IsGoodHeader (rebuilt_header does)
   pub records : All IsRecord (records_of does)
   pub left : HasLogNumbers does.salvaged.mailbox
@@ -77,10 +79,11 @@ pub record IsRebuilt (old : Folder) (now : ℕ) (new : Folder) : Type 0 where
   pub leaves : new ≡ rebuilt_folder old does
   pub opens : OpensTo does new
 
--- and so it is told
+-- and so it is told, and reported
 pub record Rebuilds (old : Folder) (now : ℕ) (new : Folder) (rebuilt : Rebuilt) : Type 0 where
   pub made : IsRebuilt old now new
   pub tells : Tells made.does rebuilt
+  pub reports : Reports old now made.does made.is rebuilt.report
 
 -- the folder as it was, or as it is rebuilt
 abbrev pub IsOldOrRebuilt : Folder → ℕ → Folder → Type 0

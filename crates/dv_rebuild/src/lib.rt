@@ -11,11 +11,16 @@ mod planning;
 mod reading;
 mod rebuilding;
 mod records;
+mod remaining;
+mod reporting;
 mod salvage;
 mod sends;
+mod sourcing;
 
+pub use dv_dbox::BoxFault;
 pub use fault::RebuildFault;
 pub use rebuilding::{Rebuilt, rebuild};
+pub use reporting::{Remains, Report, Skip, SkipCause, Source, Sources, Validity};
 
 #[cfg(test)]
 mod tests;

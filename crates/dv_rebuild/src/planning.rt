@@ -9,15 +9,19 @@ ghost use Rattle.dv_openings.specs.Openings as openings;
 ghost use Rattle.dv_openings.specs.Openings.{joining};
 ghost use Rattle.dv_openings.specs.Salvages.{rebuilt_records, salvaged_in};
 ghost use Rattle.dv_chain.specs.Files.{HasHeader, HasSpots, IsFileOf, good_file, snapshot_in};
-ghost use Rattle.dv_rebuild.specs.Plans.{AreUsed, HasLogNumbers, IsPlan, Salvages, header_of};
+ghost use Rattle.dv_rebuild.specs.Plans.{AreUsed, HasLogNumbers, IsPlan, Salvages, header_of, there_in};
 ghost use Rattle.dv_rebuild.specs.Reading.{IsGoodOf};
+ghost use Rattle.dv_rebuild.specs.Sources.{taken_in};
 ghost use Rattle.dv_rebuild.specs.Walks.{salvaged_of};
 
 use crate::joining::join;
 use crate::naming::{listed, new_indexid};
 use crate::reading::{Texts, front_in, header_in, index_in, rotated_in};
 use crate::records::rebuilt_records;
+use crate::remaining::remains_of;
+use crate::reporting::{Remains, Sources};
 use crate::salvage::{Salvage, nothing, snapshot_alone};
+use crate::sourcing::{Taken, Which, read_in, sources_of, taken_from};
 use dv_chain::{File, Index, first_header, goes_before};
 use dv_logfile::{LogHeader, create};
 use dv_model::{Bytes, List, NoMemory, OpenFault};
@@ -64,33 +68,48 @@ fn joined(log: &File, rotated: Option<File>) -> Option<File>
     }
 }
 
-/// What is salvaged of a log, of the rotated log where it has no fault, and of a snapshot.
+/// What is salvaged of a log, of the rotated log where it has no fault, and of a snapshot, and
+/// which of them are taken.
 fn with_log(
     alloc: Global,
     log: &File,
     rotated: Option<File>,
     index: Option<Index>,
-) -> Result<Salvage, OpenFault>
+) -> Result<(Salvage, Taken), OpenFault>
     requires log { HasHeader log.now }
     requires rotated { IfSome rotated HasHeader }
     requires valid { IfSome index (λ i. IsValid i.mailbox) }
-    ensures { (spots : List Spot) (scan : Scanned) → HasSpots spots log.now →
-        IsGoodOf rotated scan → IfOk result (λ made. salvaged_of made
+    ensures salvaged { (spots : List Spot) (scan : Scanned) → HasSpots spots log.now →
+        IsGoodOf rotated scan → IfOk result (λ made. salvaged_of made.0
         ≡ salvaged_in (Some (good_file log.now spots)) scan (snapshot_in index)) }
+    ensures taken { (spots : List Spot) (scan : Scanned) → HasSpots spots log.now →
+        IsGoodOf rotated scan → IfOk result (λ made. made.1
+        ≡ taken_in (Some (good_file log.now spots)) scan (snapshot_in index)) }
 {
     let first = joined(log, rotated);
-    join(alloc, log, &first, counted(log, index))
+    let index = counted(log, index);
+    let taken = taken_from(log, &first, &index)?;
+    let salvage = join(alloc, log, &first, index)?;
+    Ok((salvage, taken))
 }
 
 /// What is salvaged without a log: the snapshot alone, where there is one.
-fn without_log(alloc: Global, index: Option<Index>) -> Result<Salvage, OpenFault>
+fn without_log(alloc: Global, index: Option<Index>) -> Result<(Salvage, Taken), OpenFault>
     requires { IfSome index (λ i. IsValid i.mailbox) }
-    ensures { (scan : Scanned) → IfOk result (λ made. salvaged_of made
+    ensures salvaged { (scan : Scanned) → IfOk result (λ made. salvaged_of made.0
         ≡ salvaged_in None scan (snapshot_in index)) }
+    ensures taken { (scan : Scanned) → IfOk result (λ made. made.1
+        ≡ taken_in None scan (snapshot_in index)) }
 {
+    let taken = Taken {
+        log: false,
+        joins: false,
+        rotated: false,
+        index: index.is_some(),
+    };
     match index {
-        Some(index) => snapshot_alone(alloc, index),
-        None => Ok(nothing(alloc, 0)),
+        Some(index) => Ok((snapshot_alone(alloc, index)?, taken)),
+        None => Ok((nothing(alloc, 0), taken)),
     }
 }
 
@@ -111,19 +130,22 @@ fn used_in(
 }
 
 /// What is salvaged of a log up to its first fault, of a rotated log without one, and of a
-/// snapshot.
+/// snapshot, and which of them are taken.
 fn from_files(
     alloc: Global,
     log: Option<File>,
     rotated: Option<File>,
     index: Option<Index>,
-) -> Result<Salvage, OpenFault>
+) -> Result<(Salvage, Taken), OpenFault>
     requires log { IfSome log HasHeader }
     requires rotated { IfSome rotated HasHeader }
     requires valid { IfSome index (λ i. IsValid i.mailbox) }
-    ensures { (front : Option GoodLog) (scan : Scanned) → IsFileOf log front →
-        IsGoodOf rotated scan → IfOk result (λ made. salvaged_of made
+    ensures salvaged { (front : Option GoodLog) (scan : Scanned) → IsFileOf log front →
+        IsGoodOf rotated scan → IfOk result (λ made. salvaged_of made.0
         ≡ salvaged_in front scan (snapshot_in index)) }
+    ensures taken { (front : Option GoodLog) (scan : Scanned) → IsFileOf log front →
+        IsGoodOf rotated scan → IfOk result (λ made. made.1
+        ≡ taken_in front scan (snapshot_in index)) }
 {
     match log {
         Some(log) => with_log(alloc, &log, rotated, index),
@@ -131,16 +153,29 @@ fn from_files(
     }
 }
 
-/// What is salvaged of a folder's files, and the indexids that they have.
-fn salvage(alloc: Global, texts: Texts) -> Result<(Salvage, List<u32>), OpenFault>
-    ensures { IfOk result (λ x. Salvages texts (salvaged_of x.0) x.1) }
+/// Which of the files are there.
+fn there_in(texts: &Texts) -> Which
+    ensures { result ≡ there_in texts.now }
 {
+    Which {
+        log: texts.log.is_some(),
+        rotated: texts.rotated.is_some(),
+        index: texts.index.is_some(),
+    }
+}
+
+/// What is salvaged of a folder's files, the indexids that they have, and what came of each.
+fn salvage(alloc: Global, texts: Texts) -> Result<(Salvage, List<u32>, Sources), OpenFault>
+    ensures { IfOk result (λ x. Salvages texts (salvaged_of x.0) x.1 x.2) }
+{
+    let there = there_in(&texts);
     let log = front_in(alloc, texts.log)?;
     let index = index_in(alloc, &texts.index)?;
     let used = used_in(alloc, &log, &texts.rotated, &index)?;
     let rotated = rotated_in(texts.rotated)?;
-    let salvage = from_files(alloc, log, rotated, index)?;
-    Ok((salvage, used))
+    let read = read_in(&log, &rotated, &index);
+    let (salvage, taken) = from_files(alloc, log, rotated, index)?;
+    Ok((salvage, used, sources_of(there, read, taken)))
 }
 
 /// The new log's header: the first of its files, whose modification sequences go on.
@@ -181,11 +216,12 @@ fn text_of(
     Ok(text)
 }
 
-/// A new log: its number and its text.
+/// A new log: its number and its text, and what was left for it beside the message files.
 #[derive(Drop)]
 pub struct NewLog {
     pub indexid: u32,
     pub text: Bytes,
+    pub remains: Remains,
 }
 
 /// The new log of a folder, from the texts of its files, the UIDs that are kept, rising, and a
@@ -195,8 +231,13 @@ pub fn plan(alloc: Global, texts: Texts, kept: &[u32], now: u32) -> Result<NewLo
     requires { All IsUid kept.now }
     ensures { IfOk result (IsPlan texts kept.now now) }
 {
-    let (salvage, used) = salvage(alloc, texts)?;
+    let (salvage, used, sources) = salvage(alloc, texts)?;
     let indexid = new_indexid(used.as_slice(), now);
     let text = text_of(alloc, &salvage, kept, indexid, now.max(1))?;
-    Ok(NewLog { indexid, text })
+    let remains = remains_of(&salvage, sources, kept, indexid)?;
+    Ok(NewLog {
+        indexid,
+        text,
+        remains,
+    })
 }

@@ -27,11 +27,11 @@ pub struct Texts {
 
 /// Lists the folder and reads these files, one after another.
 pub fn read_texts<S: Shelf>(alloc: Global, shelf: &mut S) -> Result<Texts, ShelfFault>
-    ensures read { S.tells → IfOk result (AreTexts (S.files shelf.old)) }
-    ensures looks { S.tells →
-        OnlyLooks S.files S.may_leave S.moment S.left_since shelf.old shelf.new }
+    ensures read { S.sees.tells → IfOk result (AreTexts (S.sees.files shelf.old)) }
+    ensures looks { S.sees.tells →
+        OnlyLooks S.sees shelf.old shelf.new }
     ensures cause { HasCauseOf ShelfFault.Failed
-        (S.fault_count shelf.old) (S.fault_count shelf.new) result }
+        (S.sees.fault_count shelf.old) (S.sees.fault_count shelf.new) result }
 {
     let names = shelf.list(alloc)?;
     let log = shelf.read(alloc, Name::Log)?;

@@ -8,14 +8,15 @@ ghost use Rattle.dv_chain.specs.Openings.{OnlyLooks};
 ghost use Rattle.dv_rebuild.specs.Rebuilding.{HasCause, IsOldOrPut, IsOldOrRebuilt, IsPrepared, LeavesPut, LeavesRebuilt};
 
 use crate::RebuildFault;
-use crate::mails::{numbers_of, sift};
+use crate::mails::{has_cache, numbers_of, sift};
 use crate::planning::{NewLog, plan};
 use crate::reading::read_texts;
+use crate::reporting::Report;
 use dv_shelf::{Clock, Name, Shelf, ShelfFault};
 use std::alloc::Global;
 
 /// What a rebuild did.
-#[derive(Clone, Copy, PartialEq, Eq, Debug)]
+#[derive(Drop)]
 pub struct Rebuilt {
     /// How many messages are kept.
     pub kept: u32,
@@ -24,6 +25,8 @@ pub struct Rebuilt {
     pub skipped: u32,
     /// The number of the new log.
     pub indexid: u32,
+    /// Where its flags come from, and which files are skipped and why.
+    pub report: Report,
 }
 
 /// What is to be written, and what will be said of it.
@@ -32,17 +35,18 @@ fn prepare<S: Shelf>(
     shelf: &mut S,
     now: u32,
 ) -> Result<(NewLog, Rebuilt), ShelfFault>
-    ensures prepared { S.tells → IfOk result (IsPrepared (S.files shelf.old) now) }
+    ensures prepared { S.sees.tells → IfOk result (IsPrepared (S.sees.files shelf.old) now) }
     // Nothing is changed; a fault of the disk has its cause.
-    ensures looks { S.tells →
-        OnlyLooks S.files S.may_leave S.moment S.left_since shelf.old shelf.new }
+    ensures looks { S.sees.tells →
+        OnlyLooks S.sees shelf.old shelf.new }
     ensures cause { HasCauseOf ShelfFault.Failed
-        (S.fault_count shelf.old) (S.fault_count shelf.new) result }
+        (S.sees.fault_count shelf.old) (S.sees.fault_count shelf.new) result }
 {
     let texts = read_texts(alloc, shelf)?;
     let Ok(numbers) = numbers_of(alloc, texts.names.as_slice()) else {
         return Err(ShelfFault::NoMemory);
     };
+    let has_cache = has_cache(texts.names.as_slice());
     let sifted = sift(alloc, shelf, numbers.as_slice())?;
     let Ok(kept) = u32::try_from(sifted.kept.len()) else {
         return Err(ShelfFault::NoMemory);
@@ -54,20 +58,25 @@ fn prepare<S: Shelf>(
         kept,
         skipped: sifted.skipped,
         indexid: log.indexid,
+        report: Report {
+            remains: log.remains,
+            skips: sifted.skips,
+            has_cache,
+        },
     };
     Ok((log, rebuilt))
 }
 
 /// Replaces the log by the new one, which was made ready.
 fn put<S: Shelf>(shelf: &mut S, log: &NewLog) -> Result<(), RebuildFault>
-    ensures files { S.tells →
-        LeavesPut (S.files shelf.old) log.now.text (S.files shelf.new) result }
-    ensures since { S.tells → IsSettled S.files S.may_leave shelf.old →
-        LeavesOnly S.moment S.left_since shelf.old shelf.new
-        (IsOldOrPut (S.files shelf.old) log.now.text) }
-    ensures settled { S.tells → IsSettled S.files S.may_leave shelf.old →
-        OnOk result (IsSettled S.files S.may_leave shelf.new) }
-    ensures cause { HasCause (S.fault_count shelf.old) (S.fault_count shelf.new) result }
+    ensures files { S.sees.tells →
+        LeavesPut (S.sees.files shelf.old) log.now.text (S.sees.files shelf.new) result }
+    ensures since { S.sees.tells → IsSettled S.sees shelf.old →
+        LeavesOnly S.sees shelf.old shelf.new
+        (IsOldOrPut (S.sees.files shelf.old) log.now.text) }
+    ensures settled { S.sees.tells → IsSettled S.sees shelf.old →
+        OnOk result (IsSettled S.sees shelf.new) }
+    ensures cause { HasCause (S.sees.fault_count shelf.old) (S.sees.fault_count shelf.new) result }
 {
     match shelf.replace(Name::Log, log.text.as_slice()) {
         Ok(()) => Ok(()),
@@ -77,13 +86,14 @@ fn put<S: Shelf>(shelf: &mut S, log: &NewLog) -> Result<(), RebuildFault>
 
 /// Rebuilds the folder at this reading of the clock.
 fn rebuild_at<S: Shelf>(alloc: Global, shelf: &mut S, now: u32) -> Result<Rebuilt, RebuildFault>
-    ensures files { S.tells → LeavesRebuilt (S.files shelf.old) now (S.files shelf.new) result }
-    ensures since { S.tells → IsSettled S.files S.may_leave shelf.old →
-        LeavesOnly S.moment S.left_since shelf.old shelf.new
-        (IsOldOrRebuilt (S.files shelf.old) now) }
-    ensures settled { S.tells → IsSettled S.files S.may_leave shelf.old →
-        OnOk result (IsSettled S.files S.may_leave shelf.new) }
-    ensures cause { HasCause (S.fault_count shelf.old) (S.fault_count shelf.new) result }
+    ensures files { S.sees.tells →
+        LeavesRebuilt (S.sees.files shelf.old) now (S.sees.files shelf.new) result }
+    ensures since { S.sees.tells → IsSettled S.sees shelf.old →
+        LeavesOnly S.sees shelf.old shelf.new
+        (IsOldOrRebuilt (S.sees.files shelf.old) now) }
+    ensures settled { S.sees.tells → IsSettled S.sees shelf.old →
+        OnOk result (IsSettled S.sees shelf.new) }
+    ensures cause { HasCause (S.sees.fault_count shelf.old) (S.sees.fault_count shelf.new) result }
 {
     match prepare(alloc, shelf, now) {
         Ok((log, rebuilt)) => {
@@ -106,17 +116,18 @@ pub fn rebuild<S: Shelf, C: Clock>(
     clock: &mut C,
 ) -> Result<Rebuilt, RebuildFault>
     // What is left behind Ok, and behind an error.
-    ensures files { S.tells → C.tells → LeavesRebuilt
-        (S.files shelf.old) (C.upcoming clock.old 0) (S.files shelf.new) result }
+    ensures files { S.sees.tells → C.sees.tells → LeavesRebuilt
+        (S.sees.files shelf.old) (C.sees.upcoming clock.old 0) (S.sees.files shelf.new) result }
     // What a crash leaves, at any moment and behind Ok.
-    ensures since { S.tells → C.tells → IsSettled S.files S.may_leave shelf.old →
-        LeavesOnly S.moment S.left_since shelf.old shelf.new
-        (IsOldOrRebuilt (S.files shelf.old) (C.upcoming clock.old 0)) }
-    ensures settled { S.tells → IsSettled S.files S.may_leave shelf.old →
-        OnOk result (IsSettled S.files S.may_leave shelf.new) }
+    ensures since { S.sees.tells → C.sees.tells → IsSettled S.sees shelf.old →
+        LeavesOnly S.sees shelf.old shelf.new
+        (IsOldOrRebuilt (S.sees.files shelf.old) (C.sees.upcoming clock.old 0)) }
+    ensures settled { S.sees.tells → IsSettled S.sees shelf.old →
+        OnOk result (IsSettled S.sees shelf.new) }
     // The clock is read once; a fault of the disk has its cause.
-    ensures clock { C.tells → C.upcoming clock.new ≡ behind (C.upcoming clock.old) 1 }
-    ensures cause { HasCause (S.fault_count shelf.old) (S.fault_count shelf.new) result }
+    ensures clock { C.sees.tells → C.sees.upcoming clock.new
+        ≡ behind (C.sees.upcoming clock.old) 1 }
+    ensures cause { HasCause (S.sees.fault_count shelf.old) (S.sees.fault_count shelf.new) result }
 {
     let now = clock.now();
     rebuild_at(alloc, shelf, now)

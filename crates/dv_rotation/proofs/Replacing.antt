@@ -9,6 +9,7 @@ use Rattle.dv_shelf.proofs.Moments.{goes_on, joined, started, weaker}
 use Rattle.dv_logfile.specs.Gates.{FromOneOf}
 use Rattle.dv_rotation.specs.declared.texts.Turn.{Turn}
 use Rattle.dv_rotation.specs.Leavings.{IsBeforeLast, IsPut, IsTurning, Leaves, Puts, with_new, with_old}
+use Rattle.dv_shelf.specs.Sees.{SeesFolder}
 
 either_put : (old c : Folder) (n : Name) (text : List ℕ) → ChangesOnly n (IsEither (Some text)) old c → IsPut n text old c
 either_put old c n text step =
@@ -18,25 +19,25 @@ pub puts_either : {T E : Type 0} (n : Name) (text : List ℕ) (result : Result T
 puts_either n text (Ok x) old c put = inr put
 puts_either n text (Err e) old c put = put
 
-module _ {S : Type 0} (files : S → Folder) (may_leave : S → Folder → Type 0) (moment : S → ℕ) (left_since : S → ℕ → Folder → Type 0) where
-  pub replaced : {T E : Type 0} (old new : S) (n : Name) (text : List ℕ) (result : Result T E) → ((c : Folder) → left_since old (moment old) c → may_leave old c)
-      → OnOk result (files new ≡ with_file (files old) n (Some text)) → OnErr result (ChangesOnly n (IsEither (Some text)) (files old) (files new))
-      → OnOk result ((c : Folder) → may_leave new c → c n ≡ Some text) → Follows (ChangesOnly n (IsEither (Some text))) (may_leave old) (may_leave new)
-      → Elapses (moment old) (moment new) (left_since old) (left_since new) (may_leave new) → Leaves files may_leave moment left_since (Puts n text result) (IsPut n text) old new
+module _ {S : Type 0} (sees : SeesFolder S) where
+  pub replaced : {T E : Type 0} (old new : S) (n : Name) (text : List ℕ) (result : Result T E) → ((c : Folder) → sees.left_since old (sees.moment old) c → sees.may_leave old c)
+      → OnOk result (sees.files new ≡ with_file (sees.files old) n (Some text)) → OnErr result (ChangesOnly n (IsEither (Some text)) (sees.files old) (sees.files new))
+      → OnOk result ((c : Folder) → sees.may_leave new c → c n ≡ Some text) → Follows (ChangesOnly n (IsEither (Some text))) (sees.may_leave old) (sees.may_leave new)
+      → Elapses (sees.moment old) (sees.moment new) (sees.left_since old) (sees.left_since new) (sees.may_leave new) → Leaves sees (Puts n text result) (IsPut n text) old new
   replaced {T = T} {E = E} old new n text result now ok err durable follows time = record {
     seen = seen result ok err;
     crash = crash result durable;
-    since = goes_on moment left_since old old new _ (may_leave new) (started moment left_since old _ (λ c left. (c, now c left, inl refl))) time
+    since = goes_on sees old old new _ (sees.may_leave new) (started sees old _ (λ c left. (c, now c left, inl refl))) time
         (λ c left.
         let from = follows c left in
         (from.0, from.1, either_put from.0 c n text from.2));
   }
     where
-      seen : (r : Result T E) → OnOk r (files new ≡ with_file (files old) n (Some text)) → OnErr r (ChangesOnly n (IsEither (Some text)) (files old) (files new)) → Puts n text r (files old) (files new)
+      seen : (r : Result T E) → OnOk r (sees.files new ≡ with_file (sees.files old) n (Some text)) → OnErr r (ChangesOnly n (IsEither (Some text)) (sees.files old) (sees.files new)) → Puts n text r (sees.files old) (sees.files new)
       seen (Ok x) ok err = ok
-      seen (Err e) ok err = either_put (files old) (files new) n text err
+      seen (Err e) ok err = either_put (sees.files old) (sees.files new) n text err
 
-      crash : (r : Result T E) → OnOk r ((c : Folder) → may_leave new c → c n ≡ Some text) → Follows (Puts n text r) (may_leave old) (may_leave new)
+      crash : (r : Result T E) → OnOk r ((c : Folder) → sees.may_leave new c → c n ≡ Some text) → Follows (Puts n text r) (sees.may_leave old) (sees.may_leave new)
       crash (Ok x) durable = λ c left.
           let from = follows c left in
           (from.0, from.1, with_file_is from.0 c n (Some text) (durable c left) from.2.others)
@@ -45,25 +46,25 @@ module _ {S : Type 0} (files : S → Folder) (may_leave : S → Folder → Type 
           (from.0, from.1, either_put from.0 c n text from.2)
 
   -- what is left at any moment may be said more weakly
-  pub leaves_wider : (old new : S) (A B C : Folder → Folder → Type 0) → Leaves files may_leave moment left_since A B old new → ((d c : Folder) → B d c → C d c) → Leaves files may_leave moment left_since A C old new
+  pub leaves_wider : (old new : S) (A B C : Folder → Folder → Type 0) → Leaves sees A B old new → ((d c : Folder) → B d c → C d c) → Leaves sees A C old new
   leaves_wider old new A B C leaves wider = record {
     seen = leaves.seen;
     crash = leaves.crash;
-    since = weaker moment left_since old new (FromOneOf (may_leave old) B) (FromOneOf (may_leave old) C) leaves.since (λ c from. (from.0, from.1, wider from.0 c from.2));
+    since = weaker sees old new (FromOneOf (sees.may_leave old) B) (FromOneOf (sees.may_leave old) C) leaves.since (λ c from. (from.0, from.1, wider from.0 c from.2));
   }
 
   -- one call behind another
-  pub leaves_both : (old mid new : S) (A B F G C D : Folder → Folder → Type 0) → Leaves files may_leave moment left_since A B old mid → Leaves files may_leave moment left_since F G mid new → ((d e c : Folder) → A d e → F e c → C d c)
-      → ((d c : Folder) → B d c → D d c) → ((d e c : Folder) → A d e → G e c → D d c) → Leaves files may_leave moment left_since C D old new
+  pub leaves_both : (old mid new : S) (A B F G C D : Folder → Folder → Type 0) → Leaves sees A B old mid → Leaves sees F G mid new → ((d e c : Folder) → A d e → F e c → C d c)
+      → ((d c : Folder) → B d c → D d c) → ((d e c : Folder) → A d e → G e c → D d c) → Leaves sees C D old new
   leaves_both old mid new A B F G C D first second behind early late = record {
-    seen = behind (files old) (files mid) (files new) first.seen second.seen;
+    seen = behind (sees.files old) (sees.files mid) (sees.files new) first.seen second.seen;
     crash = λ c left.
         let two = second.crash c left in
         let one = first.crash two.0 two.1 in
         (one.0, one.1, behind one.0 two.0 c one.2 two.2);
-    since = joined moment left_since old mid new (FromOneOf (may_leave old) D)
-        (weaker moment left_since old mid (FromOneOf (may_leave old) B) (FromOneOf (may_leave old) D) first.since (λ c from. (from.0, from.1, early from.0 c from.2)))
-        (weaker moment left_since mid new (FromOneOf (may_leave mid) G) (FromOneOf (may_leave old) D) second.since
+    since = joined sees old mid new (FromOneOf (sees.may_leave old) D)
+        (weaker sees old mid (FromOneOf (sees.may_leave old) B) (FromOneOf (sees.may_leave old) D) first.since (λ c from. (from.0, from.1, early from.0 c from.2)))
+        (weaker sees mid new (FromOneOf (sees.may_leave mid) G) (FromOneOf (sees.may_leave old) D) second.since
         (λ c from.
         let one = first.crash from.0 from.1 in
         (one.0, one.1, late one.0 from.0 c one.2 from.2)));
@@ -76,12 +77,12 @@ module _ {S : Type 0} (files : S → Folder) (may_leave : S → Folder → Type 
     late_turning d e c is put = ⊎_elim (λ same. inl (inr (inr (same ∙ is)))) (λ there. inr (there ∙ ap (λ (f : Folder). with_file f name.Log (Some turn.new)) is)) put
 
     abbrev Both : Type 0
-    Both = Leaves files may_leave moment left_since (λ d e. e ≡ with_old turn d) (IsBeforeLast turn) old mid
+    Both = Leaves sees (λ d e. e ≡ with_old turn d) (IsBeforeLast turn) old mid
 
-    pub turned_leaves : Both → Leaves files may_leave moment left_since (λ e c. c ≡ with_file e name.Log (Some turn.new)) (IsPut name.Log turn.new) mid new → Leaves files may_leave moment left_since (λ d c. c ≡ with_new turn d) (IsTurning turn) old new
+    pub turned_leaves : Both → Leaves sees (λ e c. c ≡ with_file e name.Log (Some turn.new)) (IsPut name.Log turn.new) mid new → Leaves sees (λ d c. c ≡ with_new turn d) (IsTurning turn) old new
     turned_leaves first second =
         leaves_both old mid new _ _ _ _ (λ d c. c ≡ with_new turn d) (IsTurning turn) first second (λ d e c is there. there ∙ ap (λ (f : Folder). with_file f name.Log (Some turn.new)) is) (λ d c before. inl before) late_turning
 
-    pub last_leaves : Both → Leaves files may_leave moment left_since (IsPut name.Log turn.new) (IsPut name.Log turn.new) mid new → Leaves files may_leave moment left_since (λ d c. IsPut name.Log turn.new (with_old turn d) c) (IsTurning turn) old new
+    pub last_leaves : Both → Leaves sees (IsPut name.Log turn.new) (IsPut name.Log turn.new) mid new → Leaves sees (λ d c. IsPut name.Log turn.new (with_old turn d) c) (IsTurning turn) old new
     last_leaves first second =
         leaves_both old mid new _ _ _ _ (λ d c. IsPut name.Log turn.new (with_old turn d) c) (IsTurning turn) first second (λ d e c is put. subst (λ (f : Folder). IsPut name.Log turn.new f c) is put) (λ d c before. inl before) late_turning

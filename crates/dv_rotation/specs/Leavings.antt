@@ -11,6 +11,7 @@ use Rattle.dv_rotation.specs.declared.fault.ChainFault.TheVariants as fault
 use Rattle.dv_rotation.specs.declared.fault.TurnEnd.{TurnEnd}
 use Rattle.dv_rotation.specs.declared.fault.TurnEnd.TheVariants as end
 use Rattle.dv_rotation.specs.declared.texts.Turn.{Turn}
+use Rattle.dv_shelf.specs.Sees.{SeesFolder}
 
 -- ---- one replace
 
@@ -61,14 +62,13 @@ Turns turn (Err end.Last) old new = IsPut name.Log turn.new (with_old turn old) 
 -- ---- what a call leaves
 
 -- Behind the call the files, and each folder that a crash may leave, are as `behind` says of one
--- from before; at any moment of it a crash leaves one as `at_any` says. It takes the members of a
--- shelf's type.
-pub record Leaves {S : Type 0} (files : S → Folder) (may_leave : S → Folder → Type 0)
-    (moment : S → ℕ) (left_since : S → ℕ → Folder → Type 0)
+-- from before; at any moment of it a crash leaves one as `at_any` says. It takes what a shelf
+-- shows.
+pub record Leaves {S : Type 0} (sees : SeesFolder S)
     (behind at_any : Folder → Folder → Type 0) (old new : S) : Type 0 where
-  pub seen : behind (files old) (files new)
-  pub crash : Follows behind (may_leave old) (may_leave new)
-  pub since : LeavesOnly moment left_since old new (FromOneOf (may_leave old) at_any)
+  pub seen : behind (sees.files old) (sees.files new)
+  pub crash : Follows behind (sees.may_leave old) (sees.may_leave new)
+  pub since : LeavesOnly sees old new (FromOneOf (sees.may_leave old) at_any)
 
 -- ---- faults
 

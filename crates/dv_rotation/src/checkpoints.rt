@@ -17,14 +17,14 @@ use dv_shelf::{Failed, Name, Shelf};
 pub fn checkpoint<S: Shelf>(chain: &Chain, shelf: &mut S, text: &Bytes) -> Result<(), Failed>
     requires text { IsSnapshotOf chain.now text.now }
     // The files, and what a crash leaves of them, afterwards and at any moment.
-    ensures leaves { S.tells → Leaves S.files S.may_leave S.moment S.left_since
+    ensures leaves { S.sees.tells → Leaves S.sees
         (Puts name.Index text.now result) (IsPut name.Index text.now) shelf.old shelf.new }
     // What is left opens to the same; from rest to rest.
-    ensures quiet { S.tells → Rests S.may_leave Nothing chain.now shelf.old →
-        StaysAtRest S.may_leave S.moment S.left_since chain.now shelf.old shelf.new }
+    ensures quiet { S.sees.tells → Rests S.sees Nothing chain.now shelf.old →
+        StaysAtRest S.sees chain.now shelf.old shelf.new }
     // No message file is read; an error has its cause.
-    ensures mail_reads { S.mail_reads shelf.new ≡ S.mail_reads shelf.old }
-    ensures cause { HasCause (S.fault_count shelf.old) (S.fault_count shelf.new) result }
+    ensures mail_reads { S.sees.mail_reads shelf.new ≡ S.sees.mail_reads shelf.old }
+    ensures cause { HasCause (S.sees.fault_count shelf.old) (S.sees.fault_count shelf.new) result }
 {
     put(shelf, Name::Index, text)
 }

@@ -37,16 +37,16 @@ pub fn rotate<S: Shelf>(chain: &mut Chain, shelf: &mut S, turn: &Turn) -> Result
     // Behind Ok the chain stands on the new file, an error leaves it as it was.
     ensures value { Advances chain.old chain.new result }
     // The files, and what a crash leaves of them, afterwards and at any moment.
-    ensures leaves { S.tells → Leaves S.files S.may_leave S.moment S.left_since
+    ensures leaves { S.sees.tells → Leaves S.sees
         (Turns turn.now result) (IsTurning turn.now) shelf.old shelf.new }
     // What is left opens to the same mailbox, behind Ok in the new file; from rest to rest.
-    ensures quiet { S.tells → Rests S.may_leave Nothing chain.old shelf.old →
-        ClosesLog chain.old turn.now (S.files shelf.old) →
-        TurnsQuietly S.may_leave S.moment S.left_since turn.now chain.old chain.new result
+    ensures quiet { S.sees.tells → Rests S.sees Nothing chain.old shelf.old →
+        ClosesLog chain.old turn.now (S.sees.files shelf.old) →
+        TurnsQuietly S.sees turn.now chain.old chain.new result
         shelf.old shelf.new }
     // No message file is read; an error has its cause.
-    ensures mail_reads { S.mail_reads shelf.new ≡ S.mail_reads shelf.old }
-    ensures cause { HasCause (S.fault_count shelf.old) (S.fault_count shelf.new) result }
+    ensures mail_reads { S.sees.mail_reads shelf.new ≡ S.sees.mail_reads shelf.old }
+    ensures cause { HasCause (S.sees.fault_count shelf.old) (S.sees.fault_count shelf.new) result }
 {
     match put_both(shelf, turn) {
         Ok(()) => (),
@@ -69,16 +69,16 @@ pub fn finish<S: Shelf>(chain: &mut Chain, shelf: &mut S, turn: &Turn) -> Result
     // Behind Ok the chain stands on the new file, an error leaves it as it was.
     ensures value { Advances chain.old chain.new result }
     // The files, and what a crash leaves of them, afterwards and at any moment.
-    ensures leaves { S.tells → Leaves S.files S.may_leave S.moment S.left_since
+    ensures leaves { S.sees.tells → Leaves S.sees
         (Puts name.Log turn.now.new result) (IsPut name.Log turn.now.new) shelf.old shelf.new }
     // What is left opens to the same mailbox, behind Ok in the new file; from rest to rest.
-    ensures quiet { S.tells →
-        Rests S.may_leave (Last turn.now.new chain.old.live.mailbox) chain.old shelf.old →
-        FinishesQuietly S.may_leave S.moment S.left_since turn.now chain.old chain.new result
+    ensures quiet { S.sees.tells →
+        Rests S.sees (Last turn.now.new chain.old.live.mailbox) chain.old shelf.old →
+        FinishesQuietly S.sees turn.now chain.old chain.new result
         shelf.old shelf.new }
     // No message file is read; an error has its cause.
-    ensures mail_reads { S.mail_reads shelf.new ≡ S.mail_reads shelf.old }
-    ensures cause { HasCause (S.fault_count shelf.old) (S.fault_count shelf.new) result }
+    ensures mail_reads { S.sees.mail_reads shelf.new ≡ S.sees.mail_reads shelf.old }
+    ensures cause { HasCause (S.sees.fault_count shelf.old) (S.sees.fault_count shelf.new) result }
 {
     put(shelf, Name::Log, &turn.new)?;
     advance(chain);

@@ -16,11 +16,13 @@ use std::alloc::Global;
 
 /// The log's bytes; a missing log has none.
 fn read_log<S: Shelf>(alloc: Global, shelf: &mut S) -> Result<Bytes, ChainFault>
-    ensures found { S.tells → IfOk result (λ b. b ≡ contents (S.files shelf.old) name.Log) }
-    ensures looks { S.tells →
-        OnlyLooks S.files S.may_leave S.moment S.left_since shelf.old shelf.new }
-    ensures mail_reads { S.mail_reads shelf.new ≡ counted (S.mail_reads shelf.old) 0 }
-    ensures cause { HasFaultCause (S.fault_count shelf.old) (S.fault_count shelf.new) result }
+    ensures found { S.sees.tells →
+        IfOk result (λ b. b ≡ contents (S.sees.files shelf.old) name.Log) }
+    ensures looks { S.sees.tells →
+        OnlyLooks S.sees shelf.old shelf.new }
+    ensures mail_reads { S.sees.mail_reads shelf.new ≡ counted (S.sees.mail_reads shelf.old) 0 }
+    ensures cause { HasFaultCause (S.sees.fault_count shelf.old) (S.sees.fault_count shelf.new)
+        result }
 {
     match shelf.read(alloc, Name::Log) {
         Ok(Some(bytes)) => Ok(bytes),
@@ -76,17 +78,18 @@ pub fn turn<S: Shelf>(
     requires named { 1 ≤ chain.now.indexid }
     // The three texts.
     ensures is { IfOk result (IsTurnOf chain.now) }
-    ensures old { S.tells → IfOk result (λ turn. turn.old
-        ≡ closed_at chain.now.log.end (contents (S.files shelf.old) name.Log)) }
+    ensures old { S.sees.tells → IfOk result (λ turn. turn.old
+        ≡ closed_at chain.now.log.end (contents (S.sees.files shelf.old) name.Log)) }
     ensures new { IfOk result (λ turn. turn.new ≡ next_log chain.now now) }
     // Nothing is changed; from rest to rest, whatever is owed.
-    ensures looks { S.tells →
-        OnlyLooks S.files S.may_leave S.moment S.left_since shelf.old shelf.new }
-    ensures rests { S.tells → (owed : Owed) → Rests S.may_leave owed chain.now shelf.old →
-        Rests S.may_leave owed chain.now shelf.new }
+    ensures looks { S.sees.tells →
+        OnlyLooks S.sees shelf.old shelf.new }
+    ensures rests { S.sees.tells → (owed : Owed) → Rests S.sees owed chain.now shelf.old →
+        Rests S.sees owed chain.now shelf.new }
     // No message file is read; a fault of the disk has its cause.
-    ensures mail_reads { S.mail_reads shelf.new ≡ counted (S.mail_reads shelf.old) 0 }
-    ensures cause { HasFaultCause (S.fault_count shelf.old) (S.fault_count shelf.new) result }
+    ensures mail_reads { S.sees.mail_reads shelf.new ≡ counted (S.sees.mail_reads shelf.old) 0 }
+    ensures cause { HasFaultCause (S.sees.fault_count shelf.old) (S.sees.fault_count shelf.new)
+        result }
 {
     let log = read_log(alloc, shelf)?;
     let index = snapshot(alloc, chain)?;

@@ -27,6 +27,7 @@ use Rattle.dv_serial.specs.Servings.{Serving}
 use Rattle.dv_serial.specs.Writes.{IsDone}
 use Rattle.dv_serial.specs.Writes as comes
 use Rattle.dv_serial.proofs.Committing.{done_nothing, done_written, failed}
+use Rattle.dv_shelf.specs.Sees.{SeesFolder, SeesTime}
 
 some_there : (rs : List Record) → (rs ≡ [] → ⊥) → 1 ≤ length rs
 some_there [] some = absurd (some refl)
@@ -35,8 +36,8 @@ some_there (r ∷ rs) some = omega arith
 pub not_both : (b : Bool) → IsTrue b → b ≡ false → ⊥
 not_both b is other = cc
 
-module _ {S C : Type 0} (files : S → Folder) (may_leave : S → Folder → Type 0) (moment : S → ℕ) (left_since : S → ℕ → Folder → Type 0) (upcoming : C → ℕ → ℕ) (clock : ℕ → ℕ) (start : Log) (base faults : ℕ) (attempts : List Attempt)
-    (old : Serving S C) (follows : Follows files may_leave upcoming clock start base faults attempts old) (at number : ℕ) (c : Command) (number_is : number ≡ at + 1) (less : at < length old.seats) (small : IsU32 number)
+module _ {S C : Type 0} (sees : SeesFolder S) (ticks : SeesTime C) (clock : ℕ → ℕ) (start : Log) (base faults : ℕ) (attempts : List Attempt)
+    (old : Serving S C) (follows : Follows sees ticks clock start base faults attempts old) (at number : ℕ) (c : Command) (number_is : number ≡ at + 1) (less : at < length old.seats) (small : IsU32 number)
     (servable : IsServable c) (write : is_write c ≡ true) (own : own_refusal (seat_at old.seats at).state c ≡ None) where
   abbrev x : SessionState
   x = (seat_at old.seats at).state
@@ -57,38 +58,38 @@ module _ {S C : Type 0} (files : S → Folder) (may_leave : S → Folder → Typ
 
   module _ (view : View) (seen : view ≡ x.view) (new : State S C) (result : Result Receipt StoreFault) where
     abbrev GivesHere : Type 0
-    GivesHere = (log : Log) (debt : Debt) (author : ℕ) → IsAtRest files may_leave log debt old.store
-        → CommitsQuietly files may_leave moment left_since log debt (write_of author c view old.store (upcoming old.store.clock)) old.store new result
+    GivesHere = (log : Log) (debt : Debt) (author : ℕ) → IsAtRest sees log debt old.store
+        → CommitsQuietly sees log debt (write_of author c view old.store (ticks.upcoming old.store.clock)) old.store new result
 
     value_at : Commits c view old.store new result → Commits c x.view old.store new result
     value_at value = subst (λ (v : View). Commits c v old.store new result) seen value
 
-    quiet_at : GivesHere → CommitsQuietly files may_leave moment left_since here.log follows.keeps.debt (write_of number c x.view old.store (upcoming old.store.clock)) old.store new result
+    quiet_at : GivesHere → CommitsQuietly sees here.log follows.keeps.debt (write_of number c x.view old.store (ticks.upcoming old.store.clock)) old.store new result
     quiet_at gives =
-        subst (λ (v : View). CommitsQuietly files may_leave moment left_since here.log follows.keeps.debt (write_of number c v old.store (upcoming old.store.clock)) old.store new result) seen
+        subst (λ (v : View). CommitsQuietly sees here.log follows.keeps.debt (write_of number c v old.store (ticks.upcoming old.store.clock)) old.store new result) seen
         (gives here.log follows.keeps.debt number follows.keeps.rests)
 
   module _ (view : View) (seen : view ≡ x.view) (new : State S C) where
     -- an error
-    pub fails : (e : StoreFault) → Commits c view old.store new (Err e) → (IsIdle (Err e) → (new.shelf ≡ old.store.shelf) × (new.clock ≡ old.store.clock)) → (IsUnwritten (Err e) → OnlyLooks files may_leave moment left_since old.store.shelf new.shelf)
-        → GivesHere view seen new (Err e) → TakesReadings (readings_of c old.store.owed old.store.chain) (upcoming old.store.clock) (upcoming new.clock) (Err e)
-        → comes.Commits files may_leave moment left_since upcoming clock start attempts line old (Err e) (record old { store = new })
+    pub fails : (e : StoreFault) → Commits c view old.store new (Err e) → (IsIdle (Err e) → (new.shelf ≡ old.store.shelf) × (new.clock ≡ old.store.clock)) → (IsUnwritten (Err e) → OnlyLooks sees old.store.shelf new.shelf)
+        → GivesHere view seen new (Err e) → TakesReadings (readings_of c old.store.owed old.store.chain) (ticks.upcoming old.store.clock) (ticks.upcoming new.clock) (Err e)
+        → comes.Commits sees ticks clock start attempts line old (Err e) (record old { store = new })
     fails e value idle looks gives taken =
-        failed files may_leave moment left_since upcoming clock start base faults attempts old follows line x same good write own new e (value_at view seen new (Err e) value) (quiet_at view seen new (Err e) gives)
-        (λ none. (looks none).since) (λ none. ap upcoming (idle none).1) taken
+        failed sees ticks clock start base faults attempts old follows line x same good write own new e (value_at view seen new (Err e) value) (quiet_at view seen new (Err e) gives)
+        (λ none. (looks none).since) (λ none. ap ticks.upcoming (idle none).1) taken
 
-    module _ (receipt : Receipt) (value : Commits c view old.store new (Ok receipt)) (gives : GivesHere view seen new (Ok receipt)) (taken : TakesReadings (readings_of c old.store.owed old.store.chain) (upcoming old.store.clock) (upcoming new.clock) (Ok receipt))
+    module _ (receipt : Receipt) (value : Commits c view old.store new (Ok receipt)) (gives : GivesHere view seen new (Ok receipt)) (taken : TakesReadings (readings_of c old.store.owed old.store.chain) (ticks.upcoming old.store.clock) (ticks.upcoming new.clock) (Ok receipt))
         (leads : Leads old.store.chain.live.mailbox new.chain.live.mailbox receipt.touched) where
       -- there is one group more
       pub writes_entry : (receipt.group.records ≡ [] → ⊥) → (groups : ℕ) → groups ≡ old.groups + 1
-          → IsDone files may_leave moment left_since upcoming clock start attempts line receipt.touched old (record old { store = new; mark = receipt.mark; groups = groups })
+          → IsDone sees ticks clock start attempts line receipt.touched old (record old { store = new; mark = receipt.mark; groups = groups })
       writes_entry some groups is =
-          done_written files may_leave moment left_since upcoming clock start base faults attempts old follows line x same good write own receipt (record old { store = new; mark = receipt.mark; groups = groups })
+          done_written sees ticks clock start base faults attempts old follows line x same good write own receipt (record old { store = new; mark = receipt.mark; groups = groups })
           (value_at view seen new (Ok receipt) value) (quiet_at view seen new (Ok receipt) gives) taken (some_there receipt.group.records some) refl is receipt.touched leads
 
       -- there is no record
-      pub writes_none : receipt.group.records ≡ [] → (IsUnwritten (Ok receipt) → OnlyLooks files may_leave moment left_since old.store.shelf new.shelf)
-          → IsDone files may_leave moment left_since upcoming clock start attempts line receipt.touched old (record old { store = new })
+      pub writes_none : receipt.group.records ≡ [] → (IsUnwritten (Ok receipt) → OnlyLooks sees old.store.shelf new.shelf)
+          → IsDone sees ticks clock start attempts line receipt.touched old (record old { store = new })
       writes_none none looks =
-          done_nothing files may_leave moment left_since upcoming clock start base faults attempts old follows line x same good write own receipt (record old { store = new })
+          done_nothing sees ticks clock start base faults attempts old follows line x same good write own receipt (record old { store = new })
           (value_at view seen new (Ok receipt) value) (quiet_at view seen new (Ok receipt) gives) taken none (looks none).since refl refl receipt.touched leads

@@ -43,6 +43,7 @@ use Rattle.dv_serial.proofs.Crashing.{looks_may, more_may, served_gives, served_
 use Rattle.dv_serial.proofs.Failing.{failed_by, owed_longer}
 use Rattle.dv_serial.proofs.Matching.{IsWriteAt}
 use Rattle.dv_serial.proofs.Places.{Meets, begin_here, clock_here, group_by_met, group_met, log_met, mailbox_met, mark_met, turns_here, used_met, with_group, without_group, written_here}
+use Rattle.dv_shelf.specs.Sees.{SeesFolder, SeesTime}
 
 -- ---- groups
 
@@ -62,14 +63,14 @@ takes_none n old new rs none takes = subst (TakesFor n old new) none takes
 
 -- ---- a write over a store that is where the play stands
 
-module _ {S C : Type 0} (files : S → Folder) (may_leave : S → Folder → Type 0) (moment : S → ℕ) (left_since : S → ℕ → Folder → Type 0) (upcoming : C → ℕ → ℕ) (clock : ℕ → ℕ) (start : Log) (base faults : ℕ) (attempts : List Attempt)
-    (old : Serving S C) (follows : Follows files may_leave upcoming clock start base faults attempts old) (line : Line) (x : SessionState) (same : (play_of clock start attempts).states line.0 ≡ x)
+module _ {S C : Type 0} (sees : SeesFolder S) (ticks : SeesTime C) (clock : ℕ → ℕ) (start : Log) (base faults : ℕ) (attempts : List Attempt)
+    (old : Serving S C) (follows : Follows sees ticks clock start base faults attempts old) (line : Line) (x : SessionState) (same : (play_of clock start attempts).states line.0 ≡ x)
     (good : IsLine line) (write : is_write line.1 ≡ true) (own : own_refusal x line.1 ≡ None) where
   abbrev here : Play
   here = play_of clock start attempts
 
   abbrev readings : ℕ → ℕ
-  readings = upcoming old.store.clock
+  readings = ticks.upcoming old.store.clock
 
   abbrev writes : Write
   writes = write_of line.0 line.1 x.view old.store readings
@@ -100,8 +101,8 @@ module _ {S C : Type 0} (files : S → Folder) (may_leave : S → Folder → Typ
 
   -- ---- the group is written
 
-  module _ (receipt : Receipt) (new : Serving S C) (value : Commits line.1 x.view old.store new.store (Ok receipt)) (quiet : CommitsQuietly files may_leave moment left_since here.log follows.keeps.debt writes old.store new.store (Ok receipt))
-      (taken : TakesReadings (readings_of line.1 old.store.owed old.store.chain) readings (upcoming new.store.clock) (Ok receipt)) where
+  module _ (receipt : Receipt) (new : Serving S C) (value : Commits line.1 x.view old.store new.store (Ok receipt)) (quiet : CommitsQuietly sees here.log follows.keeps.debt writes old.store new.store (Ok receipt))
+      (taken : TakesReadings (readings_of line.1 old.store.owed old.store.chain) readings (ticks.upcoming new.store.clock) (Ok receipt)) where
     pub allowed : refused_here here line ≡ None
     allowed = refusal ∙ value.limit here.log.guid sizes
 
@@ -138,25 +139,25 @@ module _ {S C : Type 0} (files : S → Folder) (may_leave : S → Folder → Typ
             (sym value.ok.place ∙ sym mark_is, (value.paid more).turn);
       }
 
-      stands_written : StandsAs files may_leave moment left_since upcoming clock start (with_line attempts line Served) after_it old new
+      stands_written : StandsAs sees ticks clock start (with_line attempts line Served) after_it old new
       stands_written = record {
         at = at_written;
         debt = Nothing;
         owed = tt;
-        rests = subst (λ (log : Log). IsAtRest files may_leave log Nothing new.store) (write_here.log some) (quiet.ok more);
-        readings = takes_some (readings_of line.1 old.store.owed old.store.chain) readings (upcoming new.store.clock) receipt.group.records more taken
+        rests = subst (λ (log : Log). IsAtRest sees log Nothing new.store) (write_here.log some) (quiet.ok more);
+        readings = takes_some (readings_of line.1 old.store.owed old.store.chain) readings (ticks.upcoming new.store.clock) receipt.group.records more taken
             ∙ used_met here line x.view old.store meets readings clock follows.readings some;
-        since = weaker moment left_since old.store.shelf new.store.shelf _ (MayGive clock start (with_line attempts line Served)) quiet.any_moment
+        since = weaker sees old.store.shelf new.store.shelf _ (MayGive clock start (with_line attempts line Served)) quiet.any_moment
             (λ c. served_gives clock start attempts line writes old.store.owed old.store.chain write_here follows.keeps.debt follows.keeps.at.rotates follows.keeps.at.place follows.keeps.rests.fits follows.keeps.owed may c);
       }
 
-      pub done_written : (touched : List ℕ) → Leads old.store.chain.live.mailbox new.store.chain.live.mailbox touched → IsDone files may_leave moment left_since upcoming clock start attempts line touched old new
+      pub done_written : (touched : List ℕ) → Leads old.store.chain.live.mailbox new.store.chain.live.mailbox touched → IsDone sees ticks clock start attempts line touched old new
       done_written touched leads = record { allowed = allowed; stands = stands_written; leads = leads }
 
   -- ---- nothing is written
 
-  module _ (result : Result Receipt StoreFault) (new : Serving S C) (value : Commits line.1 x.view old.store new.store result) (quiet : CommitsQuietly files may_leave moment left_since here.log follows.keeps.debt writes old.store new.store result)
-      (none : IsUnwritten result) (since : LeavesOnly moment left_since old.store.shelf new.store.shelf (may_leave old.store.shelf)) (mark : new.mark ≡ old.mark) (groups : new.groups ≡ old.groups) where
+  module _ (result : Result Receipt StoreFault) (new : Serving S C) (value : Commits line.1 x.view old.store new.store result) (quiet : CommitsQuietly sees here.log follows.keeps.debt writes old.store new.store result)
+      (none : IsUnwritten result) (since : LeavesOnly sees old.store.shelf new.store.shelf (sees.may_leave old.store.shelf)) (mark : new.mark ≡ old.mark) (groups : new.groups ≡ old.groups) where
     place_is : place_of old.store.chain ≡ place_of new.store.chain
     place_is = let log = (value.unwritten none).chain.log in ap (λ l. record { file_seq = l.file_seq; offset = l.end }) (sym log)
 
@@ -175,19 +176,19 @@ module _ {S C : Type 0} (files : S → Folder) (may_leave : S → Folder → Typ
     owed_stays : IsOwedBehind clock start attempts (place_of new.store.chain) follows.keeps.debt
     owed_stays = subst (λ (k : Mark). IsOwedBehind clock start attempts k follows.keeps.debt) place_is follows.keeps.owed
 
-    since_stays : LeavesOnly moment left_since old.store.shelf new.store.shelf (MayGive clock start attempts)
-    since_stays = looks_may files may_leave clock start attempts old follows.keeps moment left_since new.store.shelf since
+    since_stays : LeavesOnly sees old.store.shelf new.store.shelf (MayGive clock start attempts)
+    since_stays = looks_may sees clock start attempts old follows.keeps new.store.shelf since
 
     -- memory ended it
-    pub leaves_unwritten : Leaves files may_leave moment left_since clock start attempts old new
+    pub leaves_unwritten : Leaves sees clock start attempts old new
     leaves_unwritten = record {
       keeps = record { at = at_stays; debt = follows.keeps.debt; owed = owed_stays; rests = quiet.unwritten none };
       since = since_stays;
     }
 
     -- a limit is met
-    module _ (clocks : upcoming new.store.clock ≡ readings) where
-      stands_stays : StandsAs files may_leave moment left_since upcoming clock start attempts here old new
+    module _ (clocks : ticks.upcoming new.store.clock ≡ readings) where
+      stands_stays : StandsAs sees ticks clock start attempts here old new
       stands_stays = record {
         at = at_stays;
         debt = follows.keeps.debt;
@@ -197,7 +198,7 @@ module _ {S C : Type 0} (files : S → Folder) (may_leave : S → Folder → Typ
         since = since_stays;
       }
 
-      pub refused_by : (limit : Reply) → limit_over line.1 x.view old.store.chain here.log.guid ≡ Some limit → IsRefusedBy files may_leave moment left_since upcoming clock start attempts line limit old new
+      pub refused_by : (limit : Reply) → limit_over line.1 x.view old.store.chain here.log.guid ≡ Some limit → IsRefusedBy sees ticks clock start attempts line limit old new
       refused_by limit is = record { refused = refusal ∙ is; mailbox = (value.unwritten none).chain.mailbox; stands = stands_stays }
 
       -- there is no record
@@ -217,20 +218,20 @@ module _ {S C : Type 0} (files : S → Folder) (may_leave : S → Folder → Typ
         mark_stays : (play_of clock start (with_line attempts line Served)).mark ≡ here.mark
         mark_stays = ap (λ (p : Play). p.mark) (served_play clock start attempts line lets) ∙ ap (λ (p : Play). p.mark) stays_here
 
-        stands_idle : StandsAs files may_leave moment left_since upcoming clock start (with_line attempts line Served) here old new
+        stands_idle : StandsAs sees ticks clock start (with_line attempts line Served) here old new
         stands_idle = record {
           at = at_stays;
           debt = follows.keeps.debt;
           owed = owed_longer clock start attempts (record { line = line; outcome = Served }) (place_of new.store.chain) play_stays mailbox_stays mark_stays follows.keeps.debt owed_stays;
           rests = quiet.unwritten none;
           readings = clocks ∙ follows.readings;
-          since = more_may moment left_since old.store.shelf new.store.shelf clock start attempts (record { line = line; outcome = Served } ∷ []) since_stays;
+          since = more_may sees old.store.shelf new.store.shelf clock start attempts (record { line = line; outcome = Served } ∷ []) since_stays;
         }
 
-        pub done_idle : (touched : List ℕ) → Leads old.store.chain.live.mailbox new.store.chain.live.mailbox touched → IsDone files may_leave moment left_since upcoming clock start attempts line touched old new
+        pub done_idle : (touched : List ℕ) → Leads old.store.chain.live.mailbox new.store.chain.live.mailbox touched → IsDone sees ticks clock start attempts line touched old new
         done_idle touched leads = record {
           allowed = lets;
-          stands = subst (λ (p : Play). StandsAs files may_leave moment left_since upcoming clock start (with_line attempts line Served) p old new) (sym stays_here) stands_idle;
+          stands = subst (λ (p : Play). StandsAs sees ticks clock start (with_line attempts line Served) p old new) (sym stays_here) stands_idle;
           leads = leads;
         }
 
@@ -240,37 +241,37 @@ module _ {S C : Type 0} (files : S → Folder) (may_leave : S → Folder → Typ
     abbrev behind_error : Serving S C
     behind_error = record old { store = new }
 
-    disk_failed : (faults : ℕ) → Commits line.1 x.view old.store new (Err (fault.Disk faults)) → CommitsQuietly files may_leave moment left_since here.log follows.keeps.debt writes old.store new (Err (fault.Disk faults))
-        → TakesReadings (readings_of line.1 old.store.owed old.store.chain) readings (upcoming new.clock) (Err (fault.Disk faults)) → IsFailedBy files may_leave moment left_since upcoming clock start attempts line faults old (record old { store = new })
+    disk_failed : (faults : ℕ) → Commits line.1 x.view old.store new (Err (fault.Disk faults)) → CommitsQuietly sees here.log follows.keeps.debt writes old.store new (Err (fault.Disk faults))
+        → TakesReadings (readings_of line.1 old.store.owed old.store.chain) readings (ticks.upcoming new.clock) (Err (fault.Disk faults)) → IsFailedBy sees ticks clock start attempts line faults old (record old { store = new })
     disk_failed faults value quiet taken =
         let limited = value.limit here.log.guid sizes in
         let some : is_empty (group_here here line) ≡ false = subst (λ (g : Group). is_empty g ≡ false) (group_met here line x.view old.store meets) (not_empty (group_over line.1 x.view old.store.chain here.log.guid) limited.1) in
         let may : MayWrite here line = record { good = good; write = write; allowed = refusal ∙ limited.0; some = some } in
-        failed_by files may_leave moment left_since upcoming clock start attempts line writes old follows.keeps.at follows.keeps.debt follows.keeps.owed follows.keeps.rests.fits write_here may new faults
+        failed_by sees ticks clock start attempts line writes old follows.keeps.at follows.keeps.debt follows.keeps.owed follows.keeps.rests.fits write_here may new faults
         value.failed (taken ∙ clock_here here old.store.owed old.store.chain follows.keeps.at.rotates follows.keeps.at.place clock readings follows.readings line some) quiet.any_moment quiet.err
 
-    by_error : (e : StoreFault) → Commits line.1 x.view old.store new (Err e) → CommitsQuietly files may_leave moment left_since here.log follows.keeps.debt writes old.store new (Err e)
-        → (IsUnwritten (Err e) → LeavesOnly moment left_since old.store.shelf new.shelf (may_leave old.store.shelf)) → (IsIdle (Err e) → upcoming new.clock ≡ readings)
-        → TakesReadings (readings_of line.1 old.store.owed old.store.chain) readings (upcoming new.clock) (Err e)
-        → comes.Commits files may_leave moment left_since upcoming clock start attempts line old (Err e) (record old { store = new })
+    by_error : (e : StoreFault) → Commits line.1 x.view old.store new (Err e) → CommitsQuietly sees here.log follows.keeps.debt writes old.store new (Err e)
+        → (IsUnwritten (Err e) → LeavesOnly sees old.store.shelf new.shelf (sees.may_leave old.store.shelf)) → (IsIdle (Err e) → ticks.upcoming new.clock ≡ readings)
+        → TakesReadings (readings_of line.1 old.store.owed old.store.chain) readings (ticks.upcoming new.clock) (Err e)
+        → comes.Commits sees ticks clock start attempts line old (Err e) (record old { store = new })
     by_error (fault.Disk faults) value quiet looks idle taken = disk_failed faults value quiet taken
     by_error fault.UidsUsedUp value quiet looks idle taken = refused_by (Err fault.UidsUsedUp) behind_error value quiet tt (looks tt) refl refl (idle tt) reply.UidsUsedUp (value.limit here.log.guid sizes)
     by_error (fault.TooLong bytes) value quiet looks idle taken =
         refused_by (Err (fault.TooLong bytes)) behind_error value quiet tt (looks tt) refl refl (idle tt) (reply.TooLong bytes) (value.limit here.log.guid sizes)
     by_error fault.NoMemory value quiet looks idle taken = leaves_unwritten (Err fault.NoMemory) behind_error value quiet tt (looks tt) refl refl
 
-    pub failed : (e : StoreFault) → Commits line.1 x.view old.store new (Err e) → CommitsQuietly files may_leave moment left_since here.log follows.keeps.debt writes old.store new (Err e)
-        → (IsUnwritten (Err e) → LeavesOnly moment left_since old.store.shelf new.shelf (may_leave old.store.shelf)) → (IsIdle (Err e) → upcoming new.clock ≡ readings)
-        → TakesReadings (readings_of line.1 old.store.owed old.store.chain) readings (upcoming new.clock) (Err e)
-        → comes.Commits files may_leave moment left_since upcoming clock start attempts line old (Err e) behind_error
+    pub failed : (e : StoreFault) → Commits line.1 x.view old.store new (Err e) → CommitsQuietly sees here.log follows.keeps.debt writes old.store new (Err e)
+        → (IsUnwritten (Err e) → LeavesOnly sees old.store.shelf new.shelf (sees.may_leave old.store.shelf)) → (IsIdle (Err e) → ticks.upcoming new.clock ≡ readings)
+        → TakesReadings (readings_of line.1 old.store.owed old.store.chain) readings (ticks.upcoming new.clock) (Err e)
+        → comes.Commits sees ticks clock start attempts line old (Err e) behind_error
     failed e value quiet looks idle taken = by_error e value quiet looks idle taken
 
   -- ---- Ok without a record
 
-  module _ (receipt : Receipt) (new : Serving S C) (value : Commits line.1 x.view old.store new.store (Ok receipt)) (quiet : CommitsQuietly files may_leave moment left_since here.log follows.keeps.debt writes old.store new.store (Ok receipt))
-      (taken : TakesReadings (readings_of line.1 old.store.owed old.store.chain) readings (upcoming new.store.clock) (Ok receipt)) where
-    pub done_nothing : receipt.group.records ≡ [] → LeavesOnly moment left_since old.store.shelf new.store.shelf (may_leave old.store.shelf) → new.mark ≡ old.mark → new.groups ≡ old.groups → (touched : List ℕ)
-        → Leads old.store.chain.live.mailbox new.store.chain.live.mailbox touched → IsDone files may_leave moment left_since upcoming clock start attempts line touched old new
+  module _ (receipt : Receipt) (new : Serving S C) (value : Commits line.1 x.view old.store new.store (Ok receipt)) (quiet : CommitsQuietly sees here.log follows.keeps.debt writes old.store new.store (Ok receipt))
+      (taken : TakesReadings (readings_of line.1 old.store.owed old.store.chain) readings (ticks.upcoming new.store.clock) (Ok receipt)) where
+    pub done_nothing : receipt.group.records ≡ [] → LeavesOnly sees old.store.shelf new.store.shelf (sees.may_leave old.store.shelf) → new.mark ≡ old.mark → new.groups ≡ old.groups → (touched : List ℕ)
+        → Leads old.store.chain.live.mailbox new.store.chain.live.mailbox touched → IsDone sees ticks clock start attempts line touched old new
     done_nothing none since mark groups touched leads =
-        done_idle (Ok receipt) new value quiet none since mark groups (takes_none (readings_of line.1 old.store.owed old.store.chain) readings (upcoming new.store.clock) receipt.group.records none taken)
+        done_idle (Ok receipt) new value quiet none since mark groups (takes_none (readings_of line.1 old.store.owed old.store.chain) readings (ticks.upcoming new.store.clock) receipt.group.records none taken)
         (allowed receipt new value quiet taken) (ap (λ (g : Group). g.records) (sym (group_is receipt new value quiet taken)) ∙ none) touched leads

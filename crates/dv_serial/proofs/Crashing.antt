@@ -35,6 +35,7 @@ use Rattle.dv_serial.specs.Following.{Keeps, with_line}
 use Rattle.dv_serial.specs.Places.{GivesBehind, GivesNext, GivesPlay, GivesWith, IsFailedWrite, IsLastFailed, IsOwedBehind, IsPendingOf, MayGive, StandsAt, begin_at, next_file, play_of}
 use Rattle.dv_serial.specs.Servings.{Serving}
 use Rattle.dv_serial.proofs.Matching.{IsWriteAt, after_here, mailbox_behind, mark_with}
+use Rattle.dv_shelf.specs.Sees.{SeesFolder}
 
 -- ---- where the log ends
 
@@ -172,35 +173,35 @@ module _ (clock : ℕ → ℕ) (start : Log) (attempts : List Attempt) (chain : 
 
 -- ---- a serving behind the lines
 
-module _ {S C : Type 0} (files : S → Folder) (may_leave : S → Folder → Type 0) (clock : ℕ → ℕ) (start : Log) (attempts : List Attempt) (serving : Serving S C) (keeps : Keeps files may_leave clock start attempts serving) where
+module _ {S C : Type 0} (sees : SeesFolder S) (clock : ℕ → ℕ) (start : Log) (attempts : List Attempt) (serving : Serving S C) (keeps : Keeps sees clock start attempts serving) where
   -- it gives the log behind them, or that with a group that the disk failed
-  pub keeps_behind : (c : Folder) → may_leave serving.store.shelf c → GivesBehind clock start attempts c
+  pub keeps_behind : (c : Folder) → sees.may_leave serving.store.shelf c → GivesBehind clock start attempts c
   keeps_behind c left =
       let chain : Chain = serving.store.chain in
       rest_behind clock start attempts chain c keeps.debt serving.store.owed keeps.at.rotates keeps.at.mailbox keeps.at.place keeps.rests.fits keeps.owed
-      (rests_give may_leave (play_of clock start attempts).log keeps.debt chain serving.store.shelf c keeps.rests.stands left)
+      (rests_give sees (play_of clock start attempts).log keeps.debt chain serving.store.shelf c keeps.rests.stands left)
 
   -- so do the files as they are read
-  pub files_behind : may_leave serving.store.shelf (files serving.store.shelf) → GivesBehind clock start attempts (files serving.store.shelf)
-  files_behind there = keeps_behind (files serving.store.shelf) there
+  pub files_behind : sees.may_leave serving.store.shelf (sees.files serving.store.shelf) → GivesBehind clock start attempts (sees.files serving.store.shelf)
+  files_behind there = keeps_behind (sees.files serving.store.shelf) there
 
   -- and what a crash leaves while it is only looked at
-  pub looks_may : (moment : S → ℕ) (left_since : S → ℕ → Folder → Type 0) (new : S) → LeavesOnly moment left_since serving.store.shelf new (may_leave serving.store.shelf)
-      → LeavesOnly moment left_since serving.store.shelf new (MayGive clock start attempts)
-  looks_may moment left_since new since =
-      weaker moment left_since serving.store.shelf new (may_leave serving.store.shelf) (MayGive clock start attempts) since (λ c left. behind_may clock start attempts c (keeps_behind c left))
+  pub looks_may : (new : S) → LeavesOnly sees serving.store.shelf new (sees.may_leave serving.store.shelf)
+      → LeavesOnly sees serving.store.shelf new (MayGive clock start attempts)
+  looks_may new since =
+      weaker sees serving.store.shelf new (sees.may_leave serving.store.shelf) (MayGive clock start attempts) since (λ c left. behind_may clock start attempts c (keeps_behind c left))
 
   -- or isn't called
-  pub stays_may : (moment : S → ℕ) (left_since : S → ℕ → Folder → Type 0) → ((c : Folder) → left_since serving.store.shelf (moment serving.store.shelf) c → may_leave serving.store.shelf c)
-      → LeavesOnly moment left_since serving.store.shelf serving.store.shelf (MayGive clock start attempts)
-  stays_may moment left_since now =
-      started moment left_since serving.store.shelf (MayGive clock start attempts) (λ c left. behind_may clock start attempts c (keeps_behind c (now c left)))
+  pub stays_may : ((c : Folder) → sees.left_since serving.store.shelf (sees.moment serving.store.shelf) c → sees.may_leave serving.store.shelf c)
+      → LeavesOnly sees serving.store.shelf serving.store.shelf (MayGive clock start attempts)
+  stays_may now =
+      started sees serving.store.shelf (MayGive clock start attempts) (λ c left. behind_may clock start attempts c (keeps_behind c (now c left)))
 
 -- with one line more, or more of them
-pub more_may : {S : Type 0} (moment : S → ℕ) (left_since : S → ℕ → Folder → Type 0) (old new : S) (clock : ℕ → ℕ) (start : Log) (attempts more : List Attempt) → LeavesOnly moment left_since old new (MayGive clock start attempts)
-    → LeavesOnly moment left_since old new (MayGive clock start (attempts ++ more))
-more_may moment left_since old new clock start attempts more since =
-    weaker moment left_since old new (MayGive clock start attempts) (MayGive clock start (attempts ++ more)) since (λ c. longer_may clock start attempts c more)
+pub more_may : {S : Type 0} (sees : SeesFolder S) (old new : S) (clock : ℕ → ℕ) (start : Log) (attempts more : List Attempt) → LeavesOnly sees old new (MayGive clock start attempts)
+    → LeavesOnly sees old new (MayGive clock start (attempts ++ more))
+more_may sees old new clock start attempts more since =
+    weaker sees old new (MayGive clock start attempts) (MayGive clock start (attempts ++ more)) since (λ c. longer_may clock start attempts c more)
 
 -- ---- one line more of the play
 

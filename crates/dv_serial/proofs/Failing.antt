@@ -29,6 +29,7 @@ use Rattle.dv_serial.specs.Servings.{Serving}
 use Rattle.dv_serial.specs.Writes.{IsFailedBy}
 use Rattle.dv_serial.proofs.Crashing.{failed_gives, failed_play, write_touches}
 use Rattle.dv_serial.proofs.Matching.{IsWriteAt, after_here}
+use Rattle.dv_shelf.specs.Sees.{SeesFolder, SeesTime}
 
 -- ---- one line more that writes no group
 
@@ -236,7 +237,7 @@ module _ {S C : Type 0} (clock : ℕ → ℕ) (start : Log) (attempts : List Att
 
 -- ---- a commit that the disk failed
 
-module _ {S C : Type 0} (files : S → Folder) (may_leave : S → Folder → Type 0) (moment : S → ℕ) (left_since : S → ℕ → Folder → Type 0) (upcoming : C → ℕ → ℕ) (clock : ℕ → ℕ) (start : Log) (attempts : List Attempt) (line : Line) (write : Write) (old : Serving S C)
+module _ {S C : Type 0} (sees : SeesFolder S) (ticks : SeesTime C) (clock : ℕ → ℕ) (start : Log) (attempts : List Attempt) (line : Line) (write : Write) (old : Serving S C)
     (at : IsAt (play_of clock start attempts) old) (debt : Debt) (owed : IsOwedBehind clock start attempts (place_of old.store.chain) debt) (fits : Fits old.store.owed debt) (is : IsWriteAt clock (play_of clock start attempts) line write old.store.owed old.store.chain)
     (may : MayWrite (play_of clock start attempts) line) (new : State S C) (faults : ℕ) where
   abbrev play : Play
@@ -245,8 +246,8 @@ module _ {S C : Type 0} (files : S → Folder) (may_leave : S → Folder → Typ
   abbrev behind_all : Serving S C
   behind_all = record old { store = new }
 
-  pub failed_by : new.chain.live.mailbox ≡ old.store.chain.live.mailbox → upcoming new.clock ≡ behind clock (used_by play line) → LeavesOnly moment left_since old.store.shelf new.shelf (MayGiveCommit play.log debt write old.store.owed old.store.chain)
-      → ((now : Debt) × IsLeftAt play.log debt write old.store new now × IsAtRest files may_leave play.log now new) → IsFailedBy files may_leave moment left_since upcoming clock start attempts line faults old behind_all
+  pub failed_by : new.chain.live.mailbox ≡ old.store.chain.live.mailbox → ticks.upcoming new.clock ≡ behind clock (used_by play line) → LeavesOnly sees old.store.shelf new.shelf (MayGiveCommit play.log debt write old.store.owed old.store.chain)
+      → ((now : Debt) × IsLeftAt play.log debt write old.store new now × IsAtRest sees play.log now new) → IsFailedBy sees ticks clock start attempts line faults old behind_all
   failed_by mailbox readings since err =
       let left : IsLeftSo clock start attempts line faults new err.0 = left_behind clock start attempts line write old.store debt faults is at.rotates at.place owed may new err.0 err.1 in
       record {
@@ -259,7 +260,7 @@ module _ {S C : Type 0} (files : S → Folder) (may_leave : S → Folder → Typ
           owed = left.owes;
           rests = err.2;
           readings = readings;
-          since = weaker moment left_since old.store.shelf new.shelf (MayGiveCommit play.log debt write old.store.owed old.store.chain) (MayGive clock start (with_line attempts line (Failed faults left.rotation))) since
+          since = weaker sees old.store.shelf new.shelf (MayGiveCommit play.log debt write old.store.owed old.store.chain) (MayGive clock start (with_line attempts line (Failed faults left.rotation))) since
               (λ c. failed_gives clock start attempts line write old.store.owed old.store.chain is debt at.rotates at.place fits owed may c faults left.rotation);
         };
       }

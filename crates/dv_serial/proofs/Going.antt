@@ -14,6 +14,7 @@ use Rattle.dv_serial.specs.Following.{IsAt, Keeps}
 use Rattle.dv_serial.specs.Places.{GivesPlay, StandsAt, next_file, play_of}
 use Rattle.dv_serial.specs.Servings.{Serving}
 use Rattle.dv_serial.proofs.Failing.{owed_longer}
+use Rattle.dv_shelf.specs.Sees.{SeesFolder}
 
 -- the log, the mailbox and the place stay
 pub record WritesNothing (before behind : Play) : Type 0 where
@@ -60,11 +61,11 @@ module _ {S C : Type 0} where
   }
 
   -- and keeps the log behind one line more
-  pub keeps_on : (files : S → Folder) (may_leave : S → Folder → Type 0) (clock : ℕ → ℕ) (start : Log) (attempts : List Attempt) (a : Attempt) (serving : Serving S C) → WritesNothing (play_of clock start attempts) (play_of clock start (attempts ++ a ∷ []))
-      → Keeps files may_leave clock start attempts serving → Keeps files may_leave clock start (attempts ++ a ∷ []) serving
-  keeps_on files may_leave clock start attempts a serving same keeps = record {
+  pub keeps_on : (sees : SeesFolder S) (clock : ℕ → ℕ) (start : Log) (attempts : List Attempt) (a : Attempt) (serving : Serving S C) → WritesNothing (play_of clock start attempts) (play_of clock start (attempts ++ a ∷ []))
+      → Keeps sees clock start attempts serving → Keeps sees clock start (attempts ++ a ∷ []) serving
+  keeps_on sees clock start attempts a serving same keeps = record {
     at = at_on (play_of clock start attempts) (play_of clock start (attempts ++ a ∷ [])) serving same keeps.at;
     debt = keeps.debt;
     owed = owed_longer clock start attempts a (place_of serving.store.chain) same.log same.mailbox same.mark keeps.debt keeps.owed;
-    rests = subst (λ (log : Log). IsAtRest files may_leave log keeps.debt serving.store) (sym same.log) keeps.rests;
+    rests = subst (λ (log : Log). IsAtRest sees log keeps.debt serving.store) (sym same.log) keeps.rests;
   }

@@ -25,6 +25,7 @@ use Rattle.dv_serial.specs.Following.{HasStates}
 use Rattle.dv_serial.specs.Serves.{AreAbreast, OnlyLooksAt, seat_at, with_seat}
 use Rattle.dv_serial.specs.Servings.{Serving}
 use Rattle.dv_serial.proofs.Seated.{abreast_with}
+use Rattle.dv_shelf.specs.Sees.{SeesFolder}
 
 -- a write reads no message
 pub writes_unread : (c : Command) → is_write c ≡ true → reads_mail c ≡ false
@@ -35,18 +36,18 @@ writes_unread c write = refl
 pub unread_supplied : (mail : ℕ → Mail) (c : Command) (x : SessionState) (m : Mailbox) (facts : List MailFacts) → reads_mail c ≡ false → AreSupplied mail c x.view m facts
 unread_supplied mail c x m facts unread = λ reads. let no : ◌≡◌ {A = Bool} true false = sym reads ∙ unread in absurd cc
 
-module _ {S C : Type 0} (files : S → Folder) (may_leave : S → Folder → Type 0) where
-  module _ (log : Log) (debt : Debt) (store : State S C) (there : may_leave store.shelf (files store.shelf)) (rest : IsAtRest files may_leave log debt store) where
-    pub known_here : RestKnows (files store.shelf) log store
-    known_here = rest_knows files may_leave log debt store there rest
+module _ {S C : Type 0} (sees : SeesFolder S) where
+  module _ (log : Log) (debt : Debt) (store : State S C) (there : sees.may_leave store.shelf (sees.files store.shelf)) (rest : IsAtRest sees log debt store) where
+    pub known_here : RestKnows (sees.files store.shelf) log store
+    known_here = rest_knows sees log debt store there rest
 
-    pub messages_known : AreMessages (files store.shelf) store.chain.live.mailbox log.mail
-    messages_known row within = ((rest.stands.keeps (files store.shelf) there).messages row within).held
+    pub messages_known : AreMessages (sees.files store.shelf) store.chain.live.mailbox log.mail
+    messages_known row within = ((rest.stands.keeps (sees.files store.shelf) there).messages row within).held
 
   -- nothing was read
-  pub reads_nothing : (moment : S → ℕ) (left_since : S → ℕ → Folder → Type 0) (store : State S C) → ((c : Folder) → left_since store.shelf (moment store.shelf) c → may_leave store.shelf c) → OnlyReads files may_leave moment left_since store store
-  reads_nothing moment left_since store now = record {
-    looks = record { same = refl; crash = λ c left. left; since = started moment left_since store.shelf (may_leave store.shelf) now };
+  pub reads_nothing : (store : State S C) → ((c : Folder) → sees.left_since store.shelf (sees.moment store.shelf) c → sees.may_leave store.shelf c) → OnlyReads sees store store
+  reads_nothing store now = record {
+    looks = record { same = refl; crash = λ c left. left; since = started sees store.shelf (sees.may_leave store.shelf) now };
     file = λ is. is;
     rests = λ log debt rest. rest;
   }

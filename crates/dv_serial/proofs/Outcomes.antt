@@ -32,6 +32,7 @@ use Rattle.dv_serial.proofs.Refusals.{refused_available}
 use Rattle.dv_serial.proofs.Seated.{seated_with, state_at}
 use Rattle.dv_serial.proofs.Untouched.{same_others}
 use Rattle.dv_serial.proofs.Stepping.{attempt, failed_step, may_on, play_on, refused_step, served_step}
+use Rattle.dv_shelf.specs.Sees.{SeesFolder, SeesTime}
 
 -- a group changes no session
 group_states : (clock : ℕ → ℕ) (play : Play) (line : Line) → (with_group_here clock play line).states ≡ play.states
@@ -51,12 +52,12 @@ answered_so mail x y line met m n q other p mark place a ex en ep em ek is =
     ∙ ap (λ (z : Mailbox). answer mail y line.1 n p z mark) em
     ∙ ap (λ (z : Mark). answer mail y line.1 n p other z) ek
 
-module _ {S C : Type 0} (files : S → Folder) (may_leave : S → Folder → Type 0) (moment : S → ℕ) (left_since : S → ℕ → Folder → Type 0) (upcoming : C → ℕ → ℕ) (clock : ℕ → ℕ) (start : Log) where
+module _ {S C : Type 0} (sees : SeesFolder S) (ticks : SeesTime C) (clock : ℕ → ℕ) (start : Log) where
   -- ---- where the play stands
 
   -- the sessions may be others
-  pub stands_seats : (lines : List Attempt) (play : Play) (old mid : Serving S C) (seats : List Follower) → StandsAs files may_leave moment left_since upcoming clock start lines play old mid
-      → StandsAs files may_leave moment left_since upcoming clock start lines play old (record mid { seats = seats })
+  pub stands_seats : (lines : List Attempt) (play : Play) (old mid : Serving S C) (seats : List Follower) → StandsAs sees ticks clock start lines play old mid
+      → StandsAs sees ticks clock start lines play old (record mid { seats = seats })
   stands_seats lines play old mid seats is = record {
     at = record { rotates = is.at.rotates; groups = is.at.groups; mailbox = is.at.mailbox; mark = is.at.mark; place = is.at.place };
     debt = is.debt;
@@ -68,7 +69,7 @@ module _ {S C : Type 0} (files : S → Folder) (may_leave : S → Folder → Typ
 
   -- the log is kept where the play of the lines stands, but for its sessions
   pub stands_keeps : (lines : List Attempt) (play : Play) (states : ℕ → SessionState) (old new : Serving S C) → play_of clock start lines ≡ record play { states = states }
-      → StandsAs files may_leave moment left_since upcoming clock start lines play old new → Keeps files may_leave clock start lines new
+      → StandsAs sees ticks clock start lines play old new → Keeps sees clock start lines new
   stands_keeps lines play states old new same is = record {
     at = at_on play (play_of clock start lines) new (record {
       log = ap (λ (p : Play). p.log) same;
@@ -78,11 +79,11 @@ module _ {S C : Type 0} (files : S → Folder) (may_leave : S → Folder → Typ
     }) is.at;
     debt = is.debt;
     owed = is.owed;
-    rests = subst (λ (log : Log). IsAtRest files may_leave log is.debt new.store) (sym (ap (λ (p : Play). p.log) same)) is.rests;
+    rests = subst (λ (log : Log). IsAtRest sees log is.debt new.store) (sym (ap (λ (p : Play). p.log) same)) is.rests;
   }
 
   pub stands_leaves : (lines : List Attempt) (play : Play) (states : ℕ → SessionState) (old new : Serving S C) → play_of clock start lines ≡ record play { states = states }
-      → StandsAs files may_leave moment left_since upcoming clock start lines play old new → Leaves files may_leave moment left_since clock start lines old new
+      → StandsAs sees ticks clock start lines play old new → Leaves sees clock start lines old new
   stands_leaves lines play states old new same is = record { keeps = stands_keeps lines play states old new same is; since = is.since }
 
   module _ (base : ℕ) (attempts : List Attempt) where
@@ -91,20 +92,20 @@ module _ {S C : Type 0} (files : S → Folder) (may_leave : S → Folder → Typ
 
     -- ---- nothing is written
 
-    module _ (before : ℕ) (old : Serving S C) (follows : Follows files may_leave upcoming clock start base before attempts old) where
+    module _ (before : ℕ) (old : Serving S C) (follows : Follows sees ticks clock start base before attempts old) where
       -- nothing is done
-      pub stands_still : ((c : Folder) → left_since old.store.shelf (moment old.store.shelf) c → may_leave old.store.shelf c) → StandsAs files may_leave moment left_since upcoming clock start attempts here old old
+      pub stands_still : ((c : Folder) → sees.left_since old.store.shelf (sees.moment old.store.shelf) c → sees.may_leave old.store.shelf c) → StandsAs sees ticks clock start attempts here old old
       stands_still now = record {
         at = follows.keeps.at;
         debt = follows.keeps.debt;
         owed = follows.keeps.owed;
         rests = follows.keeps.rests;
         readings = follows.readings;
-        since = stays_may files may_leave clock start attempts old follows.keeps moment left_since now;
+        since = stays_may sees clock start attempts old follows.keeps now;
       }
 
       -- the folder is only read
-      pub stands_read : (mid : Serving S C) → OnlyLooksAt old mid → OnlyReads files may_leave moment left_since old.store mid.store → StandsAs files may_leave moment left_since upcoming clock start attempts here old mid
+      pub stands_read : (mid : Serving S C) → OnlyLooksAt old mid → OnlyReads sees old.store mid.store → StandsAs sees ticks clock start attempts here old mid
       stands_read mid looks reads =
           let keeps = follows.keeps in
           let chain : mid.store.chain ≡ old.store.chain = looks.store.chain in
@@ -120,39 +121,39 @@ module _ {S C : Type 0} (files : S → Folder) (may_leave : S → Folder → Typ
             debt = keeps.debt;
             owed = subst (λ (x : Chain). IsOwedBehind clock start attempts (place_of x) keeps.debt) (sym chain) keeps.owed;
             rests = reads.rests here.log keeps.debt keeps.rests;
-            readings = ap upcoming looks.store.clock ∙ follows.readings;
-            since = looks_may files may_leave clock start attempts old keeps moment left_since mid.store.shelf reads.looks.since;
+            readings = ap ticks.upcoming looks.store.clock ∙ follows.readings;
+            since = looks_may sees clock start attempts old keeps mid.store.shelf reads.looks.since;
           }
 
     -- a line that writes nothing
     pub stands_on : (line : Line) (outcome : Outcome) (play : Play) (old new : Serving S C) → play ≡ here → WritesNothing here (play_of clock start (with_line attempts line outcome))
-        → StandsAs files may_leave moment left_since upcoming clock start attempts here old new → StandsAs files may_leave moment left_since upcoming clock start (with_line attempts line outcome) play old new
+        → StandsAs sees ticks clock start attempts here old new → StandsAs sees ticks clock start (with_line attempts line outcome) play old new
     stands_on line outcome play old new same nothing is = record {
       at = at_on here play new (same_writes_nothing here play same) is.at;
       debt = is.debt;
       owed = owed_longer clock start attempts (attempt line outcome) (place_of new.store.chain) nothing.log nothing.mailbox nothing.mark is.debt is.owed;
-      rests = subst (λ (p : Play). IsAtRest files may_leave p.log is.debt new.store) (sym same) is.rests;
+      rests = subst (λ (p : Play). IsAtRest sees p.log is.debt new.store) (sym same) is.rests;
       readings = is.readings ∙ ap (λ (p : Play). behind clock p.used) (sym same);
-      since = more_may moment left_since old.store.shelf new.store.shelf clock start attempts (attempt line outcome ∷ []) is.since;
+      since = more_may sees old.store.shelf new.store.shelf clock start attempts (attempt line outcome ∷ []) is.since;
     }
 
     -- ---- memory ended it
 
-    pub ends_here : (line : Line) (old new : Serving S C) → files new.store.shelf ≡ files old.store.shelf → Leaves files may_leave moment left_since clock start attempts old new → EndsAt files may_leave moment left_since clock start base attempts line old new
+    pub ends_here : (line : Line) (old new : Serving S C) → sees.files new.store.shelf ≡ sees.files old.store.shelf → Leaves sees clock start attempts old new → EndsAt sees clock start base attempts line old new
     ends_here line old new stays leaves = record {
       left = [];
       is = tt;
-      leaves = subst (λ (lines : List Attempt). Leaves files may_leave moment left_since clock start lines old new) (sym (append-nil attempts)) leaves;
-      others = same_others clock start (files old.store.shelf) (files new.store.shelf) (attempts ++ []) stays;
+      leaves = subst (λ (lines : List Attempt). Leaves sees clock start lines old new) (sym (append-nil attempts)) leaves;
+      others = same_others clock start (sees.files old.store.shelf) (sees.files new.store.shelf) (attempts ++ []) stays;
     }
 
-    pub ends_stands : (line : Line) (old new : Serving S C) → files new.store.shelf ≡ files old.store.shelf → StandsAs files may_leave moment left_since upcoming clock start attempts here old new → EndsAt files may_leave moment left_since clock start base attempts line old new
+    pub ends_stands : (line : Line) (old new : Serving S C) → sees.files new.store.shelf ≡ sees.files old.store.shelf → StandsAs sees ticks clock start attempts here old new → EndsAt sees clock start base attempts line old new
     ends_stands line old new stays is = ends_here line old new stays (stands_leaves attempts here here.states old new refl is)
 
     pub ends_behind : (line : Line) (outcome : Outcome) (play : Play) (states : ℕ → SessionState) (old new : Serving S C) → (step clock here (attempt line outcome)).play ≡ record play { states = states } → IsAttempt base (attempt line outcome)
         → ((step clock here (attempt line outcome)).play.log ≡ here.log) ⊎ ((outcome ≡ Served) × MayWrite here line)
-        → KeepsOthers clock start (with_line attempts line outcome) (files old.store.shelf) (files new.store.shelf)
-        → StandsAs files may_leave moment left_since upcoming clock start (with_line attempts line outcome) play old new → EndsAt files may_leave moment left_since clock start base attempts line old new
+        → KeepsOthers clock start (with_line attempts line outcome) (sees.files old.store.shelf) (sees.files new.store.shelf)
+        → StandsAs sees ticks clock start (with_line attempts line outcome) play old new → EndsAt sees clock start base attempts line old new
     ends_behind line outcome play states old new same good log others is = record {
       left = attempt line outcome ∷ [];
       is = (refl, record { attempt = good; log = log });
@@ -165,9 +166,9 @@ module _ {S C : Type 0} (files : S → Folder) (may_leave : S → Folder → Typ
     -- where the step stands
     served_on : (faults : ℕ) (line : Line) (outcome : Outcome) (play : Play) (states : ℕ → SessionState) (replies : List Reply) (old new : Serving S C) → step clock here (attempt line outcome) ≡ record { replies = replies; play = record play { states = states } }
         → MayPlay clock start base faults (with_line attempts line outcome) → AreSeated new.store.chain.live.mailbox states new.seats
-        → KeepsOthers clock start (with_line attempts line outcome) (files old.store.shelf) (files new.store.shelf)
-        → StandsAs files may_leave moment left_since upcoming clock start (with_line attempts line outcome) play old new
-        → IsServed files may_leave moment left_since upcoming clock start base faults attempts line replies old new
+        → KeepsOthers clock start (with_line attempts line outcome) (sees.files old.store.shelf) (sees.files new.store.shelf)
+        → StandsAs sees ticks clock start (with_line attempts line outcome) play old new
+        → IsServed sees ticks clock start base faults attempts line replies old new
     served_on faults line outcome play states replies old new steps may seated others is =
         let same : play_of clock start (with_line attempts line outcome) ≡ record play { states = states } = play_on clock start base attempts (attempt line outcome) ∙ ap (λ (s : Step). s.play) steps in
         record {
@@ -183,7 +184,7 @@ module _ {S C : Type 0} (files : S → Folder) (may_leave : S → Folder → Typ
           others = others;
         }
 
-    module _ (before faults : ℕ) (line : Line) (old : Serving S C) (follows : Follows files may_leave upcoming clock start base before attempts old) (good : IsLine line) (later : before ≤ faults) where
+    module _ (before faults : ℕ) (line : Line) (old : Serving S C) (follows : Follows sees ticks clock start base before attempts old) (good : IsLine line) (later : before ≤ faults) where
       -- a line that the disk's failure doesn't answer
       may_quietly : (replies : List Reply) (play : Play) → step clock here (attempt line Served) ≡ record { replies = replies; play = play } → AreAvailable replies → MayPlay clock start base faults (with_line attempts line Served)
       may_quietly replies play steps available =
@@ -197,24 +198,24 @@ module _ {S C : Type 0} (files : S → Folder) (may_leave : S → Folder → Typ
 
       -- it is refused
       pub refused_serves : (r : Reply) (new : Serving S C) (replies : List Reply) → refused_here here line ≡ Some r → new.seats ≡ old.seats → new.store.chain.live.mailbox ≡ old.store.chain.live.mailbox → replies ≡ r ∷ []
-          → KeepsOthers clock start (with_line attempts line Served) (files old.store.shelf) (files new.store.shelf)
-          → StandsAs files may_leave moment left_since upcoming clock start attempts here old new → IsServed files may_leave moment left_since upcoming clock start base faults attempts line replies old new
+          → KeepsOthers clock start (with_line attempts line Served) (sees.files old.store.shelf) (sees.files new.store.shelf)
+          → StandsAs sees ticks clock start attempts here old new → IsServed sees ticks clock start base faults attempts line replies old new
       refused_serves r new replies refused seats mailbox lines others is =
           let steps = refused_step clock here line Served r refused in
           let available : AreAvailable (r ∷ []) = one_available r (refused_available here line r refused) in
           let stays = refused_stays clock start attempts (attempt line Served) r refused in
-          subst (λ (rs : List Reply). IsServed files may_leave moment left_since upcoming clock start base faults attempts line rs old new) (sym lines)
+          subst (λ (rs : List Reply). IsServed sees ticks clock start base faults attempts line rs old new) (sym lines)
           (served_on faults line Served here here.states (r ∷ []) old new steps (may_quietly (r ∷ []) here steps available) (seated_same new seats mailbox) others
           (stands_on line Served here old new refl (same_writes_nothing here (play_of clock start (with_line attempts line Served)) stays) is))
 
       module _ (allowed : refused_here here line ≡ None) where
         -- the disk failed it
         pub failed_serves : (count : ℕ) (rotation : Rotation) (new : Serving S C) (replies : List Reply) → touches_disk line.1 ≡ true → count ≡ faults → Rose before faults → new.seats ≡ old.seats → new.store.chain.live.mailbox ≡ old.store.chain.live.mailbox
-            → replies ≡ reply.Unavailable count ∷ [] → KeepsOthers clock start (with_line attempts line (Failed count rotation)) (files old.store.shelf) (files new.store.shelf) → StandsAs files may_leave moment left_since upcoming clock start (with_line attempts line (Failed count rotation)) (behind_failure here line rotation) old new
-            → IsServed files may_leave moment left_since upcoming clock start base faults attempts line replies old new
+            → replies ≡ reply.Unavailable count ∷ [] → KeepsOthers clock start (with_line attempts line (Failed count rotation)) (sees.files old.store.shelf) (sees.files new.store.shelf) → StandsAs sees ticks clock start (with_line attempts line (Failed count rotation)) (behind_failure here line rotation) old new
+            → IsServed sees ticks clock start base faults attempts line replies old new
         failed_serves count rotation new replies touches is_count rose seats mailbox lines others is =
             let steps = failed_step clock here line count rotation allowed touches in
-            subst (λ (rs : List Reply). IsServed files may_leave moment left_since upcoming clock start base faults attempts line rs old new) (sym lines)
+            subst (λ (rs : List Reply). IsServed sees ticks clock start base faults attempts line rs old new) (sym lines)
             (served_on faults line (Failed count rotation) (behind_failure here line rotation) here.states (reply.Unavailable count ∷ []) old new steps
             (may_on clock start base attempts before faults (attempt line (Failed count rotation)) follows.may (failed_attempt count rotation is_count rose)
             (subst (λ (n : ℕ). RoseBy n before faults) (sym (ap (λ (s : Step). unavailable_count (s.replies ∷ [])) steps)) rose))
@@ -224,12 +225,12 @@ module _ {S C : Type 0} (files : S → Folder) (may_leave : S → Folder → Typ
             failed_attempt n turned e r = record { line = good; count = subst (Rose base) (sym e) (rose_since _ base before faults follows.may.few r) }
 
         -- it is told
-        pub told_serves : (at : ℕ) (mid new : Serving S C) (replies : List Reply) → line.0 ≡ at + 1 → at < length mid.seats → KeepsOthers clock start (with_line attempts line Served) (files old.store.shelf) (files mid.store.shelf)
-            → StandsAs files may_leave moment left_since upcoming clock start (with_line attempts line Served) (with_group_here clock here line) old mid
+        pub told_serves : (at : ℕ) (mid new : Serving S C) (replies : List Reply) → line.0 ≡ at + 1 → at < length mid.seats → KeepsOthers clock start (with_line attempts line Served) (sees.files old.store.shelf) (sees.files mid.store.shelf)
+            → StandsAs sees ticks clock start (with_line attempts line Served) (with_group_here clock here line) old mid
             → AreSeated mid.store.chain.live.mailbox here.states mid.seats → IsAbreast mid.store.chain.live.mailbox (seat_at new.seats at)
             → record { replies = replies; next = (seat_at new.seats at).state }
             ≡ answer (with_group_here clock here line).log.mail (seat_at mid.seats at).state line.1 old.store.chain.live.mailbox mid.groups mid.store.chain.live.mailbox mid.mark
-            → with_seat at (seat_at new.seats at) mid ≡ new → IsServed files may_leave moment left_since upcoming clock start base faults attempts line replies old new
+            → with_seat at (seat_at new.seats at) mid ≡ new → IsServed sees ticks clock start base faults attempts line replies old new
         told_serves at mid new replies number less others is seated abreast answered only =
             let play : Play = with_group_here clock here line in
             let f : Follower = seat_at new.seats at in
@@ -243,8 +244,8 @@ module _ {S C : Type 0} (files : S → Folder) (may_leave : S → Folder → Typ
             ap (λ (st : ℕ → SessionState). with_state st (at + 1) f.state) (sym (group_states clock here line))
             ∙ ap (λ (n : ℕ). with_state play.states n f.state) (sym number)
             ∙ ap (λ (b : Answer). with_state play.states line.0 b.next) same in
-            subst (λ (rs : List Reply). IsServed files may_leave moment left_since upcoming clock start base faults attempts line rs old new) (sym (ap (λ (b : Answer). b.replies) same))
-            (subst (λ (n : Serving S C). IsServed files may_leave moment left_since upcoming clock start base faults attempts line a.replies old n) only
+            subst (λ (rs : List Reply). IsServed sees ticks clock start base faults attempts line rs old new) (sym (ap (λ (b : Answer). b.replies) same))
+            (subst (λ (n : Serving S C). IsServed sees ticks clock start base faults attempts line a.replies old n) only
             (served_on faults line Served play (with_state play.states line.0 a.next) a.replies old (with_seat at f mid) steps
             (may_quietly a.replies (told here line play).play steps (answer_available play.log.mail (here.states line.0) line.1 here.mailbox (length play.log.entries) play.mailbox play.mark))
             (subst (λ (st : ℕ → SessionState). AreSeated m st (with_seat at f mid).seats) states_are (seated_with m here.states mid.seats seated at f less abreast)) others

@@ -35,31 +35,32 @@ use Rattle.dv_serial.proofs.Refusals.{own_refuses}
 use Rattle.dv_serial.proofs.Seated.{seated_told}
 use Rattle.dv_serial.proofs.Stepping.{attempt, failed_stays, failed_step, play_on, read_stays, served_step}
 use Rattle.dv_serial.proofs.Untouched.{same_others, write_others}
+use Rattle.dv_shelf.specs.Sees.{SeesFolder, SeesTime}
 
-module _ {S C : Type 0} (files : S → Folder) (may_leave : S → Folder → Type 0) (moment : S → ℕ) (left_since : S → ℕ → Folder → Type 0) (upcoming : C → ℕ → ℕ) (clock : ℕ → ℕ) (start : Log) (base : ℕ) (attempts : List Attempt)
-    (before faults : ℕ) (line : Line) (old : Serving S C) (follows : Follows files may_leave upcoming clock start base before attempts old) (good : IsLine line) (later : before ≤ faults) where
+module _ {S C : Type 0} (sees : SeesFolder S) (ticks : SeesTime C) (clock : ℕ → ℕ) (start : Log) (base : ℕ) (attempts : List Attempt)
+    (before faults : ℕ) (line : Line) (old : Serving S C) (follows : Follows sees ticks clock start base before attempts old) (good : IsLine line) (later : before ≤ faults) where
   abbrev here : Play
   here = play_of clock start attempts
 
   abbrev IsResult : {E : Type 0} → Result (List Reply) E → Serving S C → Type 0
-  IsResult {E} result new = Serves files may_leave moment left_since upcoming clock start base faults attempts line {E = E} result old new
+  IsResult {E} result new = Serves sees ticks clock start base faults attempts line {E = E} result old new
 
   -- ---- refused by the session
 
   pub own_result : {E : Type 0} (r : Reply) (result : Result (List Reply) E) → own_refusal (here.states line.0) line.1 ≡ Some r
-      → ((c : Folder) → left_since old.store.shelf (moment old.store.shelf) c → may_leave old.store.shelf c) → IfOk result (λ lines. lines ≡ r ∷ []) → IsResult result old
+      → ((c : Folder) → sees.left_since old.store.shelf (sees.moment old.store.shelf) c → sees.may_leave old.store.shelf c) → IfOk result (λ lines. lines ≡ r ∷ []) → IsResult result old
   own_result r (Ok lines) own now is =
-      refused_serves files may_leave moment left_since upcoming clock start base attempts before faults line old follows good later r old lines (own_refuses here line r own) refl refl is (λ n none. refl)
-      (stands_still files may_leave moment left_since upcoming clock start base attempts before old follows now)
+      refused_serves sees ticks clock start base attempts before faults line old follows good later r old lines (own_refuses here line r own) refl refl is (λ n none. refl)
+      (stands_still sees ticks clock start base attempts before old follows now)
   own_result r (Err e) own now is =
-      ends_stands files may_leave moment left_since upcoming clock start base attempts line old old refl (stands_still files may_leave moment left_since upcoming clock start base attempts before old follows now)
+      ends_stands sees ticks clock start base attempts line old old refl (stands_still sees ticks clock start base attempts before old follows now)
 
   module _ (allowed : refused_here here line ≡ None) where
     -- ---- a read
 
-    module _ (read : is_write line.1 ≡ false) (mid : Serving S C) (looks : OnlyLooksAt old mid) (reads : OnlyReads files may_leave moment left_since old.store mid.store) where
-      stands : StandsAs files may_leave moment left_since upcoming clock start attempts here old mid
-      stands = stands_read files may_leave moment left_since upcoming clock start base attempts before old follows mid looks reads
+    module _ (read : is_write line.1 ≡ false) (mid : Serving S C) (looks : OnlyLooksAt old mid) (reads : OnlyReads sees old.store mid.store) where
+      stands : StandsAs sees ticks clock start attempts here old mid
+      stands = stands_read sees ticks clock start base attempts before old follows mid looks reads
 
       same_mailbox : mid.store.chain.live.mailbox ≡ old.store.chain.live.mailbox
       same_mailbox = ap (λ (x : Chain). x.live.mailbox) looks.store.chain
@@ -92,12 +93,12 @@ module _ {S C : Type 0} (files : S → Folder) (may_leave : S → Folder → Typ
       pub read_failed : {A E : Type 0} (f : StoreFault) (result : Result (List Reply) E) → ((count : ℕ) → f ≡ fault.Disk count → reads_mail line.1 ≡ true) → IsFailure f → HasStoreCause {A = A} before faults (Err f) → IfOk result (IsFaultLine f) → IsResult result mid
       read_failed (fault.Disk count) (Ok lines) mails failure cause is =
           let touches : touches_disk line.1 ≡ true = ap (λ (b : Bool). b || reads_mail line.1) read ∙ mails count refl in
-          failed_serves files may_leave moment left_since upcoming clock start base attempts before faults line old follows good later allowed count DueAgain mid lines touches cause.rose.0 cause.rose.1 looks.seats same_mailbox is (same_others clock start (files old.store.shelf) (files mid.store.shelf) (with_line attempts line (Failed count DueAgain)) reads.looks.same)
-          (stands_on files may_leave moment left_since upcoming clock start base attempts line (Failed count DueAgain) (behind_failure here line DueAgain) old mid (failed_stays clock here line read DueAgain) (failed_nothing count touches) stands)
+          failed_serves sees ticks clock start base attempts before faults line old follows good later allowed count DueAgain mid lines touches cause.rose.0 cause.rose.1 looks.seats same_mailbox is (same_others clock start (sees.files old.store.shelf) (sees.files mid.store.shelf) (with_line attempts line (Failed count DueAgain)) reads.looks.same)
+          (stands_on sees ticks clock start base attempts line (Failed count DueAgain) (behind_failure here line DueAgain) old mid (failed_stays clock here line read DueAgain) (failed_nothing count touches) stands)
       read_failed fault.NoMemory (Ok lines) mails failure cause is = absurd is
       read_failed fault.UidsUsedUp result mails failure cause is = absurd failure
       read_failed (fault.TooLong bytes) result mails failure cause is = absurd failure
-      read_failed f (Err e) mails failure cause is = ends_stands files may_leave moment left_since upcoming clock start base attempts line old mid reads.looks.same stands
+      read_failed f (Err e) mails failure cause is = ends_stands sees ticks clock start base attempts line old mid reads.looks.same stands
 
       -- it is answered
       pub read_told : {E : Type 0} (at : ℕ) (new : Serving S C) (result : Result (List Reply) E) → line.0 ≡ at + 1 → at < length mid.seats → IsAbreast mid.store.chain.live.mailbox (seat_at new.seats at)
@@ -105,52 +106,52 @@ module _ {S C : Type 0} (files : S → Folder) (may_leave : S → Folder → Typ
           ≡ answer here.log.mail (seat_at mid.seats at).state line.1 old.store.chain.live.mailbox mid.groups mid.store.chain.live.mailbox mid.mark)
           → with_seat at (seat_at new.seats at) mid ≡ new → OnErr result (new ≡ mid) → IsResult result new
       read_told at new (Ok replies) number less abreast answered only stays =
-          told_serves files may_leave moment left_since upcoming clock start base attempts before faults line old follows good later allowed at mid new replies number less (same_others clock start (files old.store.shelf) (files mid.store.shelf) (with_line attempts line Served) reads.looks.same)
-          (stands_on files may_leave moment left_since upcoming clock start base attempts line Served (with_group_here clock here line) old mid (read_stays clock here line read) told_nothing stands)
-          (seated_same files may_leave moment left_since upcoming clock start base attempts before faults line old follows good later mid looks.seats same_mailbox) abreast
+          told_serves sees ticks clock start base attempts before faults line old follows good later allowed at mid new replies number less (same_others clock start (sees.files old.store.shelf) (sees.files mid.store.shelf) (with_line attempts line Served) reads.looks.same)
+          (stands_on sees ticks clock start base attempts line Served (with_group_here clock here line) old mid (read_stays clock here line read) told_nothing stands)
+          (seated_same sees ticks clock start base attempts before faults line old follows good later mid looks.seats same_mailbox) abreast
           (subst (λ (p : Play). record { replies = replies; next = (seat_at new.seats at).state } ≡ answer p.log.mail (seat_at mid.seats at).state line.1 old.store.chain.live.mailbox mid.groups mid.store.chain.live.mailbox mid.mark)
           (sym (read_stays clock here line read)) answered)
           only
       read_told at new (Err e) number less abreast answered only stays =
-          subst (λ (n : Serving S C). EndsAt files may_leave moment left_since clock start base attempts line old n) (sym stays) (ends_stands files may_leave moment left_since upcoming clock start base attempts line old mid reads.looks.same stands)
+          subst (λ (n : Serving S C). EndsAt sees clock start base attempts line old n) (sym stays) (ends_stands sees ticks clock start base attempts line old mid reads.looks.same stands)
 
       -- memory ended it
-      pub read_ended : EndsAt files may_leave moment left_since clock start base attempts line old mid
-      read_ended = ends_stands files may_leave moment left_since upcoming clock start base attempts line old mid reads.looks.same stands
+      pub read_ended : EndsAt sees clock start base attempts line old mid
+      read_ended = ends_stands sees ticks clock start base attempts line old mid reads.looks.same stands
 
   -- ---- a write
 
   -- memory ends it before anything is done
-  pub ended_still : ((c : Folder) → left_since old.store.shelf (moment old.store.shelf) c → may_leave old.store.shelf c) → EndsAt files may_leave moment left_since clock start base attempts line old old
-  ended_still now = ends_stands files may_leave moment left_since upcoming clock start base attempts line old old refl (stands_still files may_leave moment left_since upcoming clock start base attempts before old follows now)
+  pub ended_still : ((c : Folder) → sees.left_since old.store.shelf (sees.moment old.store.shelf) c → sees.may_leave old.store.shelf c) → EndsAt sees clock start base attempts line old old
+  ended_still now = ends_stands sees ticks clock start base attempts line old old refl (stands_still sees ticks clock start base attempts before old follows now)
 
   module _ (write : is_write line.1 ≡ true) (mid : Serving S C) where
     -- nothing is written
-    pub write_failed : {A E : Type 0} (f : StoreFault) (result : Result (List Reply) E) → Commits files may_leave moment left_since upcoming clock start attempts line old (Err f) mid → HasStoreCause {A = A} before faults (Err f) → mid.seats ≡ old.seats
-        → LeavesOthers {A = A} line.1 old.store.chain.live.mailbox (Err f) (files old.store.shelf) (files mid.store.shelf) → IfOk result (IsFaultLine f) → IsResult result mid
+    pub write_failed : {A E : Type 0} (f : StoreFault) (result : Result (List Reply) E) → Commits sees ticks clock start attempts line old (Err f) mid → HasStoreCause {A = A} before faults (Err f) → mid.seats ≡ old.seats
+        → LeavesOthers {A = A} line.1 old.store.chain.live.mailbox (Err f) (sees.files old.store.shelf) (sees.files mid.store.shelf) → IfOk result (IsFaultLine f) → IsResult result mid
     write_failed (fault.Disk count) (Ok lines) commits cause seats others is =
-        failed_serves files may_leave moment left_since upcoming clock start base attempts before faults line old follows good later commits.allowed count commits.rotation mid lines (write_touches line write) cause.rose.0 cause.rose.1 seats commits.mailbox is
-        (write_others clock start (files old.store.shelf) (files mid.store.shelf) attempts line (Failed count commits.rotation) old.store.chain.live.mailbox write follows.keeps.at.mailbox others) commits.stands
+        failed_serves sees ticks clock start base attempts before faults line old follows good later commits.allowed count commits.rotation mid lines (write_touches line write) cause.rose.0 cause.rose.1 seats commits.mailbox is
+        (write_others clock start (sees.files old.store.shelf) (sees.files mid.store.shelf) attempts line (Failed count commits.rotation) old.store.chain.live.mailbox write follows.keeps.at.mailbox others) commits.stands
     write_failed (fault.Disk count) (Err e) commits cause seats others is =
         let steps = failed_step clock here line count commits.rotation commits.allowed (write_touches line write) in
-        ends_behind files may_leave moment left_since upcoming clock start base attempts line (Failed count commits.rotation) (behind_failure here line commits.rotation) here.states old mid (ap (λ (s : Step). s.play) steps)
+        ends_behind sees ticks clock start base attempts line (Failed count commits.rotation) (behind_failure here line commits.rotation) here.states old mid (ap (λ (s : Step). s.play) steps)
         (record { line = good; count = rose_so count commits.rotation cause.rose })
         (inl (ap (λ (s : Step). s.play.log) steps))
-        (write_others clock start (files old.store.shelf) (files mid.store.shelf) attempts line (Failed count commits.rotation) old.store.chain.live.mailbox write follows.keeps.at.mailbox others) commits.stands
+        (write_others clock start (sees.files old.store.shelf) (sees.files mid.store.shelf) attempts line (Failed count commits.rotation) old.store.chain.live.mailbox write follows.keeps.at.mailbox others) commits.stands
       where
         rose_so : (n : ℕ) (turned : Rotation) → (n ≡ faults) × Rose before faults → IsAbove base (Failed n turned)
         rose_so n turned both = subst (Rose base) (sym both.0) (rose_since _ base before faults follows.may.few both.1)
     write_failed fault.UidsUsedUp (Ok lines) commits cause seats others is =
-        refused_serves files may_leave moment left_since upcoming clock start base attempts before faults line old follows good later reply.UidsUsedUp mid lines commits.refused seats commits.mailbox is (same_others clock start (files old.store.shelf) (files mid.store.shelf) (with_line attempts line Served) others) commits.stands
+        refused_serves sees ticks clock start base attempts before faults line old follows good later reply.UidsUsedUp mid lines commits.refused seats commits.mailbox is (same_others clock start (sees.files old.store.shelf) (sees.files mid.store.shelf) (with_line attempts line Served) others) commits.stands
     write_failed (fault.TooLong bytes) (Ok lines) commits cause seats others is =
-        refused_serves files may_leave moment left_since upcoming clock start base attempts before faults line old follows good later (reply.TooLong bytes) mid lines commits.refused seats commits.mailbox is (same_others clock start (files old.store.shelf) (files mid.store.shelf) (with_line attempts line Served) others) commits.stands
-    write_failed fault.UidsUsedUp (Err e) commits cause seats others is = ends_stands files may_leave moment left_since upcoming clock start base attempts line old mid others commits.stands
-    write_failed (fault.TooLong bytes) (Err e) commits cause seats others is = ends_stands files may_leave moment left_since upcoming clock start base attempts line old mid others commits.stands
+        refused_serves sees ticks clock start base attempts before faults line old follows good later (reply.TooLong bytes) mid lines commits.refused seats commits.mailbox is (same_others clock start (sees.files old.store.shelf) (sees.files mid.store.shelf) (with_line attempts line Served) others) commits.stands
+    write_failed fault.UidsUsedUp (Err e) commits cause seats others is = ends_stands sees ticks clock start base attempts line old mid others commits.stands
+    write_failed (fault.TooLong bytes) (Err e) commits cause seats others is = ends_stands sees ticks clock start base attempts line old mid others commits.stands
     write_failed fault.NoMemory (Ok lines) commits cause seats others is = absurd is
-    write_failed fault.NoMemory (Err e) commits cause seats others is = ends_here files may_leave moment left_since upcoming clock start base attempts line old mid others commits
+    write_failed fault.NoMemory (Err e) commits cause seats others is = ends_here sees ticks clock start base attempts line old mid others commits
 
-    module _ (touched : List ℕ) (done : IsDone files may_leave moment left_since upcoming clock start attempts line touched old mid)
-        (others : (n : Name) → (writing.MayWrite line.1 old.store.chain.live.mailbox n → ⊥) → files mid.store.shelf n ≡ files old.store.shelf n) (seats : List Follower) where
+    module _ (touched : List ℕ) (done : IsDone sees ticks clock start attempts line touched old mid)
+        (others : (n : Name) → (writing.MayWrite line.1 old.store.chain.live.mailbox n → ⊥) → sees.files mid.store.shelf n ≡ sees.files old.store.shelf n) (seats : List Follower) where
       -- some sessions were told
       abbrev part : Serving S C
       part = record mid { seats = seats }
@@ -158,14 +159,14 @@ module _ {S C : Type 0} (files : S → Folder) (may_leave : S → Folder → Typ
       abbrev group : Play
       group = with_group_here clock here line
 
-      part_stands : StandsAs files may_leave moment left_since upcoming clock start (with_line attempts line Served) group old part
-      part_stands = stands_seats files may_leave moment left_since upcoming clock start (with_line attempts line Served) group old mid seats done.stands
+      part_stands : StandsAs sees ticks clock start (with_line attempts line Served) group old part
+      part_stands = stands_seats sees ticks clock start (with_line attempts line Served) group old mid seats done.stands
 
       steps : step clock here (attempt line Served) ≡ told here line group
       steps = served_step clock here line done.allowed
 
-      kept : KeepsOthers clock start (with_line attempts line Served) (files old.store.shelf) (files mid.store.shelf)
-      kept = write_others clock start (files old.store.shelf) (files mid.store.shelf) attempts line Served old.store.chain.live.mailbox write follows.keeps.at.mailbox others
+      kept : KeepsOthers clock start (with_line attempts line Served) (sees.files old.store.shelf) (sees.files mid.store.shelf)
+      kept = write_others clock start (sees.files old.store.shelf) (sees.files mid.store.shelf) attempts line Served old.store.chain.live.mailbox write follows.keeps.at.mailbox others
 
       -- it wrote nothing, or its group is the last
       left_log : ((step clock here (attempt line Served)).play.log ≡ here.log) ⊎ ((Served ≡ Served) × MayWrite here line)
@@ -176,9 +177,9 @@ module _ {S C : Type 0} (files : S → Folder) (may_leave : S → Folder → Typ
           by false e = inr (refl, record { good = good; write = write; allowed = done.allowed; some = e })
 
       -- memory ended it behind the write
-      pub write_ended : EndsAt files may_leave moment left_since clock start base attempts line old part
+      pub write_ended : EndsAt sees clock start base attempts line old part
       write_ended =
-          ends_behind files may_leave moment left_since upcoming clock start base attempts line Served group (told here line group).play.states old part (ap (λ (s : Step). s.play) steps) (record { line = good; count = tt }) left_log kept part_stands
+          ends_behind sees ticks clock start base attempts line Served group (told here line group).play.states old part (ap (λ (s : Step). s.play) steps) (record { line = good; count = tt }) left_log kept part_stands
 
       -- it is answered
       pub write_told : {E : Type 0} (at : ℕ) (new : Serving S C) (result : Result (List Reply) E) → line.0 ≡ at + 1 → at < length seats → HasStates old.seats seats → All (IsAbreast mid.store.chain.live.mailbox) seats
@@ -187,7 +188,7 @@ module _ {S C : Type 0} (files : S → Folder) (may_leave : S → Folder → Typ
           ≡ answer group.log.mail (seat_at seats at).state line.1 old.store.chain.live.mailbox mid.groups mid.store.chain.live.mailbox mid.mark)
           → with_seat at (seat_at new.seats at) part ≡ new → OnErr result (new ≡ part) → IsResult result new
       write_told at new (Ok replies) number less has all abreast answered only stays =
-          told_serves files may_leave moment left_since upcoming clock start base attempts before faults line old follows good later done.allowed at part new replies number less kept part_stands
+          told_serves sees ticks clock start base attempts before faults line old follows good later done.allowed at part new replies number less kept part_stands
           (seated_told old.store.chain.live.mailbox here.states old.seats follows.seats mid.store.chain.live.mailbox seats has all) abreast answered only
       write_told at new (Err e) number less has all abreast answered only stays =
-          subst (λ (n : Serving S C). EndsAt files may_leave moment left_since clock start base attempts line old n) (sym stays) write_ended
+          subst (λ (n : Serving S C). EndsAt sees clock start base attempts line old n) (sym stays) write_ended

@@ -33,6 +33,7 @@ use Rattle.dv_serial.proofs.Crashing.{more_may}
 use Rattle.dv_serial.proofs.Places.{without_group}
 use Rattle.dv_serial.proofs.Stepping.{reads_none}
 use Rattle.dv_serial.proofs.Turns.{IsNext, numbers_more, numbers_parts}
+use Rattle.dv_shelf.specs.Sees.{SeesFolder, SeesTime}
 
 -- ---- a line that was served and isn't answered
 
@@ -98,9 +99,9 @@ last_of P (y ∷ xs) x all = last_of P xs x (All-tail P y (xs ++ x ∷ []) all)
 
 -- ---- a line that is served, and not answered
 
-module _ {S C : Type 0} (files : S → Folder) (may_leave : S → Folder → Type 0) (moment : S → ℕ) (left_since : S → ℕ → Folder → Type 0)
-    (upcoming : C → ℕ → ℕ) (clock : ℕ → ℕ) (start : Log) (base faults : ℕ) (attempts : List Attempt) (line : transcripts.Line) (replies : List Reply)
-    (old new : Serving S C) (served : IsServed files may_leave moment left_since upcoming clock start base faults attempts line replies old new) where
+module _ {S C : Type 0} (sees : SeesFolder S)
+    (ticks : SeesTime C) (clock : ℕ → ℕ) (start : Log) (base faults : ℕ) (attempts : List Attempt) (line : transcripts.Line) (replies : List Reply)
+    (old new : Serving S C) (served : IsServed sees ticks clock start base faults attempts line replies old new) where
   abbrev attempt : Attempt
   attempt = record { line = line; outcome = served.outcome }
 
@@ -144,20 +145,20 @@ keep_both clock start attempts more old mid new first second n none =
 
 -- ---- up to a line
 
-module _ {S C : Type 0} (files : S → Folder) (may_leave : S → Folder → Type 0) (moment : S → ℕ) (left_since : S → ℕ → Folder → Type 0)
-    (upcoming : C → ℕ → ℕ) (clock : ℕ → ℕ) (start : Log) (base : ℕ) (lines : List NamedLine) (told : Type 0) (taken : List ℕ) (old : Serving S C) where
+module _ {S C : Type 0} (sees : SeesFolder S)
+    (ticks : SeesTime C) (clock : ℕ → ℕ) (start : Log) (base : ℕ) (lines : List NamedLine) (told : Type 0) (taken : List ℕ) (old : Serving S C) where
   -- so many of the lines are answered
   pub record RunsTo (faults count : ℕ) (taken_now : List ℕ) (new : Serving S C) : Type 0 where
     pub answered : List Attempt
     pub numbers : lines_of answered ≡ map (numbered_by (sessions_of lines)) (take count lines)
-    pub follows : Follows files may_leave upcoming clock start base faults answered new
-    pub since : LeavesOnly moment left_since old.store.shelf new.store.shelf (MayGive clock start answered)
-    pub others : KeepsOthers clock start answered (files old.store.shelf) (files new.store.shelf)
+    pub follows : Follows sees ticks clock start base faults answered new
+    pub since : LeavesOnly sees old.store.shelf new.store.shelf (MayGive clock start answered)
+    pub others : KeepsOthers clock start answered (sees.files old.store.shelf) (sees.files new.store.shelf)
     pub output : told → Appends taken taken_now (replies_text lines (replies_to clock (begin start) answered))
 
   -- none is yet
-  pub to_none : (faults : ℕ) → Follows files may_leave upcoming clock start base faults [] old
-      → LeavesOnly moment left_since old.store.shelf old.store.shelf (MayGive clock start []) → RunsTo faults 0 taken old
+  pub to_none : (faults : ℕ) → Follows sees ticks clock start base faults [] old
+      → LeavesOnly sees old.store.shelf old.store.shelf (MayGive clock start []) → RunsTo faults 0 taken old
   to_none faults follows since = record {
     answered = [];
     numbers = refl;
@@ -169,7 +170,7 @@ module _ {S C : Type 0} (files : S → Folder) (may_leave : S → Folder → Typ
 
   -- behind the last one
   pub to_done : (faults count : ℕ) (taken_now : List ℕ) (new : Serving S C) (done : Unit {0}) → length lines ≤ count → RunsTo faults count taken_now new
-      → Runs files may_leave moment left_since upcoming clock start base faults lines (Ok done) told taken taken_now old new
+      → Runs sees ticks clock start base faults lines (Ok done) told taken taken_now old new
   to_done faults count taken_now new done all so_far = record {
     answered = so_far.answered;
     left = [];
@@ -177,8 +178,8 @@ module _ {S C : Type 0} (files : S → Folder) (may_leave : S → Folder → Typ
     parts = sym (append-nil (lines_of so_far.answered) ∙ so_far.numbers ∙ ap (map (numbered_by (sessions_of lines))) (take_all count lines all));
     may = so_far.follows.may;
     ends = (refl, refl);
-    leaves = subst (λ (all : List Attempt). Leaves files may_leave moment left_since clock start all old new) (sym (append-nil so_far.answered)) (record { keeps = so_far.follows.keeps; since = so_far.since });
-    others = subst (λ (all : List Attempt). KeepsOthers clock start all (files old.store.shelf) (files new.store.shelf)) (sym (append-nil so_far.answered)) so_far.others;
+    leaves = subst (λ (all : List Attempt). Leaves sees clock start all old new) (sym (append-nil so_far.answered)) (record { keeps = so_far.follows.keeps; since = so_far.since });
+    others = subst (λ (all : List Attempt). KeepsOthers clock start all (sees.files old.store.shelf) (sees.files new.store.shelf)) (sym (append-nil so_far.answered)) so_far.others;
     readings = so_far.follows.readings;
     output = so_far.output;
   }
@@ -212,18 +213,18 @@ module _ {S C : Type 0} (files : S → Folder) (may_leave : S → Folder → Typ
       few = rose_more (unavailable_count (replies_to clock (begin start) answered)) base before faults so_far.follows.may.few later;
     }
 
-    since_both : (more : List Attempt) → LeavesOnly moment left_since mid.store.shelf new.store.shelf (MayGive clock start (answered ++ more))
-        → LeavesOnly moment left_since old.store.shelf new.store.shelf (MayGive clock start (answered ++ more))
+    since_both : (more : List Attempt) → LeavesOnly sees mid.store.shelf new.store.shelf (MayGive clock start (answered ++ more))
+        → LeavesOnly sees old.store.shelf new.store.shelf (MayGive clock start (answered ++ more))
     since_both more since =
-        joined moment left_since old.store.shelf mid.store.shelf new.store.shelf (MayGive clock start (answered ++ more))
-        (more_may moment left_since old.store.shelf mid.store.shelf clock start answered more so_far.since) since
+        joined sees old.store.shelf mid.store.shelf new.store.shelf (MayGive clock start (answered ++ more))
+        (more_may sees old.store.shelf mid.store.shelf clock start answered more so_far.since) since
 
-    others_both : (more : List Attempt) → KeepsOthers clock start (answered ++ more) (files mid.store.shelf) (files new.store.shelf) → KeepsOthers clock start (answered ++ more) (files old.store.shelf) (files new.store.shelf)
-    others_both more others = keep_both clock start answered more (files old.store.shelf) (files mid.store.shelf) (files new.store.shelf) so_far.others others
+    others_both : (more : List Attempt) → KeepsOthers clock start (answered ++ more) (sees.files mid.store.shelf) (sees.files new.store.shelf) → KeepsOthers clock start (answered ++ more) (sees.files old.store.shelf) (sees.files new.store.shelf)
+    others_both more others = keep_both clock start answered more (sees.files old.store.shelf) (sees.files mid.store.shelf) (sees.files new.store.shelf) so_far.others others
 
     -- memory ended it
-    pub to_ended : EndsAt files may_leave moment left_since clock start base answered (session, line.1) mid new → (told → taken_now ≡ taken_then) → before ≤ faults
-        → Runs files may_leave moment left_since upcoming clock start base faults lines (Err line_end.NoMemory) told taken taken_now old new
+    pub to_ended : EndsAt sees clock start base answered (session, line.1) mid new → (told → taken_now ≡ taken_then) → before ≤ faults
+        → Runs sees ticks clock start base faults lines (Err line_end.NoMemory) told taken taken_now old new
     to_ended ends none later = record {
       answered = answered;
       left = ends.left;
@@ -238,7 +239,7 @@ module _ {S C : Type 0} (files : S → Folder) (may_leave : S → Folder → Typ
     }
 
     -- memory ended the run before it was begun
-    pub to_unbegun : before ≤ faults → Runs files may_leave moment left_since upcoming clock start base faults lines (Err line_end.NoMemory) told taken taken_then old mid
+    pub to_unbegun : before ≤ faults → Runs sees ticks clock start base faults lines (Err line_end.NoMemory) told taken taken_then old mid
     to_unbegun later = record {
       answered = answered;
       left = [];
@@ -246,14 +247,14 @@ module _ {S C : Type 0} (files : S → Folder) (may_leave : S → Folder → Typ
       parts = all_lines;
       may = may_later later;
       ends = tt;
-      leaves = subst (λ (all : List Attempt). Leaves files may_leave moment left_since clock start all old mid) (sym (append-nil answered)) (record { keeps = so_far.follows.keeps; since = so_far.since });
-      others = subst (λ (all : List Attempt). KeepsOthers clock start all (files old.store.shelf) (files mid.store.shelf)) (sym (append-nil answered)) so_far.others;
+      leaves = subst (λ (all : List Attempt). Leaves sees clock start all old mid) (sym (append-nil answered)) (record { keeps = so_far.follows.keeps; since = so_far.since });
+      others = subst (λ (all : List Attempt). KeepsOthers clock start all (sees.files old.store.shelf) (sees.files mid.store.shelf)) (sym (append-nil answered)) so_far.others;
       readings = tt;
       output = so_far.output;
     }
 
     -- it was served
-    module _ (replies : List Reply) (served : IsServed files may_leave moment left_since upcoming clock start base faults answered (session, line.1) replies mid new) where
+    module _ (replies : List Reply) (served : IsServed sees ticks clock start base faults answered (session, line.1) replies mid new) where
       abbrev one : Attempt
       one = record { line = (session, line.1); outcome = served.outcome }
 
@@ -276,14 +277,14 @@ module _ {S C : Type 0} (files : S → Folder) (may_leave : S → Folder → Typ
 
       -- or the output failed
       pub to_failed : (n : ℕ) → (told → AppendsFront taken_then taken_now (answer_text line replies)) → before ≤ faults
-          → Runs files may_leave moment left_since upcoming clock start base faults lines (Err (line_end.Sink n)) told taken taken_now old new
+          → Runs sees ticks clock start base faults lines (Err (line_end.Sink n)) told taken taken_now old new
       to_failed n output later = record {
         answered = answered;
         left = one ∷ [];
         rest = behind_lines;
         parts = all_lines;
         may = may_later later;
-        ends = (refl, served_attempt files may_leave moment left_since upcoming clock start base faults answered (session, line.1) replies mid new served);
+        ends = (refl, served_attempt sees ticks clock start base faults answered (session, line.1) replies mid new served);
         leaves = record { keeps = served.follows.keeps; since = since_both (one ∷ []) served.since };
         others = others_both (one ∷ []) served.others;
         readings = tt;
@@ -306,12 +307,12 @@ module _ {S C : Type 0} (files : S → Folder) (may_leave : S → Folder → Typ
   module _ (before faults count session : ℕ) (line : NamedLine) (taken_then taken_now : List ℕ) (mid new : Serving S C)
       (next : IsNext lines count session line) (so_far : RunsTo before count taken_then mid) (later : before ≤ faults) where
     -- the run goes on
-    pub goes_on : (done : Unit {0}) → RunsLine files may_leave moment left_since upcoming clock start base faults so_far.answered session line (Ok done) told taken_then taken_now mid new
+    pub goes_on : (done : Unit {0}) → RunsLine sees ticks clock start base faults so_far.answered session line (Ok done) told taken_then taken_now mid new
         → RunsTo faults (count + 1) taken_now new
     goes_on done one = to_more before faults count session line taken_then taken_now mid new next so_far one.replies one.served one.output
 
     -- or ends
-    pub stops : (e : LineEnd) → RunsLine files may_leave moment left_since upcoming clock start base faults so_far.answered session line (Err e) told taken_then taken_now mid new
-        → Runs files may_leave moment left_since upcoming clock start base faults lines (Err e) told taken taken_now old new
+    pub stops : (e : LineEnd) → RunsLine sees ticks clock start base faults so_far.answered session line (Err e) told taken_then taken_now mid new
+        → Runs sees ticks clock start base faults lines (Err e) told taken taken_now old new
     stops line_end.NoMemory one = to_ended before faults count session line taken_then taken_now mid new next so_far one.0 one.1 later
     stops (line_end.Sink n) one = to_failed before faults count session line taken_then taken_now mid new next so_far one.replies one.served n one.output later

@@ -39,9 +39,10 @@ use Rattle.dv_serial.proofs.Refusals.{reads_allowed}
 use Rattle.dv_serial.proofs.Results.{ended_still, own_result, read_ended, read_failed, read_told, write_ended, write_failed, write_told}
 use Rattle.dv_serial.proofs.Seated.{state_at}
 use Rattle.dv_serial.proofs.Taken.{always, given_answer, given_err, given_has}
+use Rattle.dv_shelf.specs.Sees.{SeesFolder, SeesTime}
 
-module _ {S C : Type 0} (files : S → Folder) (may_leave : S → Folder → Type 0) (moment : S → ℕ) (left_since : S → ℕ → Folder → Type 0) (upcoming : C → ℕ → ℕ) (clock : ℕ → ℕ) (start : Log) (base : ℕ) (attempts : List Attempt)
-    (before : ℕ) (old : Serving S C) (follows : Follows files may_leave upcoming clock start base before attempts old) (at number : ℕ) (number_is : number ≡ at + 1) (c : Command) (less : at < length old.seats) (small : number < 2 ^ 32) (command : IsCommand c) where
+module _ {S C : Type 0} (sees : SeesFolder S) (ticks : SeesTime C) (clock : ℕ → ℕ) (start : Log) (base : ℕ) (attempts : List Attempt)
+    (before : ℕ) (old : Serving S C) (follows : Follows sees ticks clock start base before attempts old) (at number : ℕ) (number_is : number ≡ at + 1) (c : Command) (less : at < length old.seats) (small : number < 2 ^ 32) (command : IsCommand c) where
   abbrev line : Line
   line = (number, c)
 
@@ -59,31 +60,31 @@ module _ {S C : Type 0} (files : S → Folder) (may_leave : S → Folder → Typ
       ∙ own
 
   pub seat_refused : {E R : Type 0} (with : R → List Reply → R) (said said_now : R) (r : Reply) (result : Result (Unit {0}) E) → own_refusal (seat_at old.seats at).state c ≡ Some r
-      → ((f : Folder) → left_since old.store.shelf (moment old.store.shelf) f → may_leave old.store.shelf f) → OnOk result (said_now ≡ with said (r ∷ []))
-      → Takes with said said_now result (λ told. Serves files may_leave moment left_since upcoming clock start base before attempts line told old old)
+      → ((f : Folder) → sees.left_since old.store.shelf (sees.moment old.store.shelf) f → sees.may_leave old.store.shelf f) → OnOk result (said_now ≡ with said (r ∷ []))
+      → Takes with said said_now result (λ told. Serves sees ticks clock start base before attempts line told old old)
   seat_refused with said said_now r result own now is = record {
     replies = r ∷ [];
     taken = is;
-    holds = own_result files may_leave moment left_since upcoming clock start base attempts before before line old follows good (omega arith) r (given (r ∷ []) result) (own_here (Some r) own) now
+    holds = own_result sees ticks clock start base attempts before before line old follows good (omega arith) r (given (r ∷ []) result) (own_here (Some r) own) now
         (given_has (λ lines. lines ≡ r ∷ []) (r ∷ []) result (always result refl));
   }
 
   -- ---- a read
 
-  module _ (own : own_refusal (seat_at old.seats at).state c ≡ None) (read : is_write c ≡ false) (mid : Serving S C) (looks : OnlyLooksAt old mid) (reads : OnlyReads files may_leave moment left_since old.store mid.store) where
+  module _ (own : own_refusal (seat_at old.seats at).state c ≡ None) (read : is_write c ≡ false) (mid : Serving S C) (looks : OnlyLooksAt old mid) (reads : OnlyReads sees old.store mid.store) where
     allowed : refused_here here line ≡ None
     allowed = reads_allowed here line (own_here None own) read
 
-    pub seat_ended : EndsAt files may_leave moment left_since clock start base attempts line old mid
-    seat_ended = read_ended files may_leave moment left_since upcoming clock start base attempts before before line old follows good (omega arith) allowed read mid looks reads
+    pub seat_ended : EndsAt sees clock start base attempts line old mid
+    seat_ended = read_ended sees ticks clock start base attempts before before line old follows good (omega arith) allowed read mid looks reads
 
     pub seat_failed : {A E R : Type 0} (with : R → List Reply → R) (said said_now : R) (faults : ℕ) (f : StoreFault) (result : Result (Unit {0}) E) → ((count : ℕ) → f ≡ fault.Disk count → reads_mail c ≡ true) → IsFailure f → HasStoreCause {A = A} before faults (Err f)
         → OnOk result ((said_now ≡ with said (fault_lines f)) × IsFaultLine f (fault_lines f))
-        → Takes with said said_now result (λ told. Serves files may_leave moment left_since upcoming clock start base faults attempts line told old mid)
+        → Takes with said said_now result (λ told. Serves sees ticks clock start base faults attempts line told old mid)
     seat_failed with said said_now faults f result mails failure cause is = record {
       replies = fault_lines f;
       taken = on_ok_weaker result (λ (x : (said_now ≡ with said (fault_lines f)) × IsFaultLine f (fault_lines f)). x.0) is;
-      holds = read_failed files may_leave moment left_since upcoming clock start base attempts before faults line old follows good cause.later allowed read mid looks reads f (given (fault_lines f) result) mails failure cause
+      holds = read_failed sees ticks clock start base attempts before faults line old follows good cause.later allowed read mid looks reads f (given (fault_lines f) result) mails failure cause
           (given_has (IsFaultLine f) (fault_lines f) result (on_ok_weaker result (λ (x : (said_now ≡ with said (fault_lines f)) × IsFaultLine f (fault_lines f)). x.1) is));
     }
 
@@ -92,45 +93,45 @@ module _ {S C : Type 0} (files : S → Folder) (may_leave : S → Folder → Typ
         → ((mail : ℕ → Mail) (m : Mailbox) → met ≡ met_of c (seat_at mid.seats at).state.view m → P mail (seat_at mid.seats at).state.view mid.store.chain.live.mailbox
         → OnOk result (IsAnswered with said said_now (seat_at new.seats at).state (answer mail (seat_at mid.seats at).state c m mid.groups mid.store.chain.live.mailbox mid.mark)))
         → IsAbreast new.store.chain.live.mailbox (seat_at new.seats at) → with_seat at (seat_at new.seats at) mid ≡ new → OnErr result (new ≡ mid)
-        → Takes with said said_now result (λ r. Serves files may_leave moment left_since upcoming clock start base faults attempts line r old new)
+        → Takes with said said_now result (λ r. Serves sees ticks clock start base faults attempts line r old new)
     seat_told with said said_now faults new result P met later is supplied answered abreast only stays =
         let a = answer here.log.mail (seat_at mid.seats at).state c old.store.chain.live.mailbox mid.groups mid.store.chain.live.mailbox mid.mark in
         let both = answered here.log.mail old.store.chain.live.mailbox (looked_met old mid looks c (seat_at mid.seats at).state met is) (looked_same old mid looks (P here.log.mail) at supplied) in
         record {
           replies = a.replies;
           taken = on_ok_weaker result (λ (x : IsAnswered with said said_now (seat_at new.seats at).state a). x.0) both;
-          holds = read_told files may_leave moment left_since upcoming clock start base attempts before faults line old follows good later allowed read mid looks reads at new (given a.replies result) number_is
+          holds = read_told sees ticks clock start base attempts before faults line old follows good later allowed read mid looks reads at new (given a.replies result) number_is
               (subst (λ (fs : List Follower). at < length fs) (sym looks.seats) less) (subst (λ (s : Serving S C). IsAbreast s.store.chain.live.mailbox (seat_at new.seats at)) (sym only) abreast)
               (given_answer _ a (seat_at new.seats at).state result both) only (given_err _ a.replies result stays);
         }
 
   -- ---- a write
 
-  pub seat_still : ((f : Folder) → left_since old.store.shelf (moment old.store.shelf) f → may_leave old.store.shelf f) → EndsAt files may_leave moment left_since clock start base attempts line old old
-  seat_still now = ended_still files may_leave moment left_since upcoming clock start base attempts before before line old follows good (omega arith) now
+  pub seat_still : ((f : Folder) → sees.left_since old.store.shelf (sees.moment old.store.shelf) f → sees.may_leave old.store.shelf f) → EndsAt sees clock start base attempts line old old
+  seat_still now = ended_still sees ticks clock start base attempts before before line old follows good (omega arith) now
 
   module _ (write : is_write c ≡ true) (mid : Serving S C) where
-    pub seat_unwritten : {A E R : Type 0} (with : R → List Reply → R) (said said_now : R) (faults : ℕ) (f : StoreFault) (result : Result (Unit {0}) E) → Commits files may_leave moment left_since upcoming clock start attempts line old (Err f) mid → HasStoreCause {A = A} before faults (Err f) → mid.seats ≡ old.seats
-        → LeavesOthers {A = A} c old.store.chain.live.mailbox (Err f) (files old.store.shelf) (files mid.store.shelf) → OnOk result ((said_now ≡ with said (fault_lines f)) × IsFaultLine f (fault_lines f))
-        → Takes with said said_now result (λ told. Serves files may_leave moment left_since upcoming clock start base faults attempts line told old mid)
+    pub seat_unwritten : {A E R : Type 0} (with : R → List Reply → R) (said said_now : R) (faults : ℕ) (f : StoreFault) (result : Result (Unit {0}) E) → Commits sees ticks clock start attempts line old (Err f) mid → HasStoreCause {A = A} before faults (Err f) → mid.seats ≡ old.seats
+        → LeavesOthers {A = A} c old.store.chain.live.mailbox (Err f) (sees.files old.store.shelf) (sees.files mid.store.shelf) → OnOk result ((said_now ≡ with said (fault_lines f)) × IsFaultLine f (fault_lines f))
+        → Takes with said said_now result (λ told. Serves sees ticks clock start base faults attempts line told old mid)
     seat_unwritten with said said_now faults f result commits cause seats others is = record {
       replies = fault_lines f;
       taken = on_ok_weaker result (λ (x : (said_now ≡ with said (fault_lines f)) × IsFaultLine f (fault_lines f)). x.0) is;
-      holds = write_failed files may_leave moment left_since upcoming clock start base attempts before faults line old follows good cause.later write mid f (given (fault_lines f) result) commits cause seats others
+      holds = write_failed sees ticks clock start base attempts before faults line old follows good cause.later write mid f (given (fault_lines f) result) commits cause seats others
           (given_has (IsFaultLine f) (fault_lines f) result (on_ok_weaker result (λ (x : (said_now ≡ with said (fault_lines f)) × IsFaultLine f (fault_lines f)). x.1) is));
     }
 
-    module _ (touched : List ℕ) (done : IsDone files may_leave moment left_since upcoming clock start attempts line touched old mid)
-        (others : (n : Name) → (MayWrite c old.store.chain.live.mailbox n → ⊥) → files mid.store.shelf n ≡ files old.store.shelf n) (seats : List Follower) where
-      pub seat_untold : EndsAt files may_leave moment left_since clock start base attempts line old (record mid { seats = seats })
-      seat_untold = write_ended files may_leave moment left_since upcoming clock start base attempts before before line old follows good (omega arith) write mid touched done others seats
+    module _ (touched : List ℕ) (done : IsDone sees ticks clock start attempts line touched old mid)
+        (others : (n : Name) → (MayWrite c old.store.chain.live.mailbox n → ⊥) → sees.files mid.store.shelf n ≡ sees.files old.store.shelf n) (seats : List Follower) where
+      pub seat_untold : EndsAt sees clock start base attempts line old (record mid { seats = seats })
+      seat_untold = write_ended sees ticks clock start base attempts before before line old follows good (omega arith) write mid touched done others seats
 
       pub seat_wrote : {E R : Type 0} (with : R → List Reply → R) (said said_now : R) (faults : ℕ) (new : Serving S C) (result : Result (Unit {0}) E) (facts : List MailFacts) (met : Met) → before ≤ faults → HasStates old.seats seats → All (IsAbreast mid.store.chain.live.mailbox) seats
           → met ≡ met_of c (seat_at old.seats at).state.view old.store.chain.live.mailbox
           → ((mail : ℕ → Mail) (m : Mailbox) → met ≡ met_of c (seat_at seats at).state.view m → AreSupplied mail c (seat_at seats at).state.view mid.store.chain.live.mailbox facts
           → OnOk result (IsAnswered with said said_now (seat_at new.seats at).state (answer mail (seat_at seats at).state c m mid.groups mid.store.chain.live.mailbox mid.mark)))
           → IsAbreast new.store.chain.live.mailbox (seat_at new.seats at) → with_seat at (seat_at new.seats at) (record mid { seats = seats }) ≡ new → OnErr result (new ≡ record mid { seats = seats })
-          → Takes with said said_now result (λ r. Serves files may_leave moment left_since upcoming clock start base faults attempts line r old new)
+          → Takes with said said_now result (λ r. Serves sees ticks clock start base faults attempts line r old new)
       seat_wrote with said said_now faults new result facts met later has all is answered abreast only stays =
           let same : (seat_at old.seats at).state ≡ (seat_at seats at).state = sym (has.states at new_follower less) in
           let mail : ℕ → Mail = (with_group_here clock here line).log.mail in
@@ -140,7 +141,7 @@ module _ {S C : Type 0} (files : S → Folder) (may_leave : S → Folder → Typ
           record {
             replies = a.replies;
             taken = on_ok_weaker result (λ (x : IsAnswered with said said_now (seat_at new.seats at).state a). x.0) both;
-            holds = write_told files may_leave moment left_since upcoming clock start base attempts before faults line old follows good later write mid touched done others seats at new (given a.replies result) number_is
+            holds = write_told sees ticks clock start base attempts before faults line old follows good later write mid touched done others seats at new (given a.replies result) number_is
                 (subst (λ (n : ℕ). at < n) (sym has.count) less) has all (subst (λ (s : Serving S C). IsAbreast s.store.chain.live.mailbox (seat_at new.seats at)) (sym only) abreast)
                 (given_answer _ a (seat_at new.seats at).state result both)
                 only (given_err _ a.replies result stays);

@@ -1,5 +1,4 @@
--- Sessions that are served follow a play. The records take the members of a shelf's and a clock's
--- types.
+-- Sessions that are served follow a play. The records take what a shelf and a clock show.
 use Rattle.std.specs.Prelude.{◌≡◌, ◌⊎◌, ◌+◌, ◌<◌, ◌++◌, ℕ, true, List, [], ◌∷◌, All, get_or, length, ⊤}
 use Rattle.dv_model.specs.declared.types.Mailbox.{Mailbox}
 use Rattle.dv_model.specs.Journals.{Log}
@@ -17,6 +16,7 @@ use Rattle.dv_store.specs.Rest.{IsAtRest}
 use Rattle.dv_serial.specs.Others.{KeepsOthers}
 use Rattle.dv_serial.specs.Places.{IsOwedBehind, MayGive, StandsAt, play_of}
 use Rattle.dv_serial.specs.Servings.{Serving}
+use Rattle.dv_shelf.specs.Sees.{SeesFolder, SeesTime}
 
 -- each session, from number 1 on, has its state, and is abreast of the mailbox
 pub record AreSeated (m : Mailbox) (state_of : ℕ → State) (seats : List Follower) : Type 0 where
@@ -56,39 +56,37 @@ module _ {S C : Type 0} where
     pub place : StandsAt play.begun play.mark (place_of serving.store.chain) serving.store.owed
 
   -- so it is behind these lines, and the store is at rest with the play's log and what is owed
-  pub record Keeps (files : S → Folder) (may_leave : S → Folder → Type 0) (clock : ℕ → ℕ)
+  pub record Keeps (sees : SeesFolder S) (clock : ℕ → ℕ)
       (start : Log) (attempts : List Attempt) (serving : Serving S C) : Type 0 where
     pub at : IsAt (play_of clock start attempts) serving
     pub debt : Debt
     pub owed : IsOwedBehind clock start attempts (place_of serving.store.chain) debt
-    pub rests : IsAtRest files may_leave (play_of clock start attempts).log debt serving.store
+    pub rests : IsAtRest sees (play_of clock start attempts).log debt serving.store
 
   -- The lines were played, no more of them failed than the count of faults rose by, and clock and
   -- sessions are where the play has them.
-  pub record Follows (files : S → Folder) (may_leave : S → Folder → Type 0) (upcoming : C → ℕ → ℕ)
+  pub record Follows (sees : SeesFolder S) (ticks : SeesTime C)
       (clock : ℕ → ℕ) (start : Log) (base faults : ℕ) (attempts : List Attempt)
       (serving : Serving S C) : Type 0 where
     pub may : MayPlay clock start base faults attempts
-    pub keeps : Keeps files may_leave clock start attempts serving
-    pub readings : upcoming serving.store.clock ≡ behind clock (play_of clock start attempts).used
+    pub keeps : Keeps sees clock start attempts serving
+    pub readings : ticks.upcoming serving.store.clock ≡ behind clock (play_of clock start attempts).used
     pub seats : AreSeated serving.store.chain.live.mailbox (play_of clock start attempts).states
         serving.seats
 
   -- What is left keeps the log behind these lines, and a crash at any moment since leaves the log
   -- behind some of them, or with the group of one that the disk failed.
-  pub record Leaves (files : S → Folder) (may_leave : S → Folder → Type 0) (moment : S → ℕ)
-      (left_since : S → ℕ → Folder → Type 0) (clock : ℕ → ℕ) (start : Log)
+  pub record Leaves (sees : SeesFolder S) (clock : ℕ → ℕ) (start : Log)
       (attempts : List Attempt) (old new : Serving S C) : Type 0 where
-    pub keeps : Keeps files may_leave clock start attempts new
-    pub since : LeavesOnly moment left_since old.store.shelf new.store.shelf
+    pub keeps : Keeps sees clock start attempts new
+    pub since : LeavesOnly sees old.store.shelf new.store.shelf
         (MayGive clock start attempts)
 
   -- where a line wasn't answered: behind the lines so far, or behind that one too
-  pub record EndsAt (files : S → Folder) (may_leave : S → Folder → Type 0) (moment : S → ℕ)
-      (left_since : S → ℕ → Folder → Type 0) (clock : ℕ → ℕ) (start : Log) (base : ℕ)
+  pub record EndsAt (sees : SeesFolder S) (clock : ℕ → ℕ) (start : Log) (base : ℕ)
       (attempts : List Attempt) (line : Line) (old new : Serving S C) : Type 0 where
     pub left : List Attempt
     pub is : IsLeft clock base (play_of clock start attempts) line left
-    pub leaves : Leaves files may_leave moment left_since clock start (attempts ++ left) old new
-    pub others : KeepsOthers clock start (attempts ++ left) (files old.store.shelf)
-        (files new.store.shelf)
+    pub leaves : Leaves sees clock start (attempts ++ left) old new
+    pub others : KeepsOthers clock start (attempts ++ left) (sees.files old.store.shelf)
+        (sees.files new.store.shelf)

@@ -1,5 +1,5 @@
--- From which folders a run may begin, and what is left of them for a next one. The record takes the
--- members of a shelf's type.
+-- From which folders a run may begin, and what is left of them for a next one. The record takes
+-- what a shelf shows.
 use Rattle.std.specs.Prelude.{◌⊎◌, ℕ, List}
 use Rattle.dv_model.specs.declared.types.Mailbox.{Mailbox}
 use Rattle.dv_model.specs.declared.types.Mark.{Mark}
@@ -11,6 +11,7 @@ use Rattle.dv_openings.specs.Openings.{Finds, IsFound}
 use Rattle.dv_openings.specs.TrueCaches.{HasTrueCache}
 use Rattle.dv_playing.specs.Playing.{Attempt}
 use Rattle.dv_serial.specs.Places.{GivesBehind, MayGive}
+use Rattle.dv_shelf.specs.Sees.{SeesFolder}
 
 -- where a mailbox is found, the cache file is true of it
 abbrev pub IsTrueFolder : Folder → Type 0
@@ -19,11 +20,10 @@ IsTrueFolder folder = (indexid : ℕ) (m : Mailbox) (mark : Mark) → IsNamed fo
 
 -- so it is in the files as they are read, in each folder that a crash now may leave, and in each
 -- that one left at any moment since
-pub record LeavesTrue {S : Type 0} (files : S → Folder) (may_leave : S → Folder → Type 0)
-    (moment : S → ℕ) (left_since : S → ℕ → Folder → Type 0) (old new : S) : Type 0 where
-  pub seen : IsTrueFolder (files new)
-  pub after : (c : Folder) → may_leave new c → IsTrueFolder c
-  pub crash : LeavesOnly moment left_since old new IsTrueFolder
+pub record LeavesTrue {S : Type 0} (sees : SeesFolder S) (old new : S) : Type 0 where
+  pub seen : IsTrueFolder (sees.files new)
+  pub after : (c : Folder) → sees.may_leave new c → IsTrueFolder c
+  pub crash : LeavesOnly sees old new IsTrueFolder
 
 -- so it is in each folder that gives the log behind lines, or behind a front of them
 abbrev pub GivesTrue : Type 0

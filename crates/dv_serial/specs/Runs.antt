@@ -18,6 +18,7 @@ use Rattle.dv_serial.specs.Places.{play_of}
 use Rattle.dv_serial.specs.Scripts.{answer_text, numbered, replies_text}
 use Rattle.dv_serial.specs.Serves.{IsServed}
 use Rattle.dv_serial.specs.Servings.{Serving}
+use Rattle.dv_shelf.specs.Sees.{SeesFolder, SeesTime}
 
 -- The text that was being written where the output failed: the replies to the line that it wasn't
 -- written for.
@@ -52,31 +53,30 @@ HasRead clock used upcoming (Err e) = ⊤
 
 module _ {S C : Type 0} where
   -- A line was served as one step of the play, and of the text of its replies this was written.
-  pub record IsTold (files : S → Folder) (may_leave : S → Folder → Type 0) (moment : S → ℕ)
-      (left_since : S → ℕ → Folder → Type 0) (upcoming : C → ℕ → ℕ) (clock : ℕ → ℕ) (start : Log)
+  pub record IsTold (sees : SeesFolder S) (ticks : SeesTime C) (clock : ℕ → ℕ) (start : Log)
       (base faults : ℕ) (attempts : List Attempt) (line : transcripts.Line)
       (written : List Reply → Type 0) (old new : Serving S C) : Type 0 where
     pub replies : List Reply
-    pub served : IsServed files may_leave moment left_since upcoming clock start base faults
+    pub served : IsServed sees ticks clock start base faults
         attempts line replies old new
     pub output : written replies
 
   -- What becomes of one line of a session: it is answered, and its text written; or memory ended
   -- it, and nothing is written; or the output failed, and a front of its text is.
-  abbrev pub RunsLine : (S → Folder) → (S → Folder → Type 0) → (S → ℕ) → (S → ℕ → Folder → Type 0)
-      → (C → ℕ → ℕ) → (ℕ → ℕ) → Log → ℕ → ℕ → List Attempt → ℕ → NamedLine
+  abbrev pub RunsLine : SeesFolder S
+      → SeesTime C → (ℕ → ℕ) → Log → ℕ → ℕ → List Attempt → ℕ → NamedLine
       → Result (Unit {0}) LineEnd → Type 0 → List ℕ → List ℕ → Serving S C → Serving S C → Type 0
-  RunsLine files may_leave moment left_since upcoming clock start base faults attempts session line
+  RunsLine sees ticks clock start base faults attempts session line
       (Ok done) told taken taken_now old new =
-      IsTold files may_leave moment left_since upcoming clock start base faults attempts
+      IsTold sees ticks clock start base faults attempts
       (session, line.1) (λ replies. told → Appends taken taken_now (answer_text line replies)) old new
-  RunsLine files may_leave moment left_since upcoming clock start base faults attempts session line
+  RunsLine sees ticks clock start base faults attempts session line
       (Err line_end.NoMemory) told taken taken_now old new =
-      EndsAt files may_leave moment left_since clock start base attempts (session, line.1) old new
+      EndsAt sees clock start base attempts (session, line.1) old new
       × (told → taken_now ≡ taken)
-  RunsLine files may_leave moment left_since upcoming clock start base faults attempts session line
+  RunsLine sees ticks clock start base faults attempts session line
       (Err (line_end.Sink n)) told taken taken_now old new =
-      IsTold files may_leave moment left_since upcoming clock start base faults attempts
+      IsTold sees ticks clock start base faults attempts
       (session, line.1) (λ replies. told → AppendsFront taken taken_now (answer_text line replies))
       old new
 
@@ -84,8 +84,7 @@ module _ {S C : Type 0} where
   -- written. The first of the others may have left its group, or be one that the disk failed. What
   -- is left keeps the play's log behind these lines; so does what a crash leaves, behind some of
   -- them. Files that none of them writes stay.
-  pub record Runs (files : S → Folder) (may_leave : S → Folder → Type 0) (moment : S → ℕ)
-      (left_since : S → ℕ → Folder → Type 0) (upcoming : C → ℕ → ℕ) (clock : ℕ → ℕ) (start : Log)
+  pub record Runs (sees : SeesFolder S) (ticks : SeesTime C) (clock : ℕ → ℕ) (start : Log)
       (base faults : ℕ) (lines : List NamedLine) (result : Result (Unit {0}) LineEnd)
       (told : Type 0) (taken taken_now : List ℕ) (old new : Serving S C) : Type 0 where
     pub answered : List Attempt
@@ -94,10 +93,10 @@ module _ {S C : Type 0} where
     pub parts : numbered lines ≡ lines_of answered ++ rest
     pub may : MayPlay clock start base faults answered
     pub ends : EndsWith clock base start answered left rest result
-    pub leaves : Leaves files may_leave moment left_since clock start (answered ++ left) old new
-    pub others : KeepsOthers clock start (answered ++ left) (files old.store.shelf)
-        (files new.store.shelf)
-    pub readings : HasRead clock (play_of clock start answered).used (upcoming new.store.clock)
+    pub leaves : Leaves sees clock start (answered ++ left) old new
+    pub others : KeepsOthers clock start (answered ++ left) (sees.files old.store.shelf)
+        (sees.files new.store.shelf)
+    pub readings : HasRead clock (play_of clock start answered).used (ticks.upcoming new.store.clock)
         result
     pub output : told → Writes clock start answered left lines result taken taken_now
 

@@ -18,6 +18,7 @@ use Rattle.dv_serial.specs.Following.{EndsAt, Follows, with_line}
 use Rattle.dv_serial.specs.Others.{KeepsOthers}
 use Rattle.dv_serial.specs.Places.{MayGive, play_of}
 use Rattle.dv_serial.specs.Servings.{Serving}
+use Rattle.dv_shelf.specs.Sees.{SeesFolder, SeesTime}
 
 -- a command that may be served: of its type, with few keywords, and a key that isn't nested deep
 pub record IsServable (c : Command) : Type 0 where
@@ -62,28 +63,27 @@ module _ {S C : Type 0} where
   -- The line is one step of the play, with what came of it, and has the replies of that. A crash at
   -- any moment leaves the log behind some of the lines, or with the group of one that the disk
   -- failed; files that no line writes stay.
-  pub record IsServed (files : S → Folder) (may_leave : S → Folder → Type 0) (moment : S → ℕ)
-      (left_since : S → ℕ → Folder → Type 0) (upcoming : C → ℕ → ℕ) (clock : ℕ → ℕ) (start : Log)
+  pub record IsServed (sees : SeesFolder S) (ticks : SeesTime C) (clock : ℕ → ℕ) (start : Log)
       (base faults : ℕ) (attempts : List Attempt) (line : Line) (replies : List Reply)
       (old new : Serving S C) : Type 0 where
     pub outcome : Outcome
     pub answers : (step clock (play_of clock start attempts)
         (record { line = line; outcome = outcome })).replies ≡ replies
-    pub follows : Follows files may_leave upcoming clock start base faults
+    pub follows : Follows sees ticks clock start base faults
         (with_line attempts line outcome) new
-    pub since : LeavesOnly moment left_since old.store.shelf new.store.shelf
+    pub since : LeavesOnly sees old.store.shelf new.store.shelf
         (MayGive clock start (with_line attempts line outcome))
-    pub others : KeepsOthers clock start (with_line attempts line outcome) (files old.store.shelf)
-        (files new.store.shelf)
+    pub others : KeepsOthers clock start (with_line attempts line outcome) (sees.files old.store.shelf)
+        (sees.files new.store.shelf)
 
   -- it is served, or memory ended it
-  abbrev pub Serves : (S → Folder) → (S → Folder → Type 0) → (S → ℕ) → (S → ℕ → Folder → Type 0)
-      → (C → ℕ → ℕ) → (ℕ → ℕ) → Log → ℕ → ℕ → List Attempt → Line → {E : Type 0}
+  abbrev pub Serves : SeesFolder S
+      → SeesTime C → (ℕ → ℕ) → Log → ℕ → ℕ → List Attempt → Line → {E : Type 0}
       → Result (List Reply) E → Serving S C → Serving S C → Type 0
-  Serves files may_leave moment left_since upcoming clock start base faults attempts line
+  Serves sees ticks clock start base faults attempts line
       (Ok replies) old new =
-      IsServed files may_leave moment left_since upcoming clock start base faults attempts line
+      IsServed sees ticks clock start base faults attempts line
       replies old new
-  Serves files may_leave moment left_since upcoming clock start base faults attempts line
+  Serves sees ticks clock start base faults attempts line
       (Err e) old new =
-      EndsAt files may_leave moment left_since clock start base attempts line old new
+      EndsAt sees clock start base attempts line old new

@@ -17,72 +17,69 @@ use Rattle.dv_store.specs.Rest.{IsAtRest}
 use Rattle.dv_serial.specs.Following.{IsAt, Leaves, with_line}
 use Rattle.dv_serial.specs.Places.{IsOwedBehind, MayGive, play_of}
 use Rattle.dv_serial.specs.Servings.{Serving}
+use Rattle.dv_shelf.specs.Sees.{SeesFolder, SeesTime}
 
 module _ {S C : Type 0} where
   -- The store, the number of groups and the clock are where this play stands, behind these lines,
   -- and a crash at any moment since leaves the log behind some of them, or with a failed group.
-  pub record StandsAs (files : S → Folder) (may_leave : S → Folder → Type 0) (moment : S → ℕ)
-      (left_since : S → ℕ → Folder → Type 0) (upcoming : C → ℕ → ℕ) (clock : ℕ → ℕ) (start : Log)
+  pub record StandsAs (sees : SeesFolder S) (ticks : SeesTime C) (clock : ℕ → ℕ) (start : Log)
       (attempts : List Attempt) (play : Play) (old new : Serving S C) : Type 0 where
     pub at : IsAt play new
     pub debt : Debt
     pub owed : IsOwedBehind clock start attempts (place_of new.store.chain) debt
-    pub rests : IsAtRest files may_leave play.log debt new.store
-    pub readings : upcoming new.store.clock ≡ behind clock play.used
-    pub since : LeavesOnly moment left_since old.store.shelf new.store.shelf
+    pub rests : IsAtRest sees play.log debt new.store
+    pub readings : ticks.upcoming new.store.clock ≡ behind clock play.used
+    pub since : LeavesOnly sees old.store.shelf new.store.shelf
         (MayGive clock start attempts)
 
   -- the group is written, or there is none; these are the UIDs of which sessions are to be told
-  pub record IsDone (files : S → Folder) (may_leave : S → Folder → Type 0) (moment : S → ℕ)
-      (left_since : S → ℕ → Folder → Type 0) (upcoming : C → ℕ → ℕ) (clock : ℕ → ℕ) (start : Log)
+  pub record IsDone (sees : SeesFolder S) (ticks : SeesTime C) (clock : ℕ → ℕ) (start : Log)
       (attempts : List Attempt) (line : Line) (touched : List ℕ) (old new : Serving S C)
       : Type 0 where
     pub allowed : refused_here (play_of clock start attempts) line ≡ None
-    pub stands : StandsAs files may_leave moment left_since upcoming clock start
+    pub stands : StandsAs sees ticks clock start
         (with_line attempts line Served)
         (with_group_here clock (play_of clock start attempts) line) old new
     pub leads : Leads old.store.chain.live.mailbox new.store.chain.live.mailbox touched
 
   -- the disk failed it
-  pub record IsFailedBy (files : S → Folder) (may_leave : S → Folder → Type 0) (moment : S → ℕ)
-      (left_since : S → ℕ → Folder → Type 0) (upcoming : C → ℕ → ℕ) (clock : ℕ → ℕ) (start : Log)
+  pub record IsFailedBy (sees : SeesFolder S) (ticks : SeesTime C) (clock : ℕ → ℕ) (start : Log)
       (attempts : List Attempt) (line : Line) (faults : ℕ) (old new : Serving S C)
       : Type 0 where
     pub allowed : refused_here (play_of clock start attempts) line ≡ None
     pub mailbox : new.store.chain.live.mailbox ≡ old.store.chain.live.mailbox
     pub rotation : Rotation
-    pub stands : StandsAs files may_leave moment left_since upcoming clock start
+    pub stands : StandsAs sees ticks clock start
         (with_line attempts line (Failed faults rotation))
         (behind_failure (play_of clock start attempts) line rotation) old new
 
   -- a limit refused it
-  pub record IsRefusedBy (files : S → Folder) (may_leave : S → Folder → Type 0) (moment : S → ℕ)
-      (left_since : S → ℕ → Folder → Type 0) (upcoming : C → ℕ → ℕ) (clock : ℕ → ℕ) (start : Log)
+  pub record IsRefusedBy (sees : SeesFolder S) (ticks : SeesTime C) (clock : ℕ → ℕ) (start : Log)
       (attempts : List Attempt) (line : Line) (limit : Reply) (old new : Serving S C)
       : Type 0 where
     pub refused : refused_here (play_of clock start attempts) line ≡ Some limit
     pub mailbox : new.store.chain.live.mailbox ≡ old.store.chain.live.mailbox
-    pub stands : StandsAs files may_leave moment left_since upcoming clock start attempts
+    pub stands : StandsAs sees ticks clock start attempts
         (play_of clock start attempts) old new
 
   -- what came of it
-  abbrev pub Commits : (S → Folder) → (S → Folder → Type 0) → (S → ℕ) → (S → ℕ → Folder → Type 0)
-      → (C → ℕ → ℕ) → (ℕ → ℕ) → Log → List Attempt → Line → Serving S C
+  abbrev pub Commits : SeesFolder S
+      → SeesTime C → (ℕ → ℕ) → Log → List Attempt → Line → Serving S C
       → Result (List ℕ) StoreFault → Serving S C → Type 0
-  Commits files may_leave moment left_since upcoming clock start attempts line old
+  Commits sees ticks clock start attempts line old
       (Ok touched) new =
-      IsDone files may_leave moment left_since upcoming clock start attempts line touched old new
-  Commits files may_leave moment left_since upcoming clock start attempts line old
+      IsDone sees ticks clock start attempts line touched old new
+  Commits sees ticks clock start attempts line old
       (Err (fault.Disk faults)) new =
-      IsFailedBy files may_leave moment left_since upcoming clock start attempts line faults old new
-  Commits files may_leave moment left_since upcoming clock start attempts line old
+      IsFailedBy sees ticks clock start attempts line faults old new
+  Commits sees ticks clock start attempts line old
       (Err fault.UidsUsedUp) new =
-      IsRefusedBy files may_leave moment left_since upcoming clock start attempts line
+      IsRefusedBy sees ticks clock start attempts line
       reply.UidsUsedUp old new
-  Commits files may_leave moment left_since upcoming clock start attempts line old
+  Commits sees ticks clock start attempts line old
       (Err (fault.TooLong bytes)) new =
-      IsRefusedBy files may_leave moment left_since upcoming clock start attempts line
+      IsRefusedBy sees ticks clock start attempts line
       (reply.TooLong bytes) old new
-  Commits files may_leave moment left_since upcoming clock start attempts line old
+  Commits sees ticks clock start attempts line old
       (Err fault.NoMemory) new =
-      Leaves files may_leave moment left_since clock start attempts old new
+      Leaves sees clock start attempts old new

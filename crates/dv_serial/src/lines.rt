@@ -44,22 +44,24 @@ impl<S: Shelf, C: Clock> Serial<S, C> {
         requires abreast { AreAbreast self.old }
         requires room { self.old.groups + 1 < 2 ^ 64 }
         // It is one line more of the play, and its text is written.
-        ensures runs { S.tells → C.tells → (clock : ℕ → ℕ) (start : Log) (base : ℕ)
-            (attempts : List Attempt) → Follows S.files S.may_leave C.upcoming clock start base
-            (S.fault_count self.old.store.shelf) attempts self.old →
-            RunsLine S.files S.may_leave S.moment S.left_since C.upcoming clock start base
-            (S.fault_count self.new.store.shelf) attempts session (named line) result O.tells
-            (O.taken out.old) (O.taken out.new) self.old self.new }
+        ensures runs { S.sees.tells → C.sees.tells → (clock : ℕ → ℕ) (start : Log) (base : ℕ)
+            (attempts : List Attempt) → Follows S.sees C.sees clock start base
+            (S.sees.fault_count self.old.store.shelf) attempts self.old →
+            RunsLine S.sees C.sees clock start base
+            (S.sees.fault_count self.new.store.shelf) attempts session (named line) result
+            O.sees.tells
+            (O.sees.taken out.old) (O.sees.taken out.new) self.old self.new }
         ensures groups { self.new.groups ≤ self.old.groups + 1 }
         // There are as many sessions, which keep up with the mailbox.
         ensures seats { length self.new.seats ≡ length self.old.seats }
         ensures abreast { OnOk result (AreAbreast self.new) }
         // The counts of faults never fall, and an output that failed has its cause.
-        ensures later { (S.fault_count self.old.store.shelf ≤ S.fault_count self.new.store.shelf)
-            × (O.fault_count out.old ≤ O.fault_count out.new) }
-        ensures readings { C.tells → TakesUpTo 2 (C.upcoming self.old.store.clock)
-            (C.upcoming self.new.store.clock) }
-        ensures cause { IsCaused (O.fault_count out.old) (O.fault_count out.new) result }
+        ensures later { (S.sees.fault_count self.old.store.shelf
+            ≤ S.sees.fault_count self.new.store.shelf)
+            × (O.sees.fault_count out.old ≤ O.sees.fault_count out.new) }
+        ensures readings { C.sees.tells → TakesUpTo 2 (C.sees.upcoming self.old.store.clock)
+            (C.sees.upcoming self.new.store.clock) }
+        ensures cause { IsCaused (O.sees.fault_count out.old) (O.sees.fault_count out.new) result }
     {
         let mut text = ReplyText::new(self.alloc, line.session);
         self.serve(session, &line.command, &mut text)?;
@@ -86,18 +88,19 @@ impl<S: Shelf, C: Clock> Serial<S, C> {
         requires room { self.old.groups + length (L.left lines.old) < 2 ^ 64 }
         // Each line is a step of one play with its replies, up to the one that ended the run, and
         // what is left, at any moment too, keeps the play's log.
-        ensures runs { S.tells → C.tells → (clock : ℕ → ℕ) (start : Log) (base : ℕ) →
-            Follows S.files S.may_leave C.upcoming clock start base
-            (S.fault_count self.old.store.shelf) [] self.old →
-            Runs S.files S.may_leave S.moment S.left_since C.upcoming clock start base
-            (S.fault_count self.new.store.shelf) (L.left lines.old) result O.tells
-            (O.taken out.old) (O.taken out.new) self.old self.new }
+        ensures runs { S.sees.tells → C.sees.tells → (clock : ℕ → ℕ) (start : Log) (base : ℕ) →
+            Follows S.sees C.sees clock start base
+            (S.sees.fault_count self.old.store.shelf) [] self.old →
+            Runs S.sees C.sees clock start base
+            (S.sees.fault_count self.new.store.shelf) (L.left lines.old) result O.sees.tells
+            (O.sees.taken out.old) (O.sees.taken out.new) self.old self.new }
         // The counts of faults never fall, and an output that failed has its cause.
-        ensures later { (S.fault_count self.old.store.shelf ≤ S.fault_count self.new.store.shelf)
-            × (O.fault_count out.old ≤ O.fault_count out.new) }
-        ensures readings { C.tells → TakesUpTo (2 * length (L.left lines.old))
-            (C.upcoming self.old.store.clock) (C.upcoming self.new.store.clock) }
-        ensures cause { IsCaused (O.fault_count out.old) (O.fault_count out.new) result }
+        ensures later { (S.sees.fault_count self.old.store.shelf
+            ≤ S.sees.fault_count self.new.store.shelf)
+            × (O.sees.fault_count out.old ≤ O.sees.fault_count out.new) }
+        ensures readings { C.sees.tells → TakesUpTo (2 * length (L.left lines.old))
+            (C.sees.upcoming self.old.store.clock) (C.sees.upcoming self.new.store.clock) }
+        ensures cause { IsCaused (O.sees.fault_count out.old) (O.sees.fault_count out.new) result }
     {
         let mut seen = Vec::new(self.alloc);
         while let Some(line) = lines.next()? {

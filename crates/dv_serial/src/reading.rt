@@ -43,23 +43,23 @@ impl<S: Shelf, C> Serial<S, C> {
         requires at { at < length self.old.seats }
         requires shallow { IsShallow c.now }
         // At rest they are those of the log's messages.
-        ensures found { S.tells → (log : Log) (debt : Debt) →
-            IsAtRest S.files S.may_leave log debt self.old.store →
+        ensures found { S.sees.tells → (log : Log) (debt : Debt) →
+            IsAtRest S.sees log debt self.old.store →
             IfOk result (IsRead R.with replies.old replies.new log.mail c.now
             (seat_at self.old.seats at).state.view self.old.store.chain.live.mailbox) }
-        ensures failed { S.tells → (log : Log) (debt : Debt) →
-            IsAtRest S.files S.may_leave log debt self.old.store →
+        ensures failed { S.sees.tells → (log : Log) (debt : Debt) →
+            IsAtRest S.sees log debt self.old.store →
             (faults : ℕ) → result ≡ Err (fault.Disk faults) → replies.new ≡ replies.old }
         // Nothing is changed.
         ensures looks { OnlyLooksAt self.old self.new }
-        ensures reads { S.tells → OnlyReads S.files S.may_leave S.moment S.left_since
+        ensures reads { S.sees.tells → OnlyReads S.sees
             self.old.store self.new.store }
         // An error is want of memory or the disk's failure, which has its cause.
         ensures err { IfErr result IsFailure }
         ensures touches { (faults : ℕ) → result ≡ Err (fault.Disk faults) →
             reads_mail c.now ≡ true }
-        ensures cause { HasStoreCause (S.fault_count self.old.store.shelf)
-            (S.fault_count self.new.store.shelf) result }
+        ensures cause { HasStoreCause (S.sees.fault_count self.old.store.shelf)
+            (S.sees.fault_count self.new.store.shelf) result }
     {
         if !reads_mail(c) {
             let none = Mail::new(self.alloc);
@@ -155,25 +155,27 @@ impl<S: Shelf, C: Clock> Serial<S, C> {
         requires allowed { own_refusal (seat_at self.old.seats at).state c.now ≡ None }
         requires abreast { AreAbreast self.old }
         // It is one line more of the play, with its replies; the folder is only read.
-        ensures serves { S.tells → C.tells → (clock : ℕ → ℕ) (start : Log) (base : ℕ)
+        ensures serves { S.sees.tells → C.sees.tells → (clock : ℕ → ℕ) (start : Log) (base : ℕ)
             (attempts : Listed Attempt) → at + 1 < 2 ^ 32 →
-            Follows S.files S.may_leave C.upcoming clock start base
-            (S.fault_count self.old.store.shelf) attempts self.old →
+            Follows S.sees C.sees clock start base
+            (S.sees.fault_count self.old.store.shelf) attempts self.old →
             Takes R.with replies.old replies.new result (λ told.
-            Serves S.files S.may_leave S.moment S.left_since C.upcoming clock start base
-            (S.fault_count self.new.store.shelf) attempts (at + 1, c.now) told self.old self.new) }
+            Serves S.sees C.sees clock start base
+            (S.sees.fault_count self.new.store.shelf) attempts (at + 1, c.now) told self.old
+            self.new) }
         ensures groups { self.new.groups ≡ self.old.groups }
         // There are as many sessions, which keep up with the mailbox, and the clock isn't read.
         ensures stays { (length self.new.seats ≡ length self.old.seats)
             × (self.new.store.clock ≡ self.old.store.clock) }
         ensures abreast { OnOk result (AreAbreast self.new) }
         // The disk's failure is told only where it failed.
-        ensures later { S.fault_count self.old.store.shelf ≤ S.fault_count self.new.store.shelf }
-        ensures cause { S.tells → (log : Log) (debt : Debt) →
-            IsAtRest S.files S.may_leave log debt self.old.store →
+        ensures later { S.sees.fault_count self.old.store.shelf ≤ S.sees.fault_count
+            self.new.store.shelf }
+        ensures cause { S.sees.tells → (log : Log) (debt : Debt) →
+            IsAtRest S.sees log debt self.old.store →
             Takes R.with replies.old replies.new result (λ told.
-            HasFailures (S.fault_count self.old.store.shelf)
-            (S.fault_count self.new.store.shelf) told) }
+            HasFailures (S.sees.fault_count self.old.store.shelf)
+            (S.sees.fault_count self.new.store.shelf) told) }
     {
         match self.add_data(at, c, replies) {
             Ok(damaged) => {

@@ -39,14 +39,14 @@ impl<S: Shelf, C: Clock> Serial<S, C> {
         requires room { self.old.groups + 1 < 2 ^ 64 }
         // The group is one entry more, or nothing is written; what is owed then, and what a crash
         // leaves at any moment. Files that the command doesn't write stay.
-        ensures commits { S.tells → C.tells → (clock : ℕ → ℕ) (start : Log) (base : ℕ)
+        ensures commits { S.sees.tells → C.sees.tells → (clock : ℕ → ℕ) (start : Log) (base : ℕ)
             (attempts : List Attempt) → at + 1 < 2 ^ 32 →
-            Follows S.files S.may_leave C.upcoming clock start base
-            (S.fault_count self.old.store.shelf) attempts self.old →
-            Commits S.files S.may_leave S.moment S.left_since C.upcoming clock start attempts
+            Follows S.sees C.sees clock start base
+            (S.sees.fault_count self.old.store.shelf) attempts self.old →
+            Commits S.sees C.sees clock start attempts
             (at + 1, c.now) self.old result self.new
             × LeavesOthers c.now self.old.store.chain.live.mailbox result
-            (S.files self.old.store.shelf) (S.files self.new.store.shelf) }
+            (S.sees.files self.old.store.shelf) (S.sees.files self.new.store.shelf) }
         ensures groups { self.new.groups ≤ self.old.groups + 1 }
         // The sessions stay, and are to be told of what changes; a fault of the disk has its cause.
         ensures seats { self.new.seats ≡ self.old.seats }
@@ -54,10 +54,10 @@ impl<S: Shelf, C: Clock> Serial<S, C> {
             self.new.store.chain.live.mailbox) }
         ensures stays { OnErr result
             (self.new.store.chain.live.mailbox ≡ self.old.store.chain.live.mailbox) }
-        ensures readings { C.tells → TakesUpTo 2 (C.upcoming self.old.store.clock)
-            (C.upcoming self.new.store.clock) }
-        ensures cause { HasStoreCause (S.fault_count self.old.store.shelf)
-            (S.fault_count self.new.store.shelf) result }
+        ensures readings { C.sees.tells → TakesUpTo 2 (C.sees.upcoming self.old.store.clock)
+            (C.sees.upcoming self.new.store.clock) }
+        ensures cause { HasStoreCause (S.sees.fault_count self.old.store.shelf)
+            (S.sees.fault_count self.new.store.shelf) result }
     {
         // A UIDNEXT is known of a valid mailbox alone.
         let _before = self.store.live().next_uid();
@@ -90,22 +90,23 @@ impl<S: Shelf, C: Clock> Serial<S, C> {
         requires abreast { AreAbreast self.old }
         requires room { self.old.groups + 1 < 2 ^ 64 }
         // It is one line more of the play, with its replies, and what a crash leaves.
-        ensures serves { S.tells → C.tells → (clock : ℕ → ℕ) (start : Log) (base : ℕ)
+        ensures serves { S.sees.tells → C.sees.tells → (clock : ℕ → ℕ) (start : Log) (base : ℕ)
             (attempts : List Attempt) → at + 1 < 2 ^ 32 →
-            Follows S.files S.may_leave C.upcoming clock start base
-            (S.fault_count self.old.store.shelf) attempts self.old →
+            Follows S.sees C.sees clock start base
+            (S.sees.fault_count self.old.store.shelf) attempts self.old →
             Takes R.with replies.old replies.new result (λ told.
-            Serves S.files S.may_leave S.moment S.left_since C.upcoming clock start base
-            (S.fault_count self.new.store.shelf) attempts (at + 1, c.now) told self.old self.new) }
+            Serves S.sees C.sees clock start base
+            (S.sees.fault_count self.new.store.shelf) attempts (at + 1, c.now) told self.old
+            self.new) }
         ensures groups { self.new.groups ≤ self.old.groups + 1 }
         // The sessions keep up with the mailbox; the disk's failure is told only where it failed.
         ensures seats { length self.new.seats ≡ length self.old.seats }
         ensures abreast { OnOk result (AreAbreast self.new) }
-        ensures readings { C.tells → TakesUpTo 2 (C.upcoming self.old.store.clock)
-            (C.upcoming self.new.store.clock) }
+        ensures readings { C.sees.tells → TakesUpTo 2 (C.sees.upcoming self.old.store.clock)
+            (C.sees.upcoming self.new.store.clock) }
         ensures cause { Takes R.with replies.old replies.new result (λ told.
-            HasFailures (S.fault_count self.old.store.shelf)
-            (S.fault_count self.new.store.shelf) told) }
+            HasFailures (S.sees.fault_count self.old.store.shelf)
+            (S.sees.fault_count self.new.store.shelf) told) }
     {
         let met = meet(self.alloc, c, self.seats[at].view(), self.store.live())?;
         match self.commit(at, c) {
@@ -134,25 +135,27 @@ impl<S: Shelf, C: Clock> Serial<S, C> {
         requires room { self.old.groups + 1 < 2 ^ 64 }
         // It is one line more of the play, with its replies; a crash at any moment leaves the log
         // behind some of the lines, or with the group of one that the disk failed.
-        ensures serves { S.tells → C.tells → (clock : ℕ → ℕ) (start : Log) (base : ℕ)
-            (attempts : List Attempt) → Follows S.files S.may_leave C.upcoming clock start base
-            (S.fault_count self.old.store.shelf) attempts self.old →
+        ensures serves { S.sees.tells → C.sees.tells → (clock : ℕ → ℕ) (start : Log) (base : ℕ)
+            (attempts : List Attempt) → Follows S.sees C.sees clock start base
+            (S.sees.fault_count self.old.store.shelf) attempts self.old →
             Takes R.with replies.old replies.new result (λ told.
-            Serves S.files S.may_leave S.moment S.left_since C.upcoming clock start base
-            (S.fault_count self.new.store.shelf) attempts (number, c.now) told self.old self.new) }
+            Serves S.sees C.sees clock start base
+            (S.sees.fault_count self.new.store.shelf) attempts (number, c.now) told self.old
+            self.new) }
         ensures groups { self.new.groups ≤ self.old.groups + 1 }
         // There are as many sessions, which keep up with the mailbox.
         ensures seats { length self.new.seats ≡ length self.old.seats }
         ensures abreast { OnOk result (AreAbreast self.new) }
-        ensures readings { C.tells → TakesUpTo 2 (C.upcoming self.old.store.clock)
-            (C.upcoming self.new.store.clock) }
+        ensures readings { C.sees.tells → TakesUpTo 2 (C.sees.upcoming self.old.store.clock)
+            (C.sees.upcoming self.new.store.clock) }
         // The disk's failure is told only where it failed.
-        ensures later { S.fault_count self.old.store.shelf ≤ S.fault_count self.new.store.shelf }
-        ensures cause { S.tells → (log : Log) (debt : Debt) →
-            IsAtRest S.files S.may_leave log debt self.old.store →
+        ensures later { S.sees.fault_count self.old.store.shelf ≤ S.sees.fault_count
+            self.new.store.shelf }
+        ensures cause { S.sees.tells → (log : Log) (debt : Debt) →
+            IsAtRest S.sees log debt self.old.store →
             Takes R.with replies.old replies.new result (λ told.
-            HasFailures (S.fault_count self.old.store.shelf)
-            (S.fault_count self.new.store.shelf) told) }
+            HasFailures (S.sees.fault_count self.old.store.shelf)
+            (S.sees.fault_count self.new.store.shelf) told) }
     {
         let at = number as usize - 1;
         if let Some(refusal) = self.seats[at].refuse(c) {

@@ -1,7 +1,7 @@
 //! An output that is not kept.
 
 ghost use Rattle.std.specs.Prelude.{[], IsOk};
-ghost use Rattle.dv_shelf.specs.Causes.{HasCause};
+ghost use Rattle.dv_shelf.specs.Causes.{HasCause, CountsOnce};
 
 use dv_shelf::{Failed, Sink};
 
@@ -11,15 +11,12 @@ pub struct NullSink;
 
 impl Sink for NullSink {
     // It has no contents to tell of.
-    ghost tells = { ⊥ };
-
-    ghost taken = { λ _. [] };
-
-    ghost fault_count = { λ _. 0 };
+    ghost sees = { record { tells = ⊥; taken = λ _. []; fault_count = λ _. 0 } };
 
     fn write_all(&mut self, _bytes: &[u8]) -> Result<(), Failed>
         ensures never { IsOk result }
         ensures cause { HasCause 0 0 result }
+        ensures once { CountsOnce 0 0 result }
     {
         Ok(())
     }

@@ -1,5 +1,6 @@
 pub mod Causes
 pub mod Folders
+pub mod Sees
 pub mod Crashes
 pub mod Streams
 pub mod Clocks

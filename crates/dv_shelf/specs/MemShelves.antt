@@ -5,6 +5,7 @@ use Rattle.dv_shelf.specs.declared.record.Deed.{Deed}
 use Rattle.dv_shelf.specs.declared.record.Outcome.{Outcome}
 use Rattle.dv_shelf.specs.declared.mem_shelf.MemShelf.{MemShelf}
 use Rattle.dv_shelf.specs.Folders.{Folder}
+use Rattle.dv_shelf.specs.Sees.{SeesFolder}
 use Rattle.dv_shelf.specs.Failures.{turn_of, after_answer, untried}
 use Rattle.dv_shelf.specs.Outcomes.{passes, is_reached, outcome_then}
 use Rattle.dv_shelf.specs.Disks.{Made, files_after}
@@ -42,6 +43,18 @@ call_count shelf = shelf.failures.calls
 -- how often a call has failed
 abbrev pub faults_of : MemShelf → ℕ
 faults_of shelf = shelf.failures.faults
+
+-- what it shows
+abbrev pub sees_memory : SeesFolder MemShelf
+sees_memory = record {
+  tells = Unit {0};
+  files = files_of;
+  may_leave = images_of;
+  moment = moment_of;
+  left_since = images_since;
+  fault_count = faults_of;
+  mail_reads = λ shelf. shelf.mail_reads;
+}
 
 -- A shelf that had no call yet. These writing calls made its files.
 pub record IsUntried (shelf : MemShelf) (made : List Made) (space : ℕ) (listed : List ℕ)

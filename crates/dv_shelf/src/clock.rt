@@ -1,21 +1,20 @@
 ghost use Rattle.std.specs.Prelude.{◌≡◌, ◌^◌, ◌<◌, ℕ};
 ghost use Rattle.dv_shelf.specs.Clocks.{behind};
+ghost use Rattle.dv_shelf.specs.Sees.{SeesTime};
 
 /// A clock, by its readings to come.
 pub trait Clock {
-    /// A clock of this type tells its readings. The member below speaks of one that does.
-    ghost tells: { Type 0 };
-
-    /// The reading after so many others.
-    ghost upcoming: { Self → ℕ → ℕ };
+    /// What a clock of this type shows.
+    ghost sees: { SeesTime Self };
 
     /// The time in Unix seconds. It never fails.
     fn now(&mut self) -> u32
-        ensures reading { tells → result ≡ upcoming self.old 0 }
-        ensures later { tells → upcoming self.new ≡ behind (upcoming self.old) 1 };
+        ensures reading { sees.tells → result ≡ sees.upcoming self.old 0 }
+        ensures later { sees.tells →
+            sees.upcoming self.new ≡ behind (sees.upcoming self.old) 1 };
 
     /// Each reading is a number of 32 bits.
-    ghost readings_small: { (c : Self) (k : ℕ) → tells → upcoming c k < 2 ^ 32 };
+    ghost readings_small: { (c : Self) (k : ℕ) → sees.tells → sees.upcoming c k < 2 ^ 32 };
 }
 
 /// What is called before each command of a session.

@@ -1,5 +1,5 @@
 ghost use Rattle.std.specs.Prelude.{◌≡◌, ◌≢◌, ◌↔◌, IsErr, is_err};
-ghost use Rattle.dv_shelf.specs.Causes.{HasCause};
+ghost use Rattle.dv_shelf.specs.Causes.{HasCause, CountsOnce};
 ghost use Rattle.dv_shelf.specs.Failures.{turn_of, after_call, after_fault, after_answer, untried, is_behind, is_listed};
 
 use crate::Failed;
@@ -59,6 +59,7 @@ impl Failures {
         ensures err { IsErr result }
         ensures counted { self.new ≡ after_fault self.old }
         ensures cause { HasCause self.old.faults self.new.faults result }
+        ensures once { CountsOnce self.old.faults self.new.faults result }
     {
         self.faults = self.faults.saturating_add(1);
         Err(Failed)
@@ -69,6 +70,7 @@ impl Failures {
         ensures fails { IsErr result ↔ (turn_of self.old ≢ Turn.Passes) }
         ensures counted { self.new ≡ after_answer self.old (is_err result) }
         ensures cause { HasCause self.old.faults self.new.faults result }
+        ensures once { CountsOnce self.old.faults self.new.faults result }
     {
         if self.count_call() == Turn::Passes {
             Ok(())

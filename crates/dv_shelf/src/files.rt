@@ -1,5 +1,6 @@
 ghost use Rattle.std.specs.Prelude.{◌≡◌, ◌-◌, ◌++◌, [], length, take, replicate, unwrap_or, false, IfOk, IsOk};
-ghost use Rattle.dv_shelf.specs.Folders.{patched, same_name, has_name, name_number};
+ghost use Rattle.dv_shelf.specs.Folders.{patched, same_name, has_name, is_of_mailbox, name_number};
+ghost use Rattle.std.specs.List.{list_any};
 ghost use Rattle.dv_shelf.specs.Disks.{file_then, makes_bytes, stuck};
 
 use crate::Name;
@@ -31,6 +32,23 @@ pub fn has_name(names: &[Name], name: Name) -> bool
     ensures { result ≡ has_name names.now name }
 {
     names.iter().any(|n| same_name(*n, name))
+}
+
+/// Whether a file is one of a mailbox's. A cache file alone makes none.
+pub fn is_of_mailbox(name: Name) -> bool
+    ensures { result ≡ is_of_mailbox name }
+{
+    match name {
+        Name::Index | Name::Log | Name::Log2 | Name::Mail(_) => true,
+        Name::Cache => false,
+    }
+}
+
+/// Whether one of these is a file of a mailbox.
+pub fn are_of_mailbox(names: &[Name]) -> bool
+    ensures { result ≡ list_any is_of_mailbox names.now }
+{
+    names.iter().any(|name| is_of_mailbox(*name))
 }
 
 /// Bytes written over the old ones from a place on, with zero bytes where the old ones end

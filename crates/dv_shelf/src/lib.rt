@@ -14,6 +14,7 @@ mod shelf;
 mod streams;
 
 pub use clock::{Clock, Gate};
+pub use files::is_of_mailbox;
 pub use mem_clock::{MemClock, OpenGate};
 pub use mem_shelf::{Folder, MemShelf};
 pub use mem_streams::{MemSink, MemSource};

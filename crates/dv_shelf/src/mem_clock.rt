@@ -32,9 +32,7 @@ impl MemClock {
 impl Clock for MemClock {
     ghost use Rattle.dv_shelf.specs.MemClocks.{readings_small, readings_to_come};
 
-    ghost tells = { Unit {0} };
-
-    ghost upcoming = { readings_to_come };
+    ghost sees = { record { tells = Unit {0}; upcoming = readings_to_come } };
 
     ghost readings_small = { λ c k told. readings_small c k };
 

@@ -1,9 +1,10 @@
-ghost use Rattle.std.specs.Prelude.{◌≡◌, ◌≢◌, ◌↔◌, ◌+◌, ◌^◌, ◌<◌, ◌≤◌, [], length, Some, None, true, map, IfOk, OnOk, OnErr, is_err, IsErr, IsErrOf};
-ghost use Rattle.dv_shelf.specs.Causes.{HasCause, HasCauseOf};
+ghost use Rattle.std.specs.Prelude.{◌≡◌, ◌≢◌, ◌↔◌, ◌+◌, ◌^◌, ◌<◌, ◌≤◌, [], length, Some, None, true, map, IfOk, OnOk, OnErr, is_err, IsErr, IsErrOf, MatchBool};
+ghost use Rattle.dv_shelf.specs.Causes.{HasCause, HasCauseOf, CountsOnce};
 ghost use Rattle.dv_shelf.specs.Folders.{counted, mail_reads_of};
 ghost use Rattle.dv_shelf.specs.Outcomes.{outcome_then};
 
 use crate::failures::{Failures, Turn};
+use crate::files::are_of_mailbox;
 use crate::record::{Deed, Outcome, Record, is_done};
 use crate::{Failed, Name, Shelf, ShelfFault};
 use dv_model::{Bytes, List, NoMemory};
@@ -24,7 +25,7 @@ pub struct MemShelf {
 
 impl MemShelf {
     ghost use Rattle.dv_shelf.specs.Failures.{turn_of, after_answer};
-    ghost use Rattle.dv_shelf.specs.MemShelves.{call_count, calls_of, faults_of, files_of, images_of, IsAnswered, IsUntried};
+    ghost use Rattle.dv_shelf.specs.MemShelves.{call_count, calls_of, faults_of, files_of, IsAnswered, IsUntried, sees_memory};
     ghost use Rattle.dv_shelf.specs.Folders.{no_files, folder_of};
     ghost use Rattle.dv_shelf.specs.Crashes.{IsSettled};
     ghost use Rattle.dv_shelf.specs.Disks.{put_call};
@@ -41,7 +42,7 @@ impl MemShelf {
         stop: Option<u32>,
     ) -> Result<MemShelf, NoMemory>
         ensures files { IfOk result (λ shelf. files_of shelf ≡ no_files) }
-        ensures settled { IfOk result (λ shelf. IsSettled files_of images_of shelf) }
+        ensures settled { IfOk result (λ shelf. IsSettled sees_memory shelf) }
         ensures untried { IfOk result (λ shelf. IsUntried shelf [] room fails stop) }
     {
         Ok(MemShelf {
@@ -63,7 +64,7 @@ impl MemShelf {
         stop: Option<u32>,
     ) -> Result<MemShelf, NoMemory>
         ensures files { IfOk result (λ shelf. files_of shelf ≡ folder_of folder.now) }
-        ensures settled { IfOk result (λ shelf. IsSettled files_of images_of shelf) }
+        ensures settled { IfOk result (λ shelf. IsSettled sees_memory shelf) }
         ensures untried { IfOk result (λ shelf.
             IsUntried shelf (map put_call folder.now) room fails stop) }
     {
@@ -104,6 +105,7 @@ impl MemShelf {
     fn write(&mut self, name: Name, deed: Deed, bytes: &[u8]) -> Result<(), Failed>
         ensures made { IsAnswered self.old self.new result name deed bytes.now }
         ensures cause { HasCause (faults_of self.old) (faults_of self.new) result }
+        ensures once { CountsOnce (faults_of self.old) (faults_of self.new) result }
     {
         let turn = self.failures.count_call();
         if turn == Turn::Stopped || !self.record.fits(bytes.len()) {
@@ -121,24 +123,12 @@ impl MemShelf {
 
 impl Shelf for MemShelf {
     ghost use Rattle.dv_shelf.specs.Failures.{turn_of};
-    ghost use Rattle.dv_shelf.specs.MemShelves.{calls_of, faults_of, files_of, images_of, images_since, moment_of, IsAnswered, IsLook};
-    ghost use Rattle.dv_shelf.specs.Folders.{Folder, with_file, contents, patched, Lists, ChangesOnly, TornFile, IsEither};
+    ghost use Rattle.dv_shelf.specs.MemShelves.{calls_of, faults_of, files_of, images_of, images_since, moment_of, IsAnswered, IsLook, sees_memory};
+    ghost use Rattle.dv_shelf.specs.Folders.{Folder, with_file, contents, patched, Lists, ChangesOnly, TornFile, IsEither, IsNew};
     ghost use Rattle.dv_shelf.specs.Crashes.{Follows, FollowsNone, Elapses};
     ghost use Rattle.dv_shelf.specs.Laws.{files_left, left_now, left_last};
 
-    ghost tells = { Unit {0} };
-
-    ghost files = { files_of };
-
-    ghost may_leave = { images_of };
-
-    ghost moment = { moment_of };
-
-    ghost left_since = { images_since };
-
-    ghost fault_count = { faults_of };
-
-    ghost mail_reads = { λ s. s.mail_reads };
+    ghost sees = { sees_memory };
 
     ghost counts_now = { λ s t c le is. left_now (calls_of s) t c le is };
 
@@ -156,6 +146,8 @@ impl Shelf for MemShelf {
         ensures reads { self.new.mail_reads ≡ counted self.old.mail_reads (mail_reads_of name) }
         ensures cause { HasCauseOf ShelfFault.Failed
             (faults_of self.old) (faults_of self.new) result }
+        ensures once { IsErrOf result ShelfFault.Failed →
+            faults_of self.new ≡ counted (faults_of self.old) 1 }
 
         // Exactly the listed calls and those behind the stop fail.
         ensures seen { IsLook self.old self.new }
@@ -172,6 +164,31 @@ impl Shelf for MemShelf {
         }
     }
 
+    fn has_mailbox(&mut self, alloc: Global) -> Result<bool, ShelfFault>
+        // What the trait says.
+        ensures found { IfOk result (λ has.
+            MatchBool has (IsNew (files_of self.old) → ⊥) (IsNew (files_of self.old))) }
+        ensures files { files_of self.new ≡ files_of self.old }
+        ensures crash { FollowsNone (images_of self.old) (images_of self.new) }
+        ensures time { Elapses (moment_of self.old) (moment_of self.new)
+            (images_since self.old) (images_since self.new) (images_of self.new) }
+        ensures reads { self.new.mail_reads ≡ self.old.mail_reads }
+        ensures cause { HasCauseOf ShelfFault.Failed
+            (faults_of self.old) (faults_of self.new) result }
+        ensures once { IsErrOf result ShelfFault.Failed →
+            faults_of self.new ≡ counted (faults_of self.old) 1 }
+
+        // Exactly the listed calls and those behind the stop fail.
+        ensures seen { IsLook self.old self.new }
+        ensures fails { IsErrOf result ShelfFault.Failed
+            ↔ (turn_of self.old.failures ≢ Turn.Passes) }
+    {
+        match self.list(alloc) {
+            Ok(names) => Ok(are_of_mailbox(names.as_slice())),
+            Err(fault) => Err(fault),
+        }
+    }
+
     fn list(&mut self, alloc: Global) -> Result<List<Name>, ShelfFault>
         // What the trait says.
         ensures found { IfOk result (λ names. Lists (files_of self.old) names) }
@@ -182,6 +199,8 @@ impl Shelf for MemShelf {
         ensures reads { self.new.mail_reads ≡ self.old.mail_reads }
         ensures cause { HasCauseOf ShelfFault.Failed
             (faults_of self.old) (faults_of self.new) result }
+        ensures once { IsErrOf result ShelfFault.Failed →
+            faults_of self.new ≡ counted (faults_of self.old) 1 }
 
         // Exactly the listed calls and those behind the stop fail.
         ensures seen { IsLook self.old self.new }
@@ -209,6 +228,7 @@ impl Shelf for MemShelf {
             (images_since self.old) (images_since self.new) (images_of self.new) }
         ensures reads { self.new.mail_reads ≡ self.old.mail_reads }
         ensures cause { HasCause (faults_of self.old) (faults_of self.new) result }
+        ensures once { CountsOnce (faults_of self.old) (faults_of self.new) result }
 
         // What is kept of it, and when it fails.
         ensures made { IsAnswered self.old self.new result name (Deed.Write at) bytes.now }
@@ -226,6 +246,7 @@ impl Shelf for MemShelf {
             (images_since self.old) (images_since self.new) (images_of self.new) }
         ensures reads { self.new.mail_reads ≡ self.old.mail_reads }
         ensures cause { HasCause (faults_of self.old) (faults_of self.new) result }
+        ensures once { CountsOnce (faults_of self.old) (faults_of self.new) result }
 
         // What is kept of it, and when it fails.
         ensures made { IsAnswered self.old self.new result name Deed.Sync [] }
@@ -247,6 +268,7 @@ impl Shelf for MemShelf {
             (images_since self.old) (images_since self.new) (images_of self.new) }
         ensures reads { self.new.mail_reads ≡ self.old.mail_reads }
         ensures cause { HasCause (faults_of self.old) (faults_of self.new) result }
+        ensures once { CountsOnce (faults_of self.old) (faults_of self.new) result }
 
         // What is kept of it, and when it fails.
         ensures made { IsAnswered self.old self.new result name Deed.Replace bytes.now }
@@ -266,6 +288,7 @@ impl Shelf for MemShelf {
             (images_since self.old) (images_since self.new) (images_of self.new) }
         ensures reads { self.new.mail_reads ≡ self.old.mail_reads }
         ensures cause { HasCause (faults_of self.old) (faults_of self.new) result }
+        ensures once { CountsOnce (faults_of self.old) (faults_of self.new) result }
 
         // What is kept of it, and when it fails.
         ensures made { IsAnswered self.old self.new result name Deed.Remove [] }

@@ -1,6 +1,6 @@
 ghost use Rattle.std.specs.Prelude.{◌≡◌, ◌≢◌, ◌⊎◌, ◌↔◌, ◌+◌, ◌<◌, ◌≤◌, [], length, min, IfOk, IsErr, OnOk, is_err, vec_len, vec_capacity};
 ghost use Rattle.std.specs.Io.{ReadsAtMost};
-ghost use Rattle.dv_shelf.specs.Causes.{HasCause};
+ghost use Rattle.dv_shelf.specs.Causes.{HasCause, CountsOnce};
 ghost use Rattle.dv_shelf.specs.Streams.{Takes, Appends, AppendsFront};
 
 use crate::failures::{Failures, Turn};
@@ -38,16 +38,13 @@ impl Source for MemSource {
     ghost use Rattle.dv_shelf.specs.MemStreams.{bytes_left, source_faults};
     ghost use Rattle.dv_shelf.specs.Failures.{turn_of, after_answer};
 
-    ghost tells = { Unit {0} };
-
-    ghost left = { bytes_left };
-
-    ghost fault_count = { source_faults };
+    ghost sees = { record { tells = Unit {0}; left = bytes_left; fault_count = source_faults } };
 
     fn read(&mut self, buf: &mut [u8]) -> Result<usize, Failed>
         ensures bytes { Takes (bytes_left self.old) (bytes_left self.new) result buf.new }
         ensures bound { ReadsAtMost result buf.new }
         ensures cause { HasCause (source_faults self.old) (source_faults self.new) result }
+        ensures once { CountsOnce (source_faults self.old) (source_faults self.new) result }
 
         // Exactly the listed calls fail, and the others take all that there is room for.
         ensures fails { IsErr result ↔ (turn_of self.old.failures ≢ Turn.Passes) }
@@ -110,16 +107,13 @@ impl Sink for MemSink {
     ghost use Rattle.dv_shelf.specs.MemStreams.{bytes_taken, room_left, sink_faults};
     ghost use Rattle.dv_shelf.specs.Failures.{turn_of, after_answer};
 
-    ghost tells = { Unit {0} };
-
-    ghost taken = { bytes_taken };
-
-    ghost fault_count = { sink_faults };
+    ghost sees = { record { tells = Unit {0}; taken = bytes_taken; fault_count = sink_faults } };
 
     fn write_all(&mut self, bytes: &[u8]) -> Result<(), Failed>
         ensures ok { OnOk result (Appends (bytes_taken self.old) (bytes_taken self.new) bytes.now) }
         ensures err { AppendsFront (bytes_taken self.old) (bytes_taken self.new) bytes.now }
         ensures cause { HasCause (sink_faults self.old) (sink_faults self.new) result }
+        ensures once { CountsOnce (sink_faults self.old) (sink_faults self.new) result }
 
         // Exactly the listed calls fail, and those for which there is no room.
         ensures fails { IsErr result ↔ ((turn_of self.old.failures ≢ Turn.Passes)

@@ -52,14 +52,15 @@ use Rattle.dv_store.specs.States.{State}
 use Rattle.dv_store.proofs.Equal.{equal_path, stands_equal}
 use Rattle.dv_store.proofs.Looked.{file_stays, stands_seen}
 use Rattle.dv_store.proofs.Places.{mark_same, place_same, ready_begins, snapshot_same, turns_same}
+use Rattle.dv_shelf.specs.Sees.{SeesFolder}
 
 -- ---- a plan that was carried out
 
-module _ {S : Type 0} {files : S → Folder} {may_leave : S → Folder → Type 0} {moment : S → ℕ} {left_since : S → ℕ → Folder → Type 0} {log : Log} {debt : Debt} {write : Write} {owed left : Option Turn} {text : List ℕ} {steps : Steps} {chain next : Chain} {old new : S} where
-  pub stored_done : {T U E F : Type 0} (x : T) (y : U) → WritesStore files may_leave moment left_since log debt write owed left text steps chain next {T = T} {E = E} (Ok x) old new → WritesStore files may_leave moment left_since log debt write owed left text steps chain next {T = U} {E = F} (Ok y) old new
+module _ {S : Type 0} {sees : SeesFolder S} {log : Log} {debt : Debt} {write : Write} {owed left : Option Turn} {text : List ℕ} {steps : Steps} {chain next : Chain} {old new : S} where
+  pub stored_done : {T U E F : Type 0} (x : T) (y : U) → WritesStore sees log debt write owed left text steps chain next {T = T} {E = E} (Ok x) old new → WritesStore sees log debt write owed left text steps chain next {T = U} {E = F} (Ok y) old new
   stored_done x y stores = record { ok = stores.ok; err = tt; any_moment = stores.any_moment; written = record { ok = stores.written.ok; others = stores.written.others } }
 
-  pub stored_failed : {T U E F : Type 0} (e : E) (f : F) → WritesStore files may_leave moment left_since log debt write owed left text steps chain next {T = T} {E = E} (Err e) old new → WritesStore files may_leave moment left_since log debt write owed left text steps chain next {T = U} {E = F} (Err f) old new
+  pub stored_failed : {T U E F : Type 0} (e : E) (f : F) → WritesStore sees log debt write owed left text steps chain next {T = T} {E = E} (Err e) old new → WritesStore sees log debt write owed left text steps chain next {T = U} {E = F} (Err f) old new
   stored_failed e f stores = record { ok = tt; err = stores.err; any_moment = stores.any_moment; written = record { ok = tt; others = stores.written.others } }
 
 -- ---- what a folder gives, over a chain that is equal but for spare rows
@@ -193,8 +194,8 @@ all_named chain received folder (command.UidRemove a) steps made n named = none_
 
 -- ---- the store
 
-module _ {S C : Type 0} (files : S → Folder) (may_leave : S → Folder → Type 0) (moment : S → ℕ) (left_since : S → ℕ → Folder → Type 0) (log : Log) (debt : Debt) (write : Write) (store : State S C) (rest : IsAtRest files may_leave log debt store)
-    (chain : Chain) (same : AreEqual chain store.chain) (file : CacheFile) (forgot : file ≡ cache_behind write.command store.cache) (shelf : S) (clock : C) (looks : OnlyLooks files may_leave moment left_since store.shelf shelf) where
+module _ {S C : Type 0} (sees : SeesFolder S) (log : Log) (debt : Debt) (write : Write) (store : State S C) (rest : IsAtRest sees log debt store)
+    (chain : Chain) (same : AreEqual chain store.chain) (file : CacheFile) (forgot : file ≡ cache_behind write.command store.cache) (shelf : S) (clock : C) (looks : OnlyLooks sees store.shelf shelf) where
   abbrev m : Mailbox
   m = store.chain.live.mailbox
 
@@ -205,25 +206,25 @@ module _ {S C : Type 0} (files : S → Folder) (may_leave : S → Folder → Typ
   abbrev readied : State S C
   readied = record { shelf = shelf; clock = clock; chain = chain; owed = store.owed; cache = file }
 
-  pub stands_readied : Stands may_leave log debt chain shelf
-  stands_readied = stands_equal may_leave log debt chain store.chain shelf same (stands_seen files may_leave moment left_since log debt store.chain store.shelf shelf looks rest.stands)
+  pub stands_readied : Stands sees log debt chain shelf
+  stands_readied = stands_equal sees log debt chain store.chain shelf same (stands_seen sees log debt store.chain store.shelf shelf looks rest.stands)
 
-  cache_same : files shelf name.Cache ≡ files store.shelf name.Cache
+  cache_same : sees.files shelf name.Cache ≡ sees.files store.shelf name.Cache
   cache_same = ap (λ (f : Folder). f name.Cache) looks.same
 
-  rest_readied : IsAtRest files may_leave log debt readied
+  rest_readied : IsAtRest sees log debt readied
   rest_readied = record {
     stands = stands_readied;
     fits = rest.fits;
-    cache = subst (IsFileOf (files shelf)) (sym forgot) (forgets (IsFileOf (files shelf)) write.command store.cache tt (file_stays store.cache (files store.shelf) (files shelf) cache_same rest.cache));
+    cache = subst (IsFileOf (sees.files shelf)) (sym forgot) (forgets (IsFileOf (sees.files shelf)) write.command store.cache tt (file_stays store.cache (sees.files store.shelf) (sees.files shelf) cache_same rest.cache));
   }
 
-  since_readied : LeavesOnly moment left_since store.shelf shelf May
+  since_readied : LeavesOnly sees store.shelf shelf May
   since_readied =
-      weaker moment left_since store.shelf shelf (may_leave store.shelf) May looks.since
-      (λ c left. inl (rests_give may_leave log debt store.chain store.shelf c rest.stands left))
+      weaker sees store.shelf shelf (sees.may_leave store.shelf) May looks.since
+      (λ c left. inl (rests_give sees log debt store.chain store.shelf c rest.stands left))
 
-  pub quiet_refused : (e : StoreFault) → CommitsQuietly files may_leave moment left_since log debt write store readied (Err e)
+  pub quiet_refused : (e : StoreFault) → CommitsQuietly sees log debt write store readied (Err e)
   quiet_refused e = record {
     group = λ sizes. tt;
     ok = tt;
@@ -234,7 +235,7 @@ module _ {S C : Type 0} (files : S → Folder) (may_leave : S → Folder → Typ
     checks = tt;
   }
 
-  pub quiet_idle : (A : Type 0) (mark : Mark) (uid : Option ℕ) → DecidesOver {A = A} write.command write.view store.chain (Ok None) → CommitsQuietly files may_leave moment left_since log debt write store readied (Ok (idle_receipt mark uid))
+  pub quiet_idle : (A : Type 0) (mark : Mark) (uid : Option ℕ) → DecidesOver {A = A} write.command write.view store.chain (Ok None) → CommitsQuietly sees log debt write store readied (Ok (idle_receipt mark uid))
   quiet_idle A mark uid decides = record {
     group = λ sizes. ap (λ (rs : List Record). record { records = rs }) (sym (decides log.guid sizes).1);
     ok = λ some. absurd (omega (arith, some));
@@ -242,16 +243,16 @@ module _ {S C : Type 0} (files : S → Folder) (may_leave : S → Folder → Typ
     unwritten = λ is. rest_readied;
     any_moment = since_readied;
     others = λ n unwritten. ap (λ (f : Folder). f n) looks.same;
-    checks = idle_checks write.command write.view store.owed store.chain (files store.shelf) (files shelf) (λ u. no_guid) (decides (λ u. no_guid) (λ u. refl)).1;
+    checks = idle_checks write.command write.view store.owed store.chain (sees.files store.shelf) (sees.files shelf) (λ u. no_guid) (decides (λ u. no_guid) (λ u. refl)).1;
   }
 
-  module _ (plan : Plan) (left : Option Turn) (next : Chain) (new : S) (is_plan : IsPlanOf write.command write.view store.owed chain plan) (plans : PlansWrite log write store.owed chain (files shelf) plan)
-      (made : AreFilesMade store.chain write.received (files store.shelf) write.command plan.steps.files) where
+  module _ (plan : Plan) (left : Option Turn) (next : Chain) (new : S) (is_plan : IsPlanOf write.command write.view store.owed chain plan) (plans : PlansWrite log write store.owed chain (sees.files shelf) plan)
+      (made : AreFilesMade store.chain write.received (sees.files store.shelf) write.command plan.steps.files) where
     abbrev behind_all : State S C
     behind_all = record { shelf = new; clock = clock; chain = next; owed = left; cache = file }
 
     abbrev Stores : Result Receipt StoreFault → Type 0
-    Stores result = WritesStore files may_leave moment left_since log debt write store.owed left plan.text plan.steps chain next result shelf new
+    Stores result = WritesStore sees log debt write store.owed left plan.text plan.steps chain next result shelf new
 
     abbrev turn : Option Turn
     turn = plan.steps.turn
@@ -279,20 +280,20 @@ module _ {S C : Type 0} (files : S → Folder) (may_leave : S → Folder → Typ
               (subst (λ (k : Mailbox). Gives (log_with log write k) with.0 (mark_behind plan.text (ready store.owed turn chain)) c) same.mailbox with.2),
         )))
 
-    since_stored : (result : Result Receipt StoreFault) → Stores result → LeavesOnly moment left_since store.shelf new May
+    since_stored : (result : Result Receipt StoreFault) → Stores result → LeavesOnly sees store.shelf new May
     since_stored result stores =
-        joined moment left_since store.shelf shelf new May since_readied
-        (weaker moment left_since shelf new (MayGiveWrite log debt write store.owed plan.text plan.steps chain) May stores.any_moment gives_commit)
+        joined sees store.shelf shelf new May since_readied
+        (weaker sees shelf new (MayGiveWrite log debt write store.owed plan.text plan.steps chain) May stores.any_moment gives_commit)
 
-    file_stored : (result : Result Receipt StoreFault) → Stores result → IsFileOf (files new) file
+    file_stored : (result : Result Receipt StoreFault) → Stores result → IsFileOf (sees.files new) file
     file_stored result stores =
-        subst (IsFileOf (files new)) (sym forgot) (file_behind log write.received chain.live.mailbox write.command plan.steps.files store.cache (files store.shelf) (files new) plans.is.files
+        subst (IsFileOf (sees.files new)) (sym forgot) (file_behind log write.received chain.live.mailbox write.command plan.steps.files store.cache (sees.files store.shelf) (sees.files new) plans.is.files
         (λ unnamed. stores.written.others name.Cache unnamed (λ of. of) ∙ cache_same) rest.cache)
 
-    others_stored : (result : Result Receipt StoreFault) → Stores result → (n : Name) → (MayWrite write.command m n → ⊥) → files new n ≡ files store.shelf n
+    others_stored : (result : Result Receipt StoreFault) → Stores result → (n : Name) → (MayWrite write.command m n → ⊥) → sees.files new n ≡ sees.files store.shelf n
     others_stored result stores n unwritten =
         stores.written.others n
-        (λ named. unwritten (all_named store.chain write.received (files store.shelf) write.command plan.steps.files made n (subst (λ (k : Mailbox). IsNamed k plan.steps.files n) same.mailbox named)))
+        (λ named. unwritten (all_named store.chain write.received (sees.files store.shelf) write.command plan.steps.files made n (subst (λ (k : Mailbox). IsNamed k plan.steps.files n) same.mailbox named)))
         (λ of. unwritten (of_log write.command m n of)) ∙ ap (λ (f : Folder). f n) looks.same
 
     turns_is : IsSome turn → turns store.owed store.chain ≡ true
@@ -316,7 +317,7 @@ module _ {S C : Type 0} (files : S → Folder) (may_leave : S → Folder → Typ
           subst (λ (t : List ℕ). MayOweGate log write t m now) text_is (subst (λ (k : Mailbox). MayOweGate log write plan.text k now) same.mailbox begins.2),
         ))))
 
-    quiet_failed : (e : StoreFault) → (IsUnwritten (Err e) → ⊥) → Stores (Err e) → CommitsQuietly files may_leave moment left_since log debt write store behind_all (Err e)
+    quiet_failed : (e : StoreFault) → (IsUnwritten (Err e) → ⊥) → Stores (Err e) → CommitsQuietly sees log debt write store behind_all (Err e)
     quiet_failed e disk stores =
         let owes = stores.err in
         record {
@@ -329,11 +330,11 @@ module _ {S C : Type 0} (files : S → Folder) (may_leave : S → Folder → Typ
           checks = tt;
         }
 
-    quiet_done : (receipt : Receipt) (uid : Option ℕ) → HasPlan plan uid receipt → left ≡ None → Stores (Ok receipt) → CommitsQuietly files may_leave moment left_since log debt write store behind_all (Ok receipt)
+    quiet_done : (receipt : Receipt) (uid : Option ℕ) → HasPlan plan uid receipt → left ≡ None → Stores (Ok receipt) → CommitsQuietly sees log debt write store behind_all (Ok receipt)
     quiet_done receipt uid has paid stores = record {
       group = λ sizes. has.group ∙ group_is;
       ok = λ more. record {
-        stands = subst (λ (k : Mailbox). Stands may_leave (log_with log write k) Nothing next new) same.mailbox stores.ok;
+        stands = subst (λ (k : Mailbox). Stands sees (log_with log write k) Nothing next new) same.mailbox stores.ok;
         fits = subst (λ (o : Option Turn). Fits o Nothing) (sym paid) tt;
         cache = file_stored (Ok receipt) stores;
       };
@@ -341,9 +342,9 @@ module _ {S C : Type 0} (files : S → Folder) (may_leave : S → Folder → Typ
       unwritten = λ none. absurd (let more : 1 ≤ length receipt.group.records = subst (λ (g : Group). 1 ≤ length g.records) (sym has.group) is_plan.some in omega (arith, more, ap length none));
       any_moment = since_stored (Ok receipt) stores;
       others = others_stored (Ok receipt) stores;
-      checks = checked store.owed turn chain store.chain same is_plan.steps.due is_plan.turn write.received plan.steps.files (files store.shelf) (files shelf) (files new) write.command looks.same made is_plan.steps.files stores.written.ok stores.written.others;
+      checks = checked store.owed turn chain store.chain same is_plan.steps.due is_plan.turn write.received plan.steps.files (sees.files store.shelf) (sees.files shelf) (sees.files new) write.command looks.same made is_plan.steps.files stores.written.ok stores.written.others;
     }
 
-    pub quiet_written : (uid : Option ℕ) (result : Result Receipt StoreFault) → IfOk result (HasPlan plan uid) → OnOk result (left ≡ None) → IfErr result (λ e. IsUnwritten (Err e) → ⊥) → Stores result → CommitsQuietly files may_leave moment left_since log debt write store behind_all result
+    pub quiet_written : (uid : Option ℕ) (result : Result Receipt StoreFault) → IfOk result (HasPlan plan uid) → OnOk result (left ≡ None) → IfErr result (λ e. IsUnwritten (Err e) → ⊥) → Stores result → CommitsQuietly sees log debt write store behind_all result
     quiet_written uid (Ok receipt) has paid disk stores = quiet_done receipt uid has paid stores
     quiet_written uid (Err e) has paid disk stores = quiet_failed e disk stores

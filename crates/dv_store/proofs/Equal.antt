@@ -12,6 +12,7 @@ use Rattle.dv_rotation.specs.declared.texts.Turn.{Turn}
 use Rattle.dv_rotation.specs.Texts.{IsTurnOf}
 use Rattle.dv_keeping.specs.Debts.{Debt, Stands, owed_of}
 use Rattle.dv_keeping.specs.Repairing.{IsOwing}
+use Rattle.dv_shelf.specs.Sees.{SeesFolder}
 
 -- with other spare rows and hidden names
 abbrev roomy : Chain → ℕ → List (List ℕ) → Chain
@@ -60,8 +61,8 @@ module _ (chain : Chain) (spare : ℕ) (hidden : List (List ℕ)) where
   owes_of (rest.Pending text after) owes = (owes.0, pending_of text after owes.1)
   owes_of (rest.Last log after) owes = owes
 
-  stands_of : {S : Type 0} (may_leave : S → Folder → Type 0) (log : Log) (debt : Debt) (shelf : S) → Stands may_leave log debt other shelf → Stands may_leave log debt chain shelf
-  stands_of may_leave log debt shelf stands =
+  stands_of : {S : Type 0} (sees : SeesFolder S) (log : Log) (debt : Debt) (shelf : S) → Stands sees log debt other shelf → Stands sees log debt chain shelf
+  stands_of sees log debt shelf stands =
       let owed = owed_of chain.live.mailbox debt in
       record {
         named = stands.named;
@@ -79,6 +80,6 @@ pub owing_equal : (one other : Chain) (turn : Option Turn) → AreEqual one othe
 owing_equal one other turn same owing =
     owing_of one other.live.spare other.live.hidden turn (subst (λ (k : Chain). IsOwing k turn) (sym (equal_path one other same)) owing)
 
-pub stands_equal : {S : Type 0} (may_leave : S → Folder → Type 0) (log : Log) (debt : Debt) (one other : Chain) (shelf : S) → AreEqual one other → Stands may_leave log debt other shelf → Stands may_leave log debt one shelf
-stands_equal may_leave log debt one other shelf same stands =
-    stands_of one other.live.spare other.live.hidden may_leave log debt shelf (subst (λ (k : Chain). Stands may_leave log debt k shelf) (sym (equal_path one other same)) stands)
+pub stands_equal : {S : Type 0} (sees : SeesFolder S) (log : Log) (debt : Debt) (one other : Chain) (shelf : S) → AreEqual one other → Stands sees log debt other shelf → Stands sees log debt one shelf
+stands_equal sees log debt one other shelf same stands =
+    stands_of one other.live.spare other.live.hidden sees log debt shelf (subst (λ (k : Chain). Stands sees log debt k shelf) (sym (equal_path one other same)) stands)

@@ -14,6 +14,7 @@ use Rattle.dv_keeping.specs.Keeping.{Keeps}
 use Rattle.dv_lookups.specs.Founds.{mail_of}
 use Rattle.dv_store.specs.Rest.{IsAtRest, RestKnows, log_mail}
 use Rattle.dv_store.specs.States.{State}
+use Rattle.dv_shelf.specs.Sees.{SeesFolder}
 
 -- a mailbox that has a UID has a row of it
 row_of_uid : (m : Mailbox) (uid : ℕ) → has_uid m uid ≡ true → (row : Row) × Contains m.rows row × (row.uid ≡ uid)
@@ -31,14 +32,14 @@ messages_known log m folder keeps uid = by_test (has_uid m uid) refl
         let found = row_of_uid m uid has in
         ap Some (subst (λ (u : ℕ). mail_at folder u ≡ log.mail u) found.2 (keeps.messages found.0 found.1).held)
 
-module _ {S C : Type 0} (files : S → Folder) (may_leave : S → Folder → Type 0) (log : Log) (debt : Debt) (store : State S C) where
-  pub rest_knows : may_leave store.shelf (files store.shelf) → IsAtRest files may_leave log debt store → RestKnows (files store.shelf) log store
+module _ {S C : Type 0} (sees : SeesFolder S) (log : Log) (debt : Debt) (store : State S C) where
+  pub rest_knows : sees.may_leave store.shelf (sees.files store.shelf) → IsAtRest sees log debt store → RestKnows (sees.files store.shelf) log store
   rest_knows left rest =
-      let keeps = rest.stands.keeps (files store.shelf) left in
+      let keeps = rest.stands.keeps (sees.files store.shelf) left in
       record {
         knows = record {
           file = rest.cache;
-          is_true = subst (λ (n : ℕ). HasTrueCache (files store.shelf) n store.chain.live.mailbox) rest.stands.named keeps.cache;
+          is_true = subst (λ (n : ℕ). HasTrueCache (sees.files store.shelf) n store.chain.live.mailbox) rest.stands.named keeps.cache;
         };
-        messages = messages_known log store.chain.live.mailbox (files store.shelf) keeps;
+        messages = messages_known log store.chain.live.mailbox (sees.files store.shelf) keeps;
       }

@@ -16,14 +16,15 @@ use Rattle.dv_plans.specs.declared.fault.StoreFault.TheVariants as fault
 use Rattle.dv_store.specs.Faults.{shelf_told}
 use Rattle.dv_store.specs.Rest.{OnlyReads}
 use Rattle.dv_store.specs.States.{State}
+use Rattle.dv_shelf.specs.Sees.{SeesFolder}
 
 -- what was read of a cache file is that of each folder that has the same
 pub file_stays : (file : CacheFile) (d c : Folder) → c name.Cache ≡ d name.Cache → IsFileOf d file → IsFileOf c file
 file_stays cache.Unread d c same is = is
 file_stays (cache.Read bytes) d c same is = is ∙ sym same
 
-module _ {S : Type 0} (files : S → Folder) (may_leave : S → Folder → Type 0) (moment : S → ℕ) (left_since : S → ℕ → Folder → Type 0) where
-  pub stands_seen : (log : Log) (debt : Debt) (chain : Chain) (old new : S) → OnlyLooks files may_leave moment left_since old new → Stands may_leave log debt chain old → Stands may_leave log debt chain new
+module _ {S : Type 0} (sees : SeesFolder S) where
+  pub stands_seen : (log : Log) (debt : Debt) (chain : Chain) (old new : S) → OnlyLooks sees old new → Stands sees log debt chain old → Stands sees log debt chain new
   stands_seen log debt chain old new looks stands = record {
     named = stands.named;
     written = stands.written;
@@ -32,7 +33,7 @@ module _ {S : Type 0} (files : S → Folder) (may_leave : S → Folder → Type 
     owed = λ c left. stands.owed c (looks.crash c left);
   }
 
-  pub only_reads : {C : Type 0} (store : State S C) (shelf : S) (file : CacheFile) → OnlyLooks files may_leave moment left_since store.shelf shelf → (IsFileOf (files store.shelf) store.cache → IsFileOf (files store.shelf) file) → OnlyReads files may_leave moment left_since store (record store { shelf = shelf; cache = file })
+  pub only_reads : {C : Type 0} (store : State S C) (shelf : S) (file : CacheFile) → OnlyLooks sees store.shelf shelf → (IsFileOf (sees.files store.shelf) store.cache → IsFileOf (sees.files store.shelf) file) → OnlyReads sees store (record store { shelf = shelf; cache = file })
   only_reads store shelf file looks kept = record {
     looks = looks;
     file = here;
@@ -43,8 +44,8 @@ module _ {S : Type 0} (files : S → Folder) (may_leave : S → Folder → Type 
     };
   }
     where
-      here : IsFileOf (files store.shelf) store.cache → IsFileOf (files shelf) file
-      here is = file_stays file (files store.shelf) (files shelf) (ap (λ (f : Folder). f name.Cache) looks.same) (kept is)
+      here : IsFileOf (sees.files store.shelf) store.cache → IsFileOf (sees.files shelf) file
+      here is = file_stays file (sees.files store.shelf) (sees.files shelf) (ap (λ (f : Folder). f name.Cache) looks.same) (kept is)
 
 -- ---- where the disk failed
 

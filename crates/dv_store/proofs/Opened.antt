@@ -10,12 +10,13 @@ use Rattle.dv_chain.specs.Rest as rest
 use Rattle.dv_keeping.specs.Debts.{Nothing, Stands}
 use Rattle.dv_keeping.specs.Keeping.{Keeps}
 use Rattle.dv_keeping.proofs.Kept.{KeepsMessages, beside_file, kept_same, of_log, same_messages}
+use Rattle.dv_shelf.specs.Sees.{SeesFolder}
 
 -- where only the log was replaced, what was kept still is
-module _ {S : Type 0} (files : S → Folder) (may_leave : S → Folder → Type 0) where
-  pub stands_opened : (log : Log) (chain : Chain) (old : Folder) (new : S) (text : List ℕ) → files new ≡ with_file old name.Log (Some text) → IsSettled files may_leave new → Rests may_leave rest.Nothing chain new → log.indexid ≡ chain.indexid → Keeps log chain.live.mailbox old → Stands may_leave log Nothing chain new
+module _ {S : Type 0} (sees : SeesFolder S) where
+  pub stands_opened : (log : Log) (chain : Chain) (old : Folder) (new : S) (text : List ℕ) → sees.files new ≡ with_file old name.Log (Some text) → IsSettled sees new → Rests sees rest.Nothing chain new → log.indexid ≡ chain.indexid → Keeps log chain.live.mailbox old → Stands sees log Nothing chain new
   stands_opened log chain old new text is settled rests named keeps =
-      let beside : KeepsMessages old (files new) = beside_file old (files new) name.Log (Some text) of_log is in
+      let beside : KeepsMessages old (sees.files new) = beside_file old (sees.files new) name.Log (Some text) of_log is in
       record {
         named = named;
         written = tt;

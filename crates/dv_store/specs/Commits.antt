@@ -1,5 +1,4 @@
--- What a command's write does to a store, and its receipt. The records take the members of a
--- shelf's type.
+-- What a command's write does to a store, and its receipt. The records take what a shelf shows.
 use Rattle.std.specs.Prelude.{◌≡◌, ◌⊎◌, ◌↔◌, ◌||◌, ◌+◌, ◌<◌, ◌≤◌, ℕ, true, List, [], ◌∷◌, ◌++◌, flat_map, length, Contains, Option, Some, None, is_some, IsSome, if◌then◌else◌, Result, Ok, Err, IfOk, OnOk, OnErr, ⊤}
 use Rattle.dv_model.specs.declared.types.Command.{Command}
 use Rattle.dv_model.specs.declared.types.Command.TheVariants as command
@@ -45,6 +44,7 @@ use Rattle.dv_store.specs.declared.receipt.Receipt.{Receipt}
 use Rattle.dv_store.specs.Paying.{OwesNothing}
 use Rattle.dv_store.specs.Rest.{IsAtRest}
 use Rattle.dv_store.specs.States.{State}
+use Rattle.dv_shelf.specs.Sees.{SeesFolder}
 
 -- ---- the receipt
 
@@ -254,19 +254,18 @@ module _ {S C : Type 0} where
   -- an error as before, with what is owed then; where nothing was written, as before. A crash at
   -- any moment leaves the mailbox from before or with the group, whole. Files that no step names
   -- stay.
-  pub record CommitsQuietly (files : S → Folder) (may_leave : S → Folder → Type 0) (moment : S → ℕ)
-      (left_since : S → ℕ → Folder → Type 0) (log : Log) (debt : Debt) (write : Write)
+  pub record CommitsQuietly (sees : SeesFolder S) (log : Log) (debt : Debt) (write : Write)
       (old new : State S C) (result : Result Receipt StoreFault) : Type 0 where
     pub group : HasSizes log.guid
         → IfOk result (λ receipt. receipt.group ≡ group_by log write old.chain.live.mailbox)
     pub ok : IfOk result (λ receipt. 1 ≤ length receipt.group.records
-        → IsAtRest files may_leave (log_with log write old.chain.live.mailbox) Nothing new)
+        → IsAtRest sees (log_with log write old.chain.live.mailbox) Nothing new)
     pub err : OnErr result ((now : Debt) × IsLeftAt log debt write old new now
-        × IsAtRest files may_leave log now new)
-    pub unwritten : IsUnwritten result → IsAtRest files may_leave log debt new
-    pub any_moment : LeavesOnly moment left_since old.shelf new.shelf
+        × IsAtRest sees log now new)
+    pub unwritten : IsUnwritten result → IsAtRest sees log debt new
+    pub any_moment : LeavesOnly sees old.shelf new.shelf
         (MayGiveCommit log debt write old.owed old.chain)
     pub others : (n : Name) → (MayWrite write.command old.chain.live.mailbox n → ⊥)
-        → files new.shelf n ≡ files old.shelf n
+        → sees.files new.shelf n ≡ sees.files old.shelf n
     pub checks : OnOk result
-        (Checks write.command old.owed old.chain (files old.shelf) (files new.shelf))
+        (Checks write.command old.owed old.chain (sees.files old.shelf) (sees.files new.shelf))

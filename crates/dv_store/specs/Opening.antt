@@ -1,5 +1,5 @@
--- What an opening answers: a store, or the folder and the clock with a fault. The records take the
--- members of a shelf's type.
+-- What an opening answers: a store, or the folder and the clock with a fault. The records take
+-- what a shelf shows.
 use Rattle.std.specs.Prelude.{◌≡◌, ℕ, Result, Ok, Err, IfOk, OnOk}
 use Rattle.dv_model.specs.declared.types.OpenFault.{OpenFault}
 use Rattle.dv_model.specs.Journals.{Log}
@@ -13,6 +13,7 @@ use Rattle.dv_chain.specs.Rest as chain_rest
 use Rattle.dv_keeping.specs.Debts.{Nothing, Stands}
 use Rattle.dv_keeping.specs.Keeping.{Keeps}
 use Rattle.dv_store.specs.States.{State, fresh_state}
+use Rattle.dv_shelf.specs.Sees.{SeesFolder}
 
 module _ {S C : Type 0} where
   -- ---- the parts of an answer
@@ -48,12 +49,11 @@ module _ {S C : Type 0} where
   -- From a settled folder: a crash at any moment leaves one as the step says. Behind Ok it is
   -- settled again, and the store is at rest and owes nothing, with each log of its index whose
   -- messages the folder had.
-  pub record OpensQuietly (files : S → Folder) (may_leave : S → Folder → Type 0) (moment : S → ℕ)
-      (left_since : S → ℕ → Folder → Type 0) (step : Folder → Folder → Type 0) (old : S)
+  pub record OpensQuietly (sees : SeesFolder S) (step : Folder → Folder → Type 0) (old : S)
       (result : Result (State S C) (S × C × OpenFault)) : Type 0 where
-    pub since : LeavesOnly moment left_since old (shelf_behind result) (step (files old))
-    pub settled : OnOk result (IsSettled files may_leave (shelf_behind result))
-    pub rests : IfOk result (λ store. Rests may_leave chain_rest.Nothing store.chain store.shelf)
+    pub since : LeavesOnly sees old (shelf_behind result) (step (sees.files old))
+    pub settled : OnOk result (IsSettled sees (shelf_behind result))
+    pub rests : IfOk result (λ store. Rests sees chain_rest.Nothing store.chain store.shelf)
     pub stands : IfOk result (λ store. (log : Log) → log.indexid ≡ store.chain.indexid
-        → Keeps log store.chain.live.mailbox (files old)
-        → Stands may_leave log Nothing store.chain store.shelf)
+        → Keeps log store.chain.live.mailbox (sees.files old)
+        → Stands sees log Nothing store.chain store.shelf)

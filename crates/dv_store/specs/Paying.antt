@@ -1,5 +1,5 @@
--- What a sweep and a checkpoint do to a store: what is owed is repaired first. The records take the
--- members of a shelf's type.
+-- What a sweep and a checkpoint do to a store: what is owed is repaired first. The records take
+-- what a shelf shows.
 use Rattle.std.specs.Prelude.{◌≡◌, ◌⊎◌, ℕ, List, Contains, Some, None, Result, OnOk, OnErr}
 use Rattle.dv_model.specs.Journals.{Log}
 use Rattle.dv_shelf.specs.declared.shelf.Name.TheVariants as name
@@ -12,6 +12,7 @@ use Rattle.dv_keeping.specs.Debts.{Debt, MayGive, Nothing}
 use Rattle.dv_writes.specs.Ways.{repaired}
 use Rattle.dv_store.specs.Rest.{IsAtRest}
 use Rattle.dv_store.specs.States.{State}
+use Rattle.dv_shelf.specs.Sees.{SeesFolder}
 
 -- ---- the files
 
@@ -50,19 +51,19 @@ module _ {S C : Type 0} where
   abbrev pub IsUnpaid : State S C → State S C → Type 0
   IsUnpaid old new = (new.chain ≡ old.chain) × (new.owed ≡ old.owed)
 
-  -- Behind Ok what was owed is repaired, behind an error it is or isn't; else only the shelf changes.
+  -- Behind Ok what was owed is repaired, behind an error it is or isn't; else only the shelf
+  -- changes.
   pub record PaysDebts (old new : State S C) {T E : Type 0} (result : Result T E) : Type 0 where
     pub ok : OnOk result (IsRepaired old new)
     pub err : OnErr result (IsUnpaid old new ⊎ IsRepaired old new)
     pub clock : new.clock ≡ old.clock
     pub cache : new.cache ≡ old.cache
 
-  -- From rest to rest: behind Ok nothing is owed, behind an error nothing or what was. A crash at any
-  -- moment leaves a folder that gives the mailbox, or that with what was owed.
-  pub record PaysQuietly (files : S → Folder) (may_leave : S → Folder → Type 0) (moment : S → ℕ)
-      (left_since : S → ℕ → Folder → Type 0) (log : Log) (debt : Debt) (old new : State S C)
+  -- From rest to rest: behind Ok nothing is owed, behind an error nothing or what was. A crash at
+  -- any moment leaves a folder that gives the mailbox, or that with what was owed.
+  pub record PaysQuietly (sees : SeesFolder S) (log : Log) (debt : Debt) (old new : State S C)
       {T E : Type 0} (result : Result T E) : Type 0 where
-    pub any_moment : LeavesOnly moment left_since old.shelf new.shelf (MayGive log debt old.chain)
-    pub ok : OnOk result (IsAtRest files may_leave log Nothing new)
+    pub any_moment : LeavesOnly sees old.shelf new.shelf (MayGive log debt old.chain)
+    pub ok : OnOk result (IsAtRest sees log Nothing new)
     pub err : OnErr result
-        (IsAtRest files may_leave log debt new ⊎ IsAtRest files may_leave log Nothing new)
+        (IsAtRest sees log debt new ⊎ IsAtRest sees log Nothing new)

@@ -1,4 +1,4 @@
--- A store at rest, and one that was only looked at. The records take the members of a shelf's type.
+-- A store at rest, and one that was only looked at. The records take what a shelf shows.
 use Rattle.std.specs.Prelude.{◌≡◌, ℕ, Option, Some, None, if◌then◌else◌}
 use Rattle.dv_model.specs.declared.types.Mailbox.{Mailbox}
 use Rattle.dv_model.specs.Journals.{Log, Mail}
@@ -10,19 +10,20 @@ use Rattle.dv_keeping.specs.Debts.{Debt, Fits, Stands}
 use Rattle.dv_lookups.specs.Founds.{mail_of}
 use Rattle.dv_lookups.specs.Kept.{IsFileOf}
 use Rattle.dv_store.specs.States.{State}
+use Rattle.dv_shelf.specs.Sees.{SeesFolder}
 
 -- the log's message of a UID that the mailbox has
 abbrev pub log_mail : Log → Mailbox → ℕ → Option Mail
 log_mail log m uid = if has_uid m uid then Some (log.mail uid) else None
 
 module _ {S C : Type 0} where
-  -- A store is at rest with a log: its chain stands with what is owed, which its turn fits, and what
-  -- it read of the cache file is that file.
-  pub record IsAtRest (files : S → Folder) (may_leave : S → Folder → Type 0) (log : Log) (debt : Debt)
+  -- A store is at rest with a log: its chain stands with what is owed, which its turn fits, and
+  -- what it read of the cache file is that file.
+  pub record IsAtRest (sees : SeesFolder S) (log : Log) (debt : Debt)
       (store : State S C) : Type 0 where
-    pub stands : Stands may_leave log debt store.chain store.shelf
+    pub stands : Stands sees log debt store.chain store.shelf
     pub fits : Fits store.owed debt
-    pub cache : IsFileOf (files store.shelf) store.cache
+    pub cache : IsFileOf (sees.files store.shelf) store.cache
 
   -- nothing but the shelf and what is read of the cache file changes
   pub record IsLookedAt (old new : State S C) : Type 0 where
@@ -31,12 +32,11 @@ module _ {S C : Type 0} where
     pub owed : new.owed ≡ old.owed
 
   -- The shelf is only read, and a store at rest stays so.
-  pub record OnlyReads (files : S → Folder) (may_leave : S → Folder → Type 0) (moment : S → ℕ)
-      (left_since : S → ℕ → Folder → Type 0) (old new : State S C) : Type 0 where
-    pub looks : OnlyLooks files may_leave moment left_since old.shelf new.shelf
-    pub file : IsFileOf (files old.shelf) old.cache → IsFileOf (files new.shelf) new.cache
-    pub rests : (log : Log) (debt : Debt) → IsAtRest files may_leave log debt old
-        → IsAtRest files may_leave log debt new
+  pub record OnlyReads (sees : SeesFolder S) (old new : State S C) : Type 0 where
+    pub looks : OnlyLooks sees old.shelf new.shelf
+    pub file : IsFileOf (sees.files old.shelf) old.cache → IsFileOf (sees.files new.shelf) new.cache
+    pub rests : (log : Log) (debt : Debt) → IsAtRest sees log debt old
+        → IsAtRest sees log debt new
 
   -- the folder's cache file is true of the mailbox, and what was read of it is that file
   pub record KnowsCache (folder : Folder) (store : State S C) : Type 0 where

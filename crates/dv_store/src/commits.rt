@@ -96,15 +96,16 @@ fn write_plan<S: Shelf>(
     ensures value { CarriesOut owed.old owed.new plan.text plan.steps chain.old chain.new
         (carried result) }
     // What the folder gives and the files, at any moment and afterwards; from rest to rest.
-    ensures gives { S.tells → (log : Log) (debt : Debt) (write : Write) → Fits owed.old debt →
-        Stands S.may_leave log debt chain.old shelf.old →
-        IsWriteOf log write owed.old chain.old (S.files shelf.old) plan.text plan.steps →
-        WritesStore S.files S.may_leave S.moment S.left_since log debt write owed.old owed.new
+    ensures gives { S.sees.tells → (log : Log) (debt : Debt) (write : Write) → Fits owed.old debt →
+        Stands S.sees log debt chain.old shelf.old →
+        IsWriteOf log write owed.old chain.old (S.sees.files shelf.old) plan.text plan.steps →
+        WritesStore S.sees log debt write owed.old owed.new
         plan.text plan.steps chain.old chain.new result shelf.old shelf.new }
     // No message file is read; an error is a failure of the disk, and has its cause.
-    ensures err { IfErr result (λ e. e ≡ fault.Disk (S.fault_count shelf.new)) }
-    ensures mail_reads { S.mail_reads shelf.new ≡ S.mail_reads shelf.old }
-    ensures cause { HasStoreCause (S.fault_count shelf.old) (S.fault_count shelf.new) result }
+    ensures err { IfErr result (λ e. e ≡ fault.Disk (S.sees.fault_count shelf.new)) }
+    ensures mail_reads { S.sees.mail_reads shelf.new ≡ S.sees.mail_reads shelf.old }
+    ensures cause { HasStoreCause (S.sees.fault_count shelf.old) (S.sees.fault_count shelf.new)
+        result }
 {
     let Plan { group, text, steps } = plan;
     match carry_out(chain, shelf, owed, &text, steps) {
@@ -141,24 +142,25 @@ impl<S: Shelf, C: Clock> Store<S, C> {
         ensures idle { IsIdle result →
             (self.new.shelf ≡ self.old.shelf) × (self.new.clock ≡ self.old.clock) }
         // Nor is anything written without memory.
-        ensures looks { S.tells → IsUnwritten result →
-            OnlyLooks S.files S.may_leave S.moment S.left_since self.old.shelf self.new.shelf }
+        ensures looks { S.sees.tells → IsUnwritten result →
+            OnlyLooks S.sees self.old.shelf self.new.shelf }
         // What the folder gives, at any moment and afterwards; from rest to rest.
-        ensures gives { S.tells → C.tells → (log : Log) (debt : Debt) (author : ℕ) →
-            IsAtRest S.files S.may_leave log debt self.old →
-            CommitsQuietly S.files S.may_leave S.moment S.left_since log debt
-            (write_of author c.now view.now self.old (C.upcoming self.old.clock))
+        ensures gives { S.sees.tells → C.sees.tells → (log : Log) (debt : Debt) (author : ℕ) →
+            IsAtRest S.sees log debt self.old →
+            CommitsQuietly S.sees log debt
+            (write_of author c.now view.now self.old (C.sees.upcoming self.old.clock))
             self.old self.new result }
         // The readings of the clock; the message files that are read.
-        ensures clock { C.tells → TakesReadings (readings_of c.now self.old.owed self.old.chain)
-            (C.upcoming self.old.clock) (C.upcoming self.new.clock) result }
+        ensures clock { C.sees.tells →
+            TakesReadings (readings_of c.now self.old.owed self.old.chain)
+            (C.sees.upcoming self.old.clock) (C.sees.upcoming self.new.clock) result }
         ensures mail_reads { CountsMails
             (reads_of c.now self.old.chain.live.mailbox
             (changed_uids c.now view.now self.old.chain.live.mailbox))
-            (S.mail_reads self.old.shelf) (S.mail_reads self.new.shelf) result }
+            (S.sees.mail_reads self.old.shelf) (S.sees.mail_reads self.new.shelf) result }
         // A fault of the disk comes only where the count of faults rose.
-        ensures cause { HasStoreCause (S.fault_count self.old.shelf)
-            (S.fault_count self.new.shelf) result }
+        ensures cause { HasStoreCause (S.sees.fault_count self.old.shelf)
+            (S.sees.fault_count self.new.shelf) result }
     {
         forget(c, &mut self.cache);
         let uid = appended_uid(c, &self.chain.live);

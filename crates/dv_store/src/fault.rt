@@ -9,14 +9,14 @@ use dv_shelf::{Shelf, ShelfFault};
 
 /// A failure of the disk, with the shelf's count of faults.
 pub(crate) fn disk<S: Shelf>(shelf: &S) -> StoreFault
-    ensures { result ≡ fault.Disk (S.fault_count shelf.now) }
+    ensures { result ≡ fault.Disk (S.sees.fault_count shelf.now) }
 {
     StoreFault::Disk(shelf.faults())
 }
 
 /// What a shelf answers, with its count of faults.
 pub(crate) fn told<S: Shelf>(shelf: &S, fault: ShelfFault) -> StoreFault
-    ensures value { result ≡ shelf_told (S.fault_count shelf.now) fault }
+    ensures value { result ≡ shelf_told (S.sees.fault_count shelf.now) fault }
     ensures failure { IsFailure result }
 {
     match fault {

@@ -29,27 +29,28 @@ impl<S: Shelf, C> Store<S, C> {
     /// At rest the cache file is true, and what is looked up is of the log's messages. Nothing is
     /// computed.
     pub fn knows(&self)
-        ensures { S.tells → (log : Log) (debt : Debt) →
-            IsAtRest S.files S.may_leave log debt self.now →
-            RestKnows (S.files self.now.shelf) log self.now }
+        ensures { S.sees.tells → (log : Log) (debt : Debt) →
+            IsAtRest S.sees log debt self.now →
+            RestKnows (S.sees.files self.now.shelf) log self.now }
     {}
 
     /// The message of a UID: `Gone` exactly where the mailbox has no such row, and `Damaged`
     /// exactly where its message file is missing or not of the format. The file is read once.
     pub fn body(&mut self, uid: u32) -> Result<BodyFound, StoreFault>
         // The message, as its file has it.
-        ensures found { S.tells →
-            IfOk result (IsBody (S.files self.old.shelf) self.old.chain.live.mailbox uid) }
+        ensures found { S.sees.tells →
+            IfOk result (IsBody (S.sees.files self.old.shelf) self.old.chain.live.mailbox uid) }
         // Nothing is changed.
         ensures stays { IsLookedAt self.old self.new }
-        ensures reads { S.tells →
-            OnlyReads S.files S.may_leave S.moment S.left_since self.old self.new }
+        ensures reads { S.sees.tells →
+            OnlyReads S.sees self.old self.new }
         // One message file is read at most; a fault of the disk has its cause.
-        ensures most { CountsUpTo 1 (S.mail_reads self.old.shelf) (S.mail_reads self.new.shelf) }
+        ensures most { CountsUpTo 1 (S.sees.mail_reads self.old.shelf)
+            (S.sees.mail_reads self.new.shelf) }
         ensures gone { has_uid self.old.chain.live.mailbox uid ≡ false →
             self.new.shelf ≡ self.old.shelf }
-        ensures cause { HasStoreCause (S.fault_count self.old.shelf)
-            (S.fault_count self.new.shelf) result }
+        ensures cause { HasStoreCause (S.sees.fault_count self.old.shelf)
+            (S.sees.fault_count self.new.shelf) result }
     {
         match body(self.alloc, &mut self.shelf, &self.chain.live, uid) {
             Ok(found) => Ok(found),
@@ -62,25 +63,25 @@ impl<S: Shelf, C> Store<S, C> {
     /// costs no read, and else the message file is read once.
     pub fn field(&mut self, uid: u32, name: &[u8]) -> Result<FieldFound, StoreFault>
         // The field is that of the message file, where the cache file is true.
-        ensures found { S.tells → IsFileOf (S.files self.old.shelf) self.old.cache →
-            HasTrueCache (S.files self.old.shelf) self.old.chain.indexid
+        ensures found { S.sees.tells → IsFileOf (S.sees.files self.old.shelf) self.old.cache →
+            HasTrueCache (S.sees.files self.old.shelf) self.old.chain.indexid
             self.old.chain.live.mailbox →
             IfOk result (λ found. found ≡ field_found name.now
-            (mail_of (S.files self.old.shelf) self.old.chain.live.mailbox uid)) }
+            (mail_of (S.sees.files self.old.shelf) self.old.chain.live.mailbox uid)) }
         // Nothing is changed.
         ensures stays { IsLookedAt self.old self.new }
-        ensures reads { S.tells →
-            OnlyReads S.files S.may_leave S.moment S.left_since self.old self.new }
+        ensures reads { S.sees.tells →
+            OnlyReads S.sees self.old self.new }
         // The shelf is called no more than is due; a fault of the disk has its cause.
-        ensures economy { Economy S.mail_reads self.old.chain.live.mailbox uid (is_kept name.now)
+        ensures economy { Economy S.sees self.old.chain.live.mailbox uid (is_kept name.now)
             self.old.cache self.new.cache self.old.shelf self.new.shelf }
-        ensures spares { S.tells → IsFileOf (S.files self.old.shelf) self.old.cache →
+        ensures spares { S.sees.tells → IsFileOf (S.sees.files self.old.shelf) self.old.cache →
             is_kept name.now ≡ true →
-            IsSpared (S.files self.old.shelf) self.old.chain.indexid
+            IsSpared (S.sees.files self.old.shelf) self.old.chain.indexid
             self.old.chain.live.mailbox uid →
-            Spares S.mail_reads self.old.cache self.old.shelf self.new.shelf }
-        ensures cause { HasStoreCause (S.fault_count self.old.shelf)
-            (S.fault_count self.new.shelf) result }
+            Spares S.sees self.old.cache self.old.shelf self.new.shelf }
+        ensures cause { HasStoreCause (S.sees.fault_count self.old.shelf)
+            (S.sees.fault_count self.new.shelf) result }
     {
         match self
             .cache
@@ -96,24 +97,24 @@ impl<S: Shelf, C> Store<S, C> {
     /// file is read once.
     pub fn sizes(&mut self, uid: u32) -> Result<SizesFound, StoreFault>
         // The sizes are those of the message in its file, where the cache file is true.
-        ensures found { S.tells → IsFileOf (S.files self.old.shelf) self.old.cache →
-            HasTrueCache (S.files self.old.shelf) self.old.chain.indexid
+        ensures found { S.sees.tells → IsFileOf (S.sees.files self.old.shelf) self.old.cache →
+            HasTrueCache (S.sees.files self.old.shelf) self.old.chain.indexid
             self.old.chain.live.mailbox →
             IfOk result (λ found. found ≡ sizes_found
-            (mail_of (S.files self.old.shelf) self.old.chain.live.mailbox uid)) }
+            (mail_of (S.sees.files self.old.shelf) self.old.chain.live.mailbox uid)) }
         // Nothing is changed.
         ensures stays { IsLookedAt self.old self.new }
-        ensures reads { S.tells →
-            OnlyReads S.files S.may_leave S.moment S.left_since self.old self.new }
+        ensures reads { S.sees.tells →
+            OnlyReads S.sees self.old self.new }
         // The shelf is called no more than is due; a fault of the disk has its cause.
-        ensures economy { Economy S.mail_reads self.old.chain.live.mailbox uid true
+        ensures economy { Economy S.sees self.old.chain.live.mailbox uid true
             self.old.cache self.new.cache self.old.shelf self.new.shelf }
-        ensures spares { S.tells → IsFileOf (S.files self.old.shelf) self.old.cache →
-            IsSpared (S.files self.old.shelf) self.old.chain.indexid
+        ensures spares { S.sees.tells → IsFileOf (S.sees.files self.old.shelf) self.old.cache →
+            IsSpared (S.sees.files self.old.shelf) self.old.chain.indexid
             self.old.chain.live.mailbox uid →
-            Spares S.mail_reads self.old.cache self.old.shelf self.new.shelf }
-        ensures cause { HasStoreCause (S.fault_count self.old.shelf)
-            (S.fault_count self.new.shelf) result }
+            Spares S.sees self.old.cache self.old.shelf self.new.shelf }
+        ensures cause { HasStoreCause (S.sees.fault_count self.old.shelf)
+            (S.sees.fault_count self.new.shelf) result }
     {
         match self
             .cache
@@ -129,27 +130,27 @@ impl<S: Shelf, C> Store<S, C> {
     /// costs no read, and else its message file is read once.
     pub fn facts(&mut self, asked: &Asked, uid: u32) -> Result<FactsFound, StoreFault>
         // The facts are those of the message file, where the cache file is true.
-        ensures found { S.tells → IsFileOf (S.files self.old.shelf) self.old.cache →
-            HasTrueCache (S.files self.old.shelf) self.old.chain.indexid
+        ensures found { S.sees.tells → IsFileOf (S.sees.files self.old.shelf) self.old.cache →
+            HasTrueCache (S.sees.files self.old.shelf) self.old.chain.indexid
             self.old.chain.live.mailbox →
             IfOk result (λ found. found ≡ facts_found asked.now uid
-            (mail_of (S.files self.old.shelf) self.old.chain.live.mailbox uid)) }
+            (mail_of (S.sees.files self.old.shelf) self.old.chain.live.mailbox uid)) }
         ensures named { IfOk result (IsNamed uid) }
         // Nothing is changed.
         ensures stays { IsLookedAt self.old self.new }
-        ensures reads { S.tells →
-            OnlyReads S.files S.may_leave S.moment S.left_since self.old self.new }
+        ensures reads { S.sees.tells →
+            OnlyReads S.sees self.old self.new }
         // The shelf is called no more than is due; a fault of the disk has its cause.
-        ensures economy { Economy S.mail_reads self.old.chain.live.mailbox uid
+        ensures economy { Economy S.sees self.old.chain.live.mailbox uid
             (can_stand asked.now)
             self.old.cache self.new.cache self.old.shelf self.new.shelf }
-        ensures spares { S.tells → IsFileOf (S.files self.old.shelf) self.old.cache →
+        ensures spares { S.sees.tells → IsFileOf (S.sees.files self.old.shelf) self.old.cache →
             can_stand asked.now ≡ true →
-            IsSpared (S.files self.old.shelf) self.old.chain.indexid
+            IsSpared (S.sees.files self.old.shelf) self.old.chain.indexid
             self.old.chain.live.mailbox uid →
-            Spares S.mail_reads self.old.cache self.old.shelf self.new.shelf }
-        ensures cause { HasStoreCause (S.fault_count self.old.shelf)
-            (S.fault_count self.new.shelf) result }
+            Spares S.sees self.old.cache self.old.shelf self.new.shelf }
+        ensures cause { HasStoreCause (S.sees.fault_count self.old.shelf)
+            (S.sees.fault_count self.new.shelf) result }
     {
         match self
             .cache
@@ -173,23 +174,23 @@ impl<S: Shelf, C> Store<S, C> {
         requires shallow { IsShallow c.now }
         requires reads { reads_mail c.now ≡ true }
         // They are those of the messages in their files, where the cache file is true.
-        ensures found { S.tells → IsFileOf (S.files self.old.shelf) self.old.cache →
-            HasTrueCache (S.files self.old.shelf) self.old.chain.indexid
+        ensures found { S.sees.tells → IsFileOf (S.sees.files self.old.shelf) self.old.cache →
+            HasTrueCache (S.sees.files self.old.shelf) self.old.chain.indexid
             self.old.chain.live.mailbox →
             (mail : ℕ → Message) →
-            AreMessages (S.files self.old.shelf) self.old.chain.live.mailbox mail →
+            AreMessages (S.sees.files self.old.shelf) self.old.chain.live.mailbox mail →
             IfOk result (IsRead R.with lines.old lines.new mail c.now view.now
             self.old.chain.live.mailbox) }
         // What was added before the disk failed is some lines.
-        ensures failed { S.tells → IsFileOf (S.files self.old.shelf) self.old.cache →
-            HasTrueCache (S.files self.old.shelf) self.old.chain.indexid
+        ensures failed { S.sees.tells → IsFileOf (S.sees.files self.old.shelf) self.old.cache →
+            HasTrueCache (S.sees.files self.old.shelf) self.old.chain.indexid
             self.old.chain.live.mailbox →
             (faults : ℕ) → result ≡ Err (fault.Disk faults) →
             (told : Listed Reply) × (lines.new ≡ R.with lines.old told) }
         // Nothing is changed; the cache file isn't read again, or without need.
         ensures stays { IsLookedAt self.old self.new }
-        ensures reads { S.tells →
-            OnlyReads S.files S.may_leave S.moment S.left_since self.old self.new }
+        ensures reads { S.sees.tells →
+            OnlyReads S.sees self.old self.new }
         ensures again { is_read self.old.cache ≡ true → self.new.cache ≡ self.old.cache }
         ensures aside { CannotStand c.now → self.new.cache ≡ self.old.cache }
         // Want of memory and a fault of the disk are the only errors.
@@ -198,14 +199,14 @@ impl<S: Shelf, C> Store<S, C> {
         // is found in the cache file; a fault of the disk has its cause.
         ensures most { CountsUpTo (count_by (has_uid self.old.chain.live.mailbox)
             (uids_read c.now view.now))
-            (S.mail_reads self.old.shelf) (S.mail_reads self.new.shelf) }
-        ensures spares { S.tells → IsFileOf (S.files self.old.shelf) self.old.cache →
+            (S.sees.mail_reads self.old.shelf) (S.sees.mail_reads self.new.shelf) }
+        ensures spares { S.sees.tells → IsFileOf (S.sees.files self.old.shelf) self.old.cache →
             CanStand c.now →
-            SparesEach (S.files self.old.shelf) self.old.chain.indexid
+            SparesEach (S.sees.files self.old.shelf) self.old.chain.indexid
             self.old.chain.live.mailbox (uids_read c.now view.now)
-            (S.mail_reads self.old.shelf) (S.mail_reads self.new.shelf) }
-        ensures cause { HasStoreCause (S.fault_count self.old.shelf)
-            (S.fault_count self.new.shelf) result }
+            (S.sees.mail_reads self.old.shelf) (S.sees.mail_reads self.new.shelf) }
+        ensures cause { HasStoreCause (S.sees.fault_count self.old.shelf)
+            (S.sees.fault_count self.new.shelf) result }
     {
         match self
             .cache

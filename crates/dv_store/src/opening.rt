@@ -22,17 +22,20 @@ impl<S: Shelf, C: Clock> Store<S, C> {
     /// its end is closed by one replace. The folder and the clock are handed back with a fault.
     pub fn open(alloc: Global, mut shelf: S, clock: C) -> Result<Store<S, C>, (S, C, OpenFault)>
         // What is answered is found.
-        ensures opens { S.tells → Opens (S.files shelf) result }
+        ensures opens { S.sees.tells → Opens (S.sees.files shelf) result }
         ensures fresh { IfOk result IsFresh }
         // What it leaves of the files, and what a crash leaves; from rest to rest.
-        ensures files { S.tells →
-            LeavesFolder (S.files shelf) (S.files (shelf_behind result)) (answered result) }
-        ensures quiet { S.tells → IsSettled S.files S.may_leave shelf →
-            OpensQuietly S.files S.may_leave S.moment S.left_since IsQuiet shelf result }
+        ensures files { S.sees.tells →
+            LeavesFolder (S.sees.files shelf) (S.sees.files (shelf_behind result))
+            (answered result) }
+        ensures quiet { S.sees.tells → IsSettled S.sees shelf →
+            OpensQuietly S.sees IsQuiet shelf result }
         // The clock isn't read, and no message file is; a fault of the disk has its cause.
         ensures clock { clock_behind result ≡ clock }
-        ensures mail_reads { S.mail_reads (shelf_behind result) ≡ counted (S.mail_reads shelf) 0 }
-        ensures cause { HasCause (S.fault_count shelf) (S.fault_count (shelf_behind result))
+        ensures mail_reads { S.sees.mail_reads (shelf_behind result)
+            ≡ counted (S.sees.mail_reads shelf) 0 }
+        ensures cause { HasCause (S.sees.fault_count shelf)
+            (S.sees.fault_count (shelf_behind result))
             (answered result) }
     {
         match dv_chain::open(alloc, &mut shelf) {
@@ -51,25 +54,27 @@ impl<S: Shelf, C: Clock> Store<S, C> {
         mut clock: C,
     ) -> Result<Store<S, C>, (S, C, OpenFault)>
         // The mailbox is a new one, of the clock's reading, and it is found.
-        ensures first { C.tells → IfOk result (λ store.
-            IsFirst (stamp_of (C.upcoming clock 0)) store.chain) }
-        ensures opens { S.tells → HasNone (S.files shelf) → IfOk result (λ store.
-            IsFound (S.files store.shelf) (found_of store.chain)
-            × IsChainOf (S.files store.shelf) store.chain) }
+        ensures first { C.sees.tells → IfOk result (λ store.
+            IsFirst (stamp_of (C.sees.upcoming clock 0)) store.chain) }
+        ensures opens { S.sees.tells → HasNone (S.sees.files shelf) → IfOk result (λ store.
+            IsFound (S.sees.files store.shelf) (found_of store.chain)
+            × IsChainOf (S.sees.files store.shelf) store.chain) }
         ensures fresh { IfOk result IsFresh }
         // What it leaves of the files, and what a crash leaves; from rest to rest.
-        ensures files { S.tells → C.tells → LeavesCreated (S.files shelf) (C.upcoming clock 0)
-            (S.files (shelf_behind result)) (answered result) }
-        ensures quiet { S.tells → C.tells → HasNone (S.files shelf) →
-            IsSettled S.files S.may_leave shelf →
-            OpensQuietly S.files S.may_leave S.moment S.left_since
-            (λ old. IsOldOrCreated old (C.upcoming clock 0)) shelf result }
+        ensures files { S.sees.tells → C.sees.tells → LeavesCreated (S.sees.files shelf)
+            (C.sees.upcoming clock 0)
+            (S.sees.files (shelf_behind result)) (answered result) }
+        ensures quiet { S.sees.tells → C.sees.tells → HasNone (S.sees.files shelf) →
+            IsSettled S.sees shelf →
+            OpensQuietly S.sees
+            (λ old. IsOldOrCreated old (C.sees.upcoming clock 0)) shelf result }
         // The clock is read once, and no message file is; a fault of the disk has its cause.
-        ensures clock { C.tells →
-            C.upcoming (clock_behind result) ≡ behind (C.upcoming clock) 1 }
+        ensures clock { C.sees.tells →
+            C.sees.upcoming (clock_behind result) ≡ behind (C.sees.upcoming clock) 1 }
         ensures err { IfErr (answered result) IsOutside }
-        ensures mail_reads { S.mail_reads (shelf_behind result) ≡ S.mail_reads shelf }
-        ensures cause { HasCause (S.fault_count shelf) (S.fault_count (shelf_behind result))
+        ensures mail_reads { S.sees.mail_reads (shelf_behind result) ≡ S.sees.mail_reads shelf }
+        ensures cause { HasCause (S.sees.fault_count shelf)
+            (S.sees.fault_count (shelf_behind result))
             (answered result) }
     {
         let now = clock.now();

@@ -23,19 +23,19 @@ impl<S: Shelf, C> Store<S, C> {
     pub fn plan(&mut self, c: &Command, view: &View) -> Result<Group, StoreFault>
         // The command's group, over any shelf with some GUIDs.
         ensures group { IfOk result (IsGroupOf c.now view.now self.old.chain.live.mailbox) }
-        ensures read { S.tells → IfOk result (λ group. group
-            ≡ group_over c.now view.now self.old.chain (guid_at (S.files self.old.shelf))) }
+        ensures read { S.sees.tells → IfOk result (λ group. group
+            ≡ group_over c.now view.now self.old.chain (guid_at (S.sees.files self.old.shelf))) }
         // Nothing is changed.
         ensures stays { IsLookedAt self.old self.new }
         ensures cache { self.new.cache ≡ self.old.cache }
-        ensures reads { S.tells →
-            OnlyReads S.files S.may_leave S.moment S.left_since self.old self.new }
+        ensures reads { S.sees.tells →
+            OnlyReads S.sees self.old self.new }
         // Each of these message files is read once; a fault of the disk has its cause.
         ensures mail_reads { CountsMails
             (length (expunged_uids c.now view.now self.old.chain.live.mailbox))
-            (S.mail_reads self.old.shelf) (S.mail_reads self.new.shelf) result }
-        ensures cause { HasStoreCause (S.fault_count self.old.shelf)
-            (S.fault_count self.new.shelf) result }
+            (S.sees.mail_reads self.old.shelf) (S.sees.mail_reads self.new.shelf) result }
+        ensures cause { HasStoreCause (S.sees.fault_count self.old.shelf)
+            (S.sees.fault_count self.new.shelf) result }
     {
         plan_group(self.alloc, c, view, &self.chain.live, &mut self.shelf)
     }

@@ -47,14 +47,15 @@ fn place_behind(chain: &Chain, owed: &Option<Turn>) -> Mark
 /// Replaces the index by a chain's snapshot. What the folder gives stays, at any moment.
 fn put_snapshot<S: Shelf>(chain: &Chain, shelf: &mut S, text: &Bytes) -> Result<(), Failed>
     requires { IsSnapshotOf chain.now text.now }
-    ensures leaves { S.tells → Leaves S.files S.may_leave S.moment S.left_since
+    ensures leaves { S.sees.tells → Leaves S.sees
         (Puts name.Index text.now result) (IsPut name.Index text.now) shelf.old shelf.new }
-    ensures cache { S.tells → S.files shelf.new name.Cache ≡ S.files shelf.old name.Cache }
-    ensures quiet { S.tells → (log : Log) →
-        Stands S.may_leave log Nothing chain.now shelf.old →
-        IsQuiet S.may_leave S.moment S.left_since log chain.now shelf.old shelf.new }
-    ensures mail_reads { S.mail_reads shelf.new ≡ S.mail_reads shelf.old }
-    ensures cause { HasCause (S.fault_count shelf.old) (S.fault_count shelf.new) result }
+    ensures cache { S.sees.tells → S.sees.files shelf.new name.Cache
+        ≡ S.sees.files shelf.old name.Cache }
+    ensures quiet { S.sees.tells → (log : Log) →
+        Stands S.sees log Nothing chain.now shelf.old →
+        IsQuiet S.sees log chain.now shelf.old shelf.new }
+    ensures mail_reads { S.sees.mail_reads shelf.new ≡ S.sees.mail_reads shelf.old }
+    ensures cause { HasCause (S.sees.fault_count shelf.old) (S.sees.fault_count shelf.new) result }
 {
     checkpoint(chain, shelf, text)
 }
@@ -69,20 +70,20 @@ impl<S: Shelf, C> Store<S, C> {
         ensures value { PaysDebts self.old self.new result }
         // Behind Ok the files are gone. All others stay, where nothing was owed those of the log
         // too.
-        ensures mails { S.tells → SweepsMails uids.now result
-            (S.files self.old.shelf) (S.files self.new.shelf) }
-        ensures log { S.tells → OwesNothing self.old →
-            KeepsLog (S.files self.old.shelf) (S.files self.new.shelf) }
+        ensures mails { S.sees.tells → SweepsMails uids.now result
+            (S.sees.files self.old.shelf) (S.sees.files self.new.shelf) }
+        ensures log { S.sees.tells → OwesNothing self.old →
+            KeepsLog (S.sees.files self.old.shelf) (S.sees.files self.new.shelf) }
         // What the folder gives stays, at any moment; from rest to rest.
-        ensures quiet { S.tells → (log : Log) (debt : Debt) →
-            IsAtRest S.files S.may_leave log debt self.old →
-            PaysQuietly S.files S.may_leave S.moment S.left_since log debt
+        ensures quiet { S.sees.tells → (log : Log) (debt : Debt) →
+            IsAtRest S.sees log debt self.old →
+            PaysQuietly S.sees log debt
             self.old self.new result }
         // No message file is read; an error is a failure of the disk, and has its cause.
-        ensures err { IfErr result (λ e. e ≡ fault.Disk (S.fault_count self.new.shelf)) }
-        ensures mail_reads { S.mail_reads self.new.shelf ≡ S.mail_reads self.old.shelf }
-        ensures cause { HasStoreCause (S.fault_count self.old.shelf)
-            (S.fault_count self.new.shelf) result }
+        ensures err { IfErr result (λ e. e ≡ fault.Disk (S.sees.fault_count self.new.shelf)) }
+        ensures mail_reads { S.sees.mail_reads self.new.shelf ≡ S.sees.mail_reads self.old.shelf }
+        ensures cause { HasStoreCause (S.sees.fault_count self.old.shelf)
+            (S.sees.fault_count self.new.shelf) result }
     {
         match repair(&mut self.chain, &mut self.shelf, &mut self.owed) {
             Ok(()) => (),
@@ -102,19 +103,19 @@ impl<S: Shelf, C> Store<S, C> {
         ensures value { PaysDebts self.old self.new result }
         ensures memory { IfErr result (λ e. e ≡ fault.NoMemory → self.new ≡ self.old) }
         // Behind Ok the index is the snapshot. Message files and the cache file stay.
-        ensures index { S.tells → OnOk result
-            (HasSnapshot self.new.chain (S.files self.new.shelf)) }
-        ensures mails { S.tells →
-            KeepsMails (S.files self.old.shelf) (S.files self.new.shelf) }
+        ensures index { S.sees.tells → OnOk result
+            (HasSnapshot self.new.chain (S.sees.files self.new.shelf)) }
+        ensures mails { S.sees.tells →
+            KeepsMails (S.sees.files self.old.shelf) (S.sees.files self.new.shelf) }
         // What the folder gives stays, at any moment; from rest to rest.
-        ensures quiet { S.tells → (log : Log) (debt : Debt) →
-            IsAtRest S.files S.may_leave log debt self.old →
-            PaysQuietly S.files S.may_leave S.moment S.left_since log debt
+        ensures quiet { S.sees.tells → (log : Log) (debt : Debt) →
+            IsAtRest S.sees log debt self.old →
+            PaysQuietly S.sees log debt
             self.old self.new result }
         // No message file is read; a fault of the disk has its cause.
-        ensures mail_reads { S.mail_reads self.new.shelf ≡ S.mail_reads self.old.shelf }
-        ensures cause { HasStoreCause (S.fault_count self.old.shelf)
-            (S.fault_count self.new.shelf) result }
+        ensures mail_reads { S.sees.mail_reads self.new.shelf ≡ S.sees.mail_reads self.old.shelf }
+        ensures cause { HasStoreCause (S.sees.fault_count self.old.shelf)
+            (S.sees.fault_count self.new.shelf) result }
     {
         let mark = place_behind(&self.chain, &self.owed);
         let text = snapshot_at(self.alloc, &self.chain.live, self.chain.indexid, mark)?;

@@ -6,7 +6,7 @@ mod stores;
 
 use crate::fault::Fault;
 use crate::stores::{EXPUNGES, WRITES, time_in_folder, time_in_memory};
-use dv_folder::Folder;
+use dv_folder::{Folder, Layout, Missing};
 use dv_model::List;
 use std::env;
 use std::io::Read;
@@ -28,7 +28,7 @@ fn time_store(rt: HostRuntime, rows: u32) -> Result<(), Fault> {
 
 // Times a store over a folder.
 fn time_folder(rt: HostRuntime, rows: u32, path: &str) -> Result<(), Fault> {
-    let Ok(folder) = Folder::new(rt.alloc(), rt, path) else {
+    let Ok(folder) = Folder::new(rt.alloc(), rt, path, Layout::Mailbox, Missing::Make) else {
         return Err(Fault::NotOpened);
     };
     let times = time_in_folder(rt, rows, folder)?;

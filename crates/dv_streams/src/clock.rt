@@ -22,9 +22,10 @@ impl<C: TimeCalls + Drop> CutClock<C> {
 impl<C: TimeCalls + Drop> Clock for CutClock<C> {
     ghost use Rattle.dv_streams.specs.Times.{shown, shown_small};
 
-    ghost tells = { C.tells };
-
-    ghost upcoming = { λ c k. shown (C.upcoming c.calls k) };
+    ghost sees = { record {
+      tells = C.tells;
+      upcoming = λ c k. shown (C.upcoming c.calls k);
+    } };
 
     /// 0 where the system can't say, and 4294967295 from the year 2106 on.
     fn now(&mut self) -> u32 {

@@ -1,7 +1,7 @@
 ghost use Rattle.std.specs.Prelude.{◌≡◌, ◌-◌, ◌^◌, ◌<◌, IsErr, OnErr};
 ghost use Rattle.std.specs.Io.{ReadsAtMost};
 ghost use Rattle.dv_model.specs.Counts.{Rose};
-ghost use Rattle.dv_shelf.specs.Causes.{HasCause};
+ghost use Rattle.dv_shelf.specs.Causes.{HasCause, CountsOnce};
 ghost use Rattle.dv_shelf.specs.Streams.{Takes};
 
 use crate::{CallFault, ReadCalls};
@@ -28,6 +28,7 @@ impl<C: ReadCalls + Drop> ReadStream<C> {
     fn fail(&mut self) -> Result<usize, Failed>
         ensures err { IsErr result }
         ensures cause { HasCause self.old.faults self.new.faults result }
+        ensures once { CountsOnce self.old.faults self.new.faults result }
         ensures calls { self.new.calls ≡ self.old.calls }
     {
         self.faults = self.faults.saturating_add(1);
@@ -36,11 +37,11 @@ impl<C: ReadCalls + Drop> ReadStream<C> {
 }
 
 impl<C: ReadCalls + Drop> Source for ReadStream<C> {
-    ghost tells = { C.tells };
-
-    ghost left = { λ s. C.left s.calls };
-
-    ghost fault_count = { λ s. s.faults };
+    ghost sees = { record {
+      tells = C.tells;
+      left = λ s. C.left s.calls;
+      fault_count = λ s. s.faults;
+    } };
 
     fn read(&mut self, buf: &mut [u8]) -> Result<usize, Failed>
         // What the trait says.
@@ -48,6 +49,7 @@ impl<C: ReadCalls + Drop> Source for ReadStream<C> {
             Takes (C.left self.old.calls) (C.left self.new.calls) result buf.new }
         ensures bound { ReadsAtMost result buf.new }
         ensures cause { HasCause self.old.faults self.new.faults result }
+        ensures once { CountsOnce self.old.faults self.new.faults result }
 
         // It fails only where a call does: an interruption is no failure.
         ensures failed { C.tells → C.interruptions self.old.calls < 2 ^ 64 - 1 →

@@ -1,6 +1,6 @@
 ghost use Rattle.std.specs.Prelude.{◌≡◌, ◌+◌, ◌-◌, ◌^◌, ◌<◌, length, IsErr, OnOk, OnErr};
 ghost use Rattle.dv_model.specs.Counts.{Rose};
-ghost use Rattle.dv_shelf.specs.Causes.{HasCause};
+ghost use Rattle.dv_shelf.specs.Causes.{HasCause, CountsOnce};
 ghost use Rattle.dv_shelf.specs.Streams.{Appends, AppendsFront};
 
 use crate::{CallFault, WriteCalls};
@@ -34,6 +34,7 @@ impl<C: WriteCalls + Drop> WriteStream<C> {
     fn fail(&mut self) -> Result<(), Failed>
         ensures err { IsErr result }
         ensures cause { HasCause self.old.faults self.new.faults result }
+        ensures once { CountsOnce self.old.faults self.new.faults result }
         ensures calls { self.new.calls ≡ self.old.calls }
     {
         self.faults = self.faults.saturating_add(1);
@@ -42,11 +43,11 @@ impl<C: WriteCalls + Drop> WriteStream<C> {
 }
 
 impl<C: WriteCalls + Drop> Sink for WriteStream<C> {
-    ghost tells = { C.tells };
-
-    ghost taken = { λ s. C.taken s.calls };
-
-    ghost fault_count = { λ s. s.faults };
+    ghost sees = { record {
+      tells = C.tells;
+      taken = λ s. C.taken s.calls;
+      fault_count = λ s. s.faults;
+    } };
 
     fn write_all(&mut self, bytes: &[u8]) -> Result<(), Failed>
         // What the trait says.
@@ -55,6 +56,7 @@ impl<C: WriteCalls + Drop> Sink for WriteStream<C> {
         ensures err { C.tells →
             AppendsFront (C.taken self.old.calls) (C.taken self.new.calls) bytes.now }
         ensures cause { HasCause self.old.faults self.new.faults result }
+        ensures once { CountsOnce self.old.faults self.new.faults result }
 
         // It fails only where a call does: a part or an interruption is no failure.
         ensures failed { C.tells →

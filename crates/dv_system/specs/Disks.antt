@@ -133,7 +133,7 @@ pub record ListsEntries (disk : Disk) (entries : List Entry) : Type 0 where
   pub each : (e : Entry) → IsSome (read_at (at_entry disk e)) ↔ Contains entries e
   pub once : AllPairs (λ a b. a ≢ b) entries
 
--- a name was there and is removed, or it wasn't
-abbrev pub Unlinks : Bool → Name → Disk → Disk → Type 0
-Unlinks true name old new = new ≡ changed (put_at Gone false) old (entry.File name)
-Unlinks false name old new = (new ≡ old) × (read_at (old.named name) ≡ None)
+-- a file was there and is removed, or it wasn't
+abbrev pub Unlinks : Bool → Entry → Disk → Disk → Type 0
+Unlinks true there old new = new ≡ changed (put_at Gone false) old there
+Unlinks false there old new = (new ≡ old) × (read_at (at_entry old there) ≡ None)

@@ -1,5 +1,8 @@
 -- What stands at an entry of a folder: the file as reads give it, and what a crash may leave of it.
 --
+-- A file is a regular one of at most 4294967295 bytes. What else has the name is no file: it reads
+-- as none, and the model has nothing there.
+--
 -- Left out: hard links, so a file has one entry at most; who owns a file and may open it; the length
 -- of a file beside its bytes; what a crash leaves of the temporary entry, which nothing depends on;
 -- and that a kernel may drop from its memory what it couldn't write, so that reads change by

@@ -6,4 +6,4 @@ mod seconds;
 mod system;
 
 pub use seconds::cut_seconds;
-pub use system::{Entry, System};
+pub use system::{Access, Entry, System};

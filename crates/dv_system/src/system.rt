@@ -1,15 +1,24 @@
-ghost use Rattle.std.specs.Prelude.{◌≡◌, ◌⊎◌, ℕ, ◌+◌, ◌^◌, ◌<◌, ◌≤◌, length, take, Bool, true, false, Some, None, IsSome, IfOk, OnOk, OnErr, MatchOption};
+ghost use Rattle.std.specs.Prelude.{◌≡◌, ◌⊎◌, ℕ, ◌+◌, ◌^◌, ◌<◌, ◌≤◌, length, take, Bool, true, false, Some, None, IsSome, IfOk, OnOk, OnErr, MatchOption, MatchBool};
 ghost use Rattle.dv_shelf.specs.declared.shelf.Name.{Name};
-ghost use Rattle.dv_shelf.specs.Folders.{Folder};
+ghost use Rattle.dv_shelf.specs.Folders.{Folder, IsNew};
 ghost use Rattle.dv_shelf.specs.Crashes.{Elapses};
 ghost use Rattle.dv_shelf.specs.Disks.{Gone};
 ghost use Rattle.dv_system.specs.Entries.{empty_file, read_at, put_at, hidden_at, written_at, synced_at, doubted_at, swept_at, unsure_at};
-ghost use Rattle.dv_system.specs.Disks.{Disk, at_entry, changed, changed_names, renamed, with_place, made_place, firm_place, doubted_place, LeftBy, IsReadable, IsOneOf, IsUnchangedOr, ListsEntries, Unlinks};
+ghost use Rattle.dv_system.specs.Disks.{Disk, at_entry, changed, changed_names, renamed, with_place, made_place, firm_place, doubted_place, files_of, is_missing, LeftBy, IsReadable, IsOneOf, IsUnchangedOr, ListsEntries, Unlinks};
 ghost use Rattle.dv_system.specs.Opens.{StandStill, OthersStand};
 
 use dv_model::{Bytes, List};
 use dv_shelf::{Failed, Name, ShelfFault};
 use std::alloc::Global;
+
+/// What a file is opened for.
+#[derive(Clone, Copy, PartialEq, Eq)]
+pub enum Access {
+    /// Reads alone, which a file that may not be written allows too.
+    Read,
+    /// Reads and writes.
+    Write,
+}
 
 /// An entry of the folder.
 #[derive(Clone, Copy, PartialEq, Eq)]
@@ -21,6 +30,11 @@ pub enum Entry {
 }
 
 /// The system's calls on one folder and the files in it.
+///
+/// A file stands at an entry where the system has a regular one there of at most 4294967295 bytes.
+/// What else has the name, as a link, a FIFO, a device, a socket, a directory or a longer file, is
+/// no file, and is neither followed nor opened nor removed; a file that is made or renamed takes
+/// its place, or the call fails.
 ///
 /// An entry that was made, renamed or unlinked is durable only behind a sync of the folder, and
 /// bytes only behind a sync of their file. What a sync that failed was to make durable may be lost,
@@ -64,9 +78,9 @@ pub trait System {
         ensures time { tells → Elapses (moment self.old) (moment self.new)
             (left_since self.old) (left_since self.new) (LeftBy (disk self.new)) };
 
-    /// Opens a file for reading and writing; `None` where there is none (POSIX `open()`: `O_RDWR`,
-    /// and the error `ENOENT`).
-    fn open(&mut self, entry: Entry) -> Result<Option<Self::File>, Failed>
+    /// Opens a file, behind a look at it; `None` where there is none (POSIX `lstat()`, and its
+    /// error `ENOENT`, and then `open()`: `O_RDONLY` or `O_RDWR`).
+    fn open(&mut self, entry: Entry, access: Access) -> Result<Option<Self::File>, Failed>
         // The file that stands there, or none, and nothing changes.
         ensures none { tells → locked self.old ≡ true → IfOk result (λ file. MatchOption file
             (read_at (at_entry (disk self.old) entry) ≡ None)
@@ -79,8 +93,9 @@ pub trait System {
             Elapses (moment self.old) (moment self.new)
             (left_since self.old) (left_since self.new) (LeftBy (disk self.new)) };
 
-    /// Opens a new empty file, in place of one that is there (POSIX `open()`: `O_CREAT` and
-    /// `O_TRUNC`). Its entry is durable only behind a sync of the folder (Linux `fsync(2)`).
+    /// Opens a new empty file; it may fail where one is there (POSIX `open()`: `O_CREAT` and
+    /// `O_EXCL`, which follow no link). Its entry is durable only behind a sync of the folder (Linux
+    /// `fsync(2)`).
     fn create(&mut self, entry: Entry) -> Result<Self::File, Failed>
         // An empty file stands there. After a failure it may, or not.
         ensures ok { tells → locked self.old ≡ true →
@@ -189,17 +204,18 @@ pub trait System {
             Elapses (moment self.old) (moment self.new)
             (left_since self.old) (left_since self.new) (LeftBy (disk self.new)) };
 
-    /// Removes a name, and says whether it was there (POSIX `unlink()`, and its error `ENOENT`).
-    /// It is durable only behind a sync of the folder.
-    fn unlink(&mut self, name: Name) -> Result<bool, Failed>
+    /// Removes a file, and says whether it was there (POSIX `unlink()`, and its error `ENOENT`).
+    /// It is durable only behind a sync of the folder. At the temporary entry what is no file is
+    /// removed too.
+    fn unlink(&mut self, entry: Entry) -> Result<bool, Failed>
         ensures ok { tells → locked self.old ≡ true →
-            IfOk result (λ was. Unlinks was name (disk self.old) (disk self.new)) }
+            IfOk result (λ was. Unlinks was entry (disk self.old) (disk self.new)) }
         ensures err { tells → locked self.old ≡ true → OnErr result (IsOneOf (disk self.old)
-            (changed (put_at Gone false) (disk self.old) (Entry.File name))
-            (changed (hidden_at Gone) (disk self.old) (Entry.File name)) (disk self.new)) }
-        // A file that was open at the name stands nowhere any more.
+            (changed (put_at Gone false) (disk self.old) entry)
+            (changed (hidden_at Gone) (disk self.old) entry) (disk self.new)) }
+        // A file that was open there stands nowhere any more.
         ensures open { tells → locked self.old ≡ true →
-            OthersStand (Entry.File name) Entry.Temporary (stands self.old) (stands self.new) }
+            OthersStand entry Entry.Temporary (stands self.old) (stands self.new) }
         ensures lock { locked self.old ≡ true → locked self.new ≡ true }
         ensures time { tells → locked self.old ≡ true →
             Elapses (moment self.old) (moment self.new)
@@ -216,6 +232,30 @@ pub trait System {
         ensures lock { locked self.old ≡ true → locked self.new ≡ true }
         ensures time { tells → locked self.old ≡ true →
             Elapses (moment self.old) (moment self.new)
+            (left_since self.old) (left_since self.new) (LeftBy (disk self.new)) };
+
+    /// Whether a file of a mailbox is there, without a list of all: one look at each of three
+    /// names, and where none is there `readdir()` up to the first message file (POSIX `lstat()`,
+    /// `readdir()`).
+    fn has_mailbox(&mut self, alloc: Global) -> Result<bool, ShelfFault>
+        ensures found { tells → locked self.old ≡ true → IfOk result (λ has. MatchBool has
+            (IsNew (files_of (disk self.old)) → ⊥) (IsNew (files_of (disk self.old)))) }
+        ensures disk { tells → locked self.old ≡ true → disk self.new ≡ disk self.old }
+        ensures open { tells → locked self.old ≡ true →
+            StandStill (stands self.old) (stands self.new) }
+        ensures lock { locked self.old ≡ true → locked self.new ≡ true }
+        ensures time { tells → locked self.old ≡ true →
+            Elapses (moment self.old) (moment self.new)
+            (left_since self.old) (left_since self.new) (LeftBy (disk self.new)) };
+
+    /// Finds the folder, and fails where it is missing (POSIX `stat()`, and its error `ENOENT`).
+    fn find_folder(&mut self) -> Result<(), Failed>
+        ensures there { tells → OnOk result (is_missing (disk self.old).place ≡ false) }
+        // Nothing is made.
+        ensures disk { tells → disk self.new ≡ disk self.old }
+        ensures open { tells → StandStill (stands self.old) (stands self.new) }
+        ensures lock { locked self.old ≡ true → locked self.new ≡ true }
+        ensures time { tells → Elapses (moment self.old) (moment self.new)
             (left_since self.old) (left_since self.new) (LeftBy (disk self.new)) };
 
     /// Makes the folder, unless it is there (POSIX `mkdir()`, and its error `EEXIST`).

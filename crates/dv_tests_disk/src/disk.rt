@@ -1,9 +1,9 @@
 use crate::allowed::{Allowed, file_in};
-use dv_disk::Folder;
+use dv_disk::{Folder, Missing};
 use dv_memory_system::{MemSystem, Trace};
 use dv_model::{Bytes, List, NoMemory};
 use dv_shelf::{Failed, Name, Shelf};
-use dv_system::{Entry, System};
+use dv_system::{Access, Entry, System};
 use std::alloc::Global;
 use std::process::Abort;
 use std::test::Fail;
@@ -48,7 +48,7 @@ fn new_folder(
     trace: Trace,
 ) -> Result<Folder<MemSystem>, NoMemory> {
     let system = MemSystem::new(alloc, numbers(alloc, fails)?, stop, trace);
-    Ok(Folder::new(alloc, system))
+    Ok(Folder::new(alloc, system, Missing::Make))
 }
 
 // A place of a file, in bytes, and the length of what is written there.
@@ -204,6 +204,7 @@ fn changes_are_read_and_listed(rt: HostRuntime) -> Result<(), Fail> {
 /// How many of a folder's calls fail.
 fn count_failures(alloc: Global, folder: &mut Folder<MemSystem>) -> u32 {
     let failures = [
+        folder.has_mailbox(alloc).is_err(),
         folder.list(alloc).is_err(),
         folder.read(alloc, Name::Log).is_err(),
         folder.write_at(Name::Log, 0, b"log").is_err(),
@@ -221,11 +222,11 @@ fn count_failures(alloc: Global, folder: &mut Folder<MemSystem>) -> u32 {
 #[test]
 fn nothing_is_done_without_the_lock(rt: HostRuntime) -> Result<(), Fail> {
     let alloc = rt.alloc();
-    // Each of the six makes the folder, and is refused its lock.
-    let mut folder = new_folder(alloc, &[2, 4, 6, 8, 10, 12], None, Trace::Shown)?;
-    assert_eq!(rt; count_failures(alloc, &mut folder), 6);
-    assert_eq!(rt; folder.faults(), 6);
-    assert_eq!(rt; folder.system().call_count(), 12);
+    // Each of the seven makes the folder, and is refused its lock.
+    let mut folder = new_folder(alloc, &[2, 4, 6, 8, 10, 12, 14], None, Trace::Shown)?;
+    assert_eq!(rt; count_failures(alloc, &mut folder), 7);
+    assert_eq!(rt; folder.faults(), 7);
+    assert_eq!(rt; folder.system().call_count(), 14);
     assert_eq!(rt; count_failures(alloc, &mut folder), 0);
     Ok(())
 }
@@ -301,7 +302,7 @@ fn a_temporary_file_that_is_left_over_is_written_over(rt: HostRuntime) -> Result
         let fails = List::new(alloc);
         let trace = Trace::Nothing;
         let system = MemSystem::of(alloc, &files, &temporary, fails, Some(stop), trace)?;
-        let mut folder = Folder::new(alloc, system);
+        let mut folder = Folder::new(alloc, system, Missing::Make);
         let is_ok = folder.replace(Name::Log, b"new").is_ok();
         let index = Allowed::only(alloc, Name::Index, None)?;
         let log = Allowed::only(alloc, Name::Log, Some(bytes_of(alloc, b"log")?))?;
@@ -311,6 +312,84 @@ fn a_temporary_file_that_is_left_over_is_written_over(rt: HostRuntime) -> Result
             assert_eq!(rt; names.len(), 1);
             assert!(rt; names.as_slice().iter().all(|name| *name == Name::Log));
         }
+    }
+    Ok(())
+}
+
+/// A folder with a log and a temporary file that was left over.
+fn folder_with_log(
+    alloc: Global,
+    fails: &[u32],
+    trace: Trace,
+    missing: Missing,
+) -> Result<Folder<MemSystem>, NoMemory> {
+    let mut files = List::new(alloc);
+    files.push((Name::Log, bytes_of(alloc, b"log")?))?;
+    let temporary = Some(bytes_of(alloc, b"left over")?);
+    let fails = numbers(alloc, fails)?;
+    let system = MemSystem::of(alloc, &files, &temporary, fails, None, trace)?;
+    Ok(Folder::new(alloc, system, missing))
+}
+
+/// Whether a replace of which one system call fails fails too, and leaves no temporary file.
+fn clears(alloc: Global, call: u32, trace: Trace) -> Result<bool, NoMemory> {
+    let mut folder = folder_with_log(alloc, &[call], trace, Missing::Make)?;
+    let has_failed = folder.replace(Name::Log, b"new").is_err();
+    let temporary = folder.system().file(alloc, Entry::Temporary)?;
+    Ok(has_failed && temporary.is_none() && folder.faults() == 1)
+}
+
+#[test]
+fn a_replace_that_failed_leaves_no_temporary_file(rt: HostRuntime) -> Result<(), Fail> {
+    let alloc = rt.alloc();
+    for trace in TRACES {
+        // Behind the removal of the old one: it is made, written, synced and renamed, and then the
+        // folder is synced.
+        for call in 6..=10 {
+            assert!(rt; clears(alloc, call, trace)?);
+        }
+    }
+    // Nothing was done before it, or its removal failed.
+    assert!(rt; !clears(alloc, 5, Trace::Nothing)?);
+    assert!(rt; !clears(alloc, 11, Trace::Nothing)?);
+    Ok(())
+}
+
+#[test]
+fn a_missing_folder_is_not_made_where_that_is_refused(rt: HostRuntime) -> Result<(), Fail> {
+    let alloc = rt.alloc();
+    let system = MemSystem::new(alloc, List::new(alloc), None, Trace::Nothing);
+    let mut folder = Folder::new(alloc, system, Missing::Refuse);
+    assert_eq!(rt; count_failures(alloc, &mut folder), 7);
+    assert_eq!(rt; folder.faults(), 7);
+    // Each looked for the folder, and did nothing else.
+    assert_eq!(rt; folder.system().call_count(), 7);
+    let mut folder = folder_with_log(alloc, &[], Trace::Nothing, Missing::Refuse)?;
+    assert_eq!(rt; count_failures(alloc, &mut folder), 0);
+    Ok(())
+}
+
+/// Whether a folder with this file alone, or none, has a mailbox.
+fn has_mailbox(alloc: Global, name: Option<Name>) -> Result<Option<bool>, NoMemory> {
+    let mut files = List::new(alloc);
+    if let Some(name) = name {
+        files.push((name, List::new(alloc)))?;
+    }
+    let temporary = Some(List::new(alloc));
+    let fails = List::new(alloc);
+    let system = MemSystem::of(alloc, &files, &temporary, fails, None, Trace::Nothing)?;
+    let mut folder = Folder::new(alloc, system, Missing::Make);
+    Ok(folder.has_mailbox(alloc).ok())
+}
+
+#[test]
+fn each_file_but_the_cache_makes_a_mailbox(rt: HostRuntime) -> Result<(), Fail> {
+    let alloc = rt.alloc();
+    for name in [Name::Index, Name::Log, Name::Log2, Name::Mail(7)] {
+        assert_eq!(rt; has_mailbox(alloc, Some(name))?, Some(true));
+    }
+    for name in [None, Some(Name::Cache)] {
+        assert_eq!(rt; has_mailbox(alloc, name)?, Some(false));
     }
     Ok(())
 }
@@ -359,7 +438,8 @@ fn a_failed_sync_is_not_made_good(rt: HostRuntime) -> Result<(), Fail> {
         files.push((Name::Log, bytes_of(alloc, b"log")?))?;
         let fails = numbers(alloc, &[3])?;
         let mut system = MemSystem::of(alloc, &files, &None, fails, None, trace)?;
-        let file = system.open(Entry::File(Name::Log)).ok().ok_or("open")?;
+        let file = system.open(Entry::File(Name::Log), Access::Write);
+        let file = file.ok().ok_or("open")?;
         let file = file.ok_or("none is there")?;
         assert!(rt; system.write(&file, 0, b"LOG").is_ok());
         assert!(rt; system.sync(&file).is_err());

@@ -21,6 +21,19 @@ pub const LOG: &[u8] = &[
 pub const HELLO: &[u8] =
     b"2 M1e C3e9\n\x01\x02N          0000000000000005\nhello\n\x01\x03\nR3e9\n\n";
 
+// The snapshot of UID 1 at 1:72 of index 1000.
+pub const INDEX: &[u8] = &[
+    201, 2, 120, 0, 120, 0, 0, 0, 16, 0, 0, 0, 0, 0, 0, 0, //
+    0xe8, 3, 0, 0, 0, 0, 0, 0, 0xe8, 3, 0, 0, 2, 0, 0, 0, //
+    1, 0, 0, 0, 1, 0, 0, 0, 72, 0, 0, 0, 0, 0, 0, 0, //
+    0, 0, 0, 0, 0, 0, 0, 0, 0, 0, 0, 0, 0, 0, 0, 0, //
+    0, 0, 0, 0, 9, 0, 0, 0, 0, 0, 0, 0, 0, 0, 0, 0, //
+    0, 0, 0, 0, 0, 0, 0, 0, 0, 0, 0, 0, 0, 0, 0, 0, //
+    0, 0, 0, 0, 0, 0, 0, 0, 0, 0, 0, 0, 0, 0, 0, 0, //
+    0, 0, 0, 0, 0, 0, 0, 0, 1, 0, 0, 0, 0, 0, 0, 0, //
+    7, 0, 0, 0, 0, 0, 0, 0,
+];
+
 // The files of a folder, by their names.
 pub type Files = List<(Name, Bytes)>;
 
@@ -33,8 +46,18 @@ pub fn shelf_of(alloc: Global, files: &Files) -> Result<MemShelf, Fail> {
     Ok(MemShelf::of(alloc, files, 10_000, List::new(alloc), None)?)
 }
 
+// The counts of a rebuild.
+#[derive(Clone, Copy, PartialEq, Eq, Debug)]
+pub struct Counts {
+    pub kept: u32,
+    pub skipped: u32,
+}
+
 // A rebuild at the time 2000.
-pub fn rebuilt(alloc: Global, shelf: &mut MemShelf) -> Result<Result<Rebuilt, RebuildFault>, Fail> {
+pub fn rebuilt(alloc: Global, shelf: &mut MemShelf) -> Result<Result<Counts, RebuildFault>, Fail> {
     let mut clock = MemClock::new(alloc, List::from_slice(alloc, &[2000])?);
-    Ok(rebuild(alloc, shelf, &mut clock))
+    match rebuild(alloc, shelf, &mut clock) {
+        Ok(Rebuilt { kept, skipped, .. }) => Ok(Ok(Counts { kept, skipped })),
+        Err(e) => Ok(Err(e)),
+    }
 }

@@ -1,23 +1,9 @@
-use crate::folders::{Files, HELLO, LOG, add, rebuilt, shelf_of};
+use crate::folders::{Counts, Files, HELLO, INDEX, LOG, add, rebuilt, shelf_of};
 use dv_chain::open;
 use dv_model::{Bytes, List};
-use dv_rebuild::Rebuilt;
 use dv_shelf::{MemShelf, Name, Shelf};
 use std::alloc::Global;
 use std::test::*;
-
-// The snapshot of UID 1 at 1:72 of index 1000.
-const INDEX: &[u8] = &[
-    201, 2, 120, 0, 120, 0, 0, 0, 16, 0, 0, 0, 0, 0, 0, 0, //
-    0xe8, 3, 0, 0, 0, 0, 0, 0, 0xe8, 3, 0, 0, 2, 0, 0, 0, //
-    1, 0, 0, 0, 1, 0, 0, 0, 72, 0, 0, 0, 0, 0, 0, 0, //
-    0, 0, 0, 0, 0, 0, 0, 0, 0, 0, 0, 0, 0, 0, 0, 0, //
-    0, 0, 0, 0, 9, 0, 0, 0, 0, 0, 0, 0, 0, 0, 0, 0, //
-    0, 0, 0, 0, 0, 0, 0, 0, 0, 0, 0, 0, 0, 0, 0, 0, //
-    0, 0, 0, 0, 0, 0, 0, 0, 0, 0, 0, 0, 0, 0, 0, 0, //
-    0, 0, 0, 0, 0, 0, 0, 0, 1, 0, 0, 0, 0, 0, 0, 0, //
-    7, 0, 0, 0, 0, 0, 0, 0,
-];
 
 const CACHE: &[u8] = b"not a cache file, and not looked at";
 
@@ -73,10 +59,9 @@ fn keeps(alloc: Global, name: Name, bytes: &[u8], kept: u32) -> Result<bool, Fai
     add(alloc, &mut files, name, bytes)?;
     let mut shelf = shelf_of(alloc, &files)?;
     let told = rebuilt(alloc, &mut shelf)?
-        == Ok(Rebuilt {
+        == Ok(Counts {
             kept,
             skipped: 3u32.saturating_sub(kept),
-            indexid: 2000,
         });
     Ok(told && others_stay(alloc, &mut shelf, name, bytes)? && finds(alloc, &mut shelf, kept)?)
 }

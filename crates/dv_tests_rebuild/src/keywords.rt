@@ -1,8 +1,7 @@
-use crate::folders::{HELLO, LOG, add, rebuilt, shelf_of};
+use crate::folders::{Counts, HELLO, LOG, add, rebuilt, shelf_of};
 use dv_apply::Live;
 use dv_chain::open;
 use dv_model::{Bytes, List};
-use dv_rebuild::Rebuilt;
 use dv_shelf::{MemShelf, Name};
 use std::alloc::Global;
 use std::test::*;
@@ -49,10 +48,9 @@ fn has_name(live: &Live, at: u32, name: &[u8]) -> bool {
 fn keywords_are_told(alloc: Global) -> Result<bool, Fail> {
     let mut shelf = named_folder(alloc)?;
     let told = rebuilt(alloc, &mut shelf)?
-        == Ok(Rebuilt {
+        == Ok(Counts {
             kept: 3,
             skipped: 1,
-            indexid: 2000,
         });
     let live = open(alloc, &mut shelf).ok().ok_or("not opened")?.live;
     let names = live.names().count() == 2

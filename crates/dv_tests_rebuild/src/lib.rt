@@ -1,4 +1,5 @@
-//! Tests of rebuilt folders: keywords, each call being the last one, and files of any bytes.
+//! Tests of rebuilt folders: keywords, each call being the last one, files of any bytes, and what
+//! is told.
 #![tactic(auto)]
 
 #[cfg(test)]
@@ -9,3 +10,5 @@ mod folders;
 mod hostile;
 #[cfg(test)]
 mod keywords;
+#[cfg(test)]
+mod reports;

@@ -10,10 +10,11 @@ use dv_shelf::{Failed, Sink};
 
 /// Writes the pieces in turn, or after a failure some bytes from the front.
 pub(crate) fn write_pieces<O: Sink>(pieces: &[Bytes], out: &mut O) -> Result<(), Failed>
-    ensures ok { O.tells →
-        OnOk result (Appends (O.taken out.old) (O.taken out.new) (joined pieces.now)) }
-    ensures err { O.tells → AppendsFront (O.taken out.old) (O.taken out.new) (joined pieces.now) }
-    ensures cause { HasCause (O.fault_count out.old) (O.fault_count out.new) result }
+    ensures ok { O.sees.tells →
+        OnOk result (Appends (O.sees.taken out.old) (O.sees.taken out.new) (joined pieces.now)) }
+    ensures err { O.sees.tells → AppendsFront (O.sees.taken out.old) (O.sees.taken out.new)
+        (joined pieces.now) }
+    ensures cause { HasCause (O.sees.fault_count out.old) (O.sees.fault_count out.new) result }
 {
     for piece in pieces {
         out.write_all(piece.as_slice())?;

@@ -74,10 +74,11 @@ impl ReplyText {
 
     /// Writes the lines so far, piece by piece, or after a failure some from the front.
     pub fn write_to<O: Sink>(&self, out: &mut O) -> Result<(), Failed>
-        ensures ok { O.tells →
-            OnOk result (Appends (O.taken out.old) (O.taken out.new) self.now.text) }
-        ensures err { O.tells → AppendsFront (O.taken out.old) (O.taken out.new) self.now.text }
-        ensures cause { HasCause (O.fault_count out.old) (O.fault_count out.new) result }
+        ensures ok { O.sees.tells →
+            OnOk result (Appends (O.sees.taken out.old) (O.sees.taken out.new) self.now.text) }
+        ensures err { O.sees.tells → AppendsFront (O.sees.taken out.old) (O.sees.taken out.new)
+            self.now.text }
+        ensures cause { HasCause (O.sees.fault_count out.old) (O.sees.fault_count out.new) result }
     {
         write_pieces(&self.pieces, out)?;
         out.write_all(self.text.as_slice())

@@ -30,6 +30,7 @@ use Rattle.dv_writes.specs.Steps.{HasWritten, HoldsFiles, IsNamed, IsOfLog, Keep
 use Rattle.dv_writes.specs.Ways.{IsDue, KeepsMails, MakesWay, MakesWayQuietly, MayGiveOn, ready}
 use Rattle.dv_writes.specs.Writes.{AreFilesOf, CarriesOut, IsAfter, IsWriteOf, MayGiveWrite, MayOweGate, Write, WritesStore, log_with}
 use Rattle.dv_writes.proofs.Ready.{gives_ready, repaired_indexid, repaired_live, same_indexid, same_live}
+use Rattle.dv_shelf.specs.Sees.{SeesFolder}
 
 -- ---- the chain
 
@@ -142,28 +143,28 @@ module _ (m : Mailbox) (steps : Files) (old way : Folder) (keeps : KeepsMails ol
 
 -- ---- what the folder gives
 
-module _ {S : Type 0} (files : S → Folder) (may_leave : S → Folder → Type 0) (moment : S → ℕ) (left_since : S → ℕ → Folder → Type 0)
-    (log : Log) (debt : Debt) (write : Write) (owed : Option Turn) (text : List ℕ) (steps : Steps) (chain : Chain) (old : S) (is_write : IsWriteOf log write owed chain (files old) text steps) where
+module _ {S : Type 0} (sees : SeesFolder S)
+    (log : Log) (debt : Debt) (write : Write) (owed : Option Turn) (text : List ℕ) (steps : Steps) (chain : Chain) (old : S) (is_write : IsWriteOf log write owed chain (sees.files old) text steps) where
   abbrev m : Mailbox
   m = chain.live.mailbox
 
   abbrev Stores : {T E : Type 0} → Option Turn → Chain → Result T E → S → Type 0
-  Stores left next result new = WritesStore files may_leave moment left_since log debt write owed left text steps chain next result old new
+  Stores left next result new = WritesStore sees log debt write owed left text steps chain next result old new
 
   abbrev May : Folder → Type 0
   May = MayGiveWrite log debt write owed text steps chain
 
-  way_since : {T E : Type 0} (left : Option Turn) (mid : Chain) (way : S) (result : Result T E) → MakesWayQuietly may_leave moment left_since log debt owed left steps.turn chain mid result old way → LeavesOnly moment left_since old way May
-  way_since left mid way result quiet = weaker moment left_since old way (MayGiveOn log debt steps.turn chain) May quiet.since (λ c gives. inl gives)
+  way_since : {T E : Type 0} (left : Option Turn) (mid : Chain) (way : S) (result : Result T E) → MakesWayQuietly sees log debt owed left steps.turn chain mid result old way → LeavesOnly sees old way May
+  way_since left mid way result quiet = weaker sees old way (MayGiveOn log debt steps.turn chain) May quiet.since (λ c gives. inl gives)
 
-  pub stores_stopped : {T U E F : Type 0} (left : Option Turn) (mid : Chain) (way : S) (e : E) (f : F) → MakesWayQuietly may_leave moment left_since log debt owed left steps.turn chain mid {T = T} {E = E} (Err e) old way → KeepsMails (files old) (files way) → Stores {T = U} {E = F} left mid (Err f) way
+  pub stores_stopped : {T U E F : Type 0} (left : Option Turn) (mid : Chain) (way : S) (e : E) (f : F) → MakesWayQuietly sees log debt owed left steps.turn chain mid {T = T} {E = E} (Err e) old way → KeepsMails (sees.files old) (sees.files way) → Stores {T = U} {E = F} left mid (Err f) way
   stores_stopped left mid way e f quiet keeps = record {
     ok = tt;
     err =
         let owes = quiet.err in
         (owes.0, inl owes.1, owes.2, owes.3);
     any_moment = way_since left mid way (Err e) quiet;
-    written = written_stopped m steps.files (files old) (files way) keeps f;
+    written = written_stopped m steps.files (sees.files old) (sees.files way) keeps f;
   }
 
   module _ (left : Option Turn) (mid : Chain) (way : S) {X D : Type 0} (x : X) (value : MakesWay owed left steps.turn chain mid {T = X} {E = D} (Ok x)) where
@@ -180,38 +181,38 @@ module _ {S : Type 0} (files : S → Folder) (may_leave : S → Folder → Type 
     pub pending_there : IsPending text is_write.after mid
     pending_there = subst (IsPending text is_write.after) (sym value.ok.0) is_write.pending
 
-    pub next_here : (shelf : S) → KeepsNext may_leave log (log_with log write mid.live.mailbox) is_write.after shelf → KeepsNext may_leave log (log_with log write m) is_write.after shelf
-    next_here shelf next = subst (λ (k : Mailbox). KeepsNext may_leave log (log_with log write k) is_write.after shelf) same_mailbox next
+    pub next_here : (shelf : S) → KeepsNext sees log (log_with log write mid.live.mailbox) is_write.after shelf → KeepsNext sees log (log_with log write m) is_write.after shelf
+    next_here shelf next = subst (λ (k : Mailbox). KeepsNext sees log (log_with log write k) is_write.after shelf) same_mailbox next
 
-    module _ (due : IsDue owed chain steps.turn) (fits : Fits owed debt) (quiet : MakesWayQuietly may_leave moment left_since log debt owed left steps.turn chain mid {T = X} {E = D} (Ok x) old way) (keeps : KeepsMails (files old) (files way))
-        (between : S) (before : IsQuiet may_leave moment left_since log mid way between) (unnamed : KeepsUnnamed mid.live.mailbox steps.files (files way) (files between)) where
+    module _ (due : IsDue owed chain steps.turn) (fits : Fits owed debt) (quiet : MakesWayQuietly sees log debt owed left steps.turn chain mid {T = X} {E = D} (Ok x) old way) (keeps : KeepsMails (sees.files old) (sees.files way))
+        (between : S) (before : IsQuiet sees log mid way between) (unnamed : KeepsUnnamed mid.live.mailbox steps.files (sees.files way) (sees.files between)) where
       fits_none : Fits left Nothing
       fits_none = subst (λ (o : Option Turn). Fits o Nothing) (sym value.ok.1) tt
 
-      unnamed_here : KeepsUnnamed m steps.files (files way) (files between)
-      unnamed_here = subst (λ (k : Mailbox). KeepsUnnamed k steps.files (files way) (files between)) same_mailbox unnamed
+      unnamed_here : KeepsUnnamed m steps.files (sees.files way) (sees.files between)
+      unnamed_here = subst (λ (k : Mailbox). KeepsUnnamed k steps.files (sees.files way) (sees.files between)) same_mailbox unnamed
 
-      files_since : LeavesOnly moment left_since old between May
+      files_since : LeavesOnly sees old between May
       files_since =
-          joined moment left_since old way between May (way_since left mid way (Ok x) quiet)
-          (weaker moment left_since way between (MayGive log Nothing mid) May before.any_moment (λ c gives. inl (gives_ready log debt owed steps.turn chain mid c value.ok.0 due fits gives)))
+          joined sees old way between May (way_since left mid way (Ok x) quiet)
+          (weaker sees way between (MayGive log Nothing mid) May before.any_moment (λ c gives. inl (gives_ready log debt owed steps.turn chain mid c value.ok.0 due fits gives)))
 
       pub stores_halted : {T F : Type 0} (f : F) → Stores {T = T} {E = F} left mid (Err f) between
       stores_halted f = record {
         ok = tt;
         err = (Nothing, inr (ap place_of value.ok.0, value.ok.1, inl refl), fits_none, before.stands);
         any_moment = files_since;
-        written = written_halted m steps.files (files old) (files way) keeps (files between) unnamed_here f;
+        written = written_halted m steps.files (sees.files old) (sees.files way) keeps (sees.files between) unnamed_here f;
       }
 
       abbrev Groups : {E : Type 0} → Chain → Result Committed E → S → Type 0
-      Groups next result new = WritesGroup files may_leave moment left_since text is_write.after log (log_with log write m) mid next result between new
+      Groups next result new = WritesGroup sees text is_write.after log (log_with log write m) mid next result between new
 
       module _ (next : Chain) (new : S) where
-        group_since : {E : Type 0} (result : Result Committed E) → Groups next result new → LeavesOnly moment left_since old new May
+        group_since : {E : Type 0} (result : Result Committed E) → Groups next result new → LeavesOnly sees old new May
         group_since result group =
-            joined moment left_since old between new May files_since
-            (weaker moment left_since between new (MayGive log (Pending text is_write.after (log_with log write m)) mid) May group.any_moment
+            joined sees old between new May files_since
+            (weaker sees between new (MayGive log (Pending text is_write.after (log_with log write m)) mid) May group.any_moment
             (λ c gives. ⊎_elim (λ here. inl (gives_ready log debt owed steps.turn chain mid c value.ok.0 due fits here))
             (λ there. inr (is_write.after, is_write.gives, subst (λ (k : Chain). Gives (log_with log write m) is_write.after (mark_behind text k) c) value.ok.0 there)) gives))
 
@@ -233,14 +234,14 @@ module _ {S : Type 0} (files : S → Folder) (may_leave : S → Folder → Type 
             group.err,
           );
           any_moment = group_since (Err e) group;
-          written = written_failed m steps.files (files old) (files way) keeps (files between) unnamed_here (files new) group.others f;
+          written = written_failed m steps.files (sees.files old) (sees.files way) keeps (sees.files between) unnamed_here (sees.files new) group.others f;
         }
 
-        pub stores_done : {E F : Type 0} (done : Committed) → Groups {E = E} next (Ok done) new → HoldsFiles mid.live.mailbox steps.files (files between) → Stores {T = Committed} {E = F} left next (Ok done) new
+        pub stores_done : {E F : Type 0} (done : Committed) → Groups {E = E} next (Ok done) new → HoldsFiles mid.live.mailbox steps.files (sees.files between) → Stores {T = Committed} {E = F} left next (Ok done) new
         stores_done done group holds = record {
           ok = group.ok;
           err = tt;
           any_moment = group_since (Ok done) group;
-          written = written_done m steps.files (files old) (files way) keeps (files between) unnamed_here (files new) group.others done
-              (subst (λ (k : Mailbox). HoldsFiles k steps.files (files between)) same_mailbox holds);
+          written = written_done m steps.files (sees.files old) (sees.files way) keeps (sees.files between) unnamed_here (sees.files new) group.others done
+              (subst (λ (k : Mailbox). HoldsFiles k steps.files (sees.files between)) same_mailbox holds);
         }

@@ -25,39 +25,40 @@ use Rattle.dv_phases.proofs.Renewing.{put_else}
 use Rattle.dv_writes.specs.declared.steps.Files.TheVariants as kind
 use Rattle.dv_writes.specs.declared.steps.Renewal.{Renewal}
 use Rattle.dv_writes.specs.Steps.{HasFiles, HoldsFiles, IsNamed, KeepsUnnamed}
+use Rattle.dv_shelf.specs.Sees.{SeesFolder}
 
 -- ---- none
 
-pub none_written : {S : Type 0} (files : S → Folder) (may_leave : S → Folder → Type 0) (m : Mailbox) (shelf : S) → HasFiles files may_leave m kind.Nothing shelf
-none_written files may_leave m shelf = record { seen = tt; crash = λ c left. tt }
+pub none_written : {S : Type 0} (sees : SeesFolder S) (m : Mailbox) (shelf : S) → HasFiles sees m kind.Nothing shelf
+none_written sees m shelf = record { seen = tt; crash = λ c left. tt }
 
-pub none_quiet : {S : Type 0} (may_leave : S → Folder → Type 0) (moment : S → ℕ) (left_since : S → ℕ → Folder → Type 0) (log : Log) (chain : Chain) (shelf : S) → Stands may_leave log Nothing chain shelf
-    → ((c : Folder) → left_since shelf (moment shelf) c → may_leave shelf c) → IsQuiet may_leave moment left_since log chain shelf shelf
-none_quiet may_leave moment left_since log chain shelf stands now = record {
-  any_moment = started moment left_since shelf (MayGive log Nothing chain) (λ c left. rests_give may_leave log Nothing chain shelf c stands (now c left));
+pub none_quiet : {S : Type 0} (sees : SeesFolder S) (log : Log) (chain : Chain) (shelf : S) → Stands sees log Nothing chain shelf
+    → ((c : Folder) → sees.left_since shelf (sees.moment shelf) c → sees.may_leave shelf c) → IsQuiet sees log chain shelf shelf
+none_quiet sees log chain shelf stands now = record {
+  any_moment = started sees shelf (MayGive log Nothing chain) (λ c left. rests_give sees log Nothing chain shelf c stands (now c left));
   stands = stands;
 }
 
 -- ---- a message file
 
-module _ {S : Type 0} (files : S → Folder) (may_leave : S → Folder → Type 0) (moment : S → ℕ) (left_since : S → ℕ → Folder → Type 0) (m : Mailbox) (text : List ℕ) (old new : S) where
+module _ {S : Type 0} (sees : SeesFolder S) (m : Mailbox) (text : List ℕ) (old new : S) where
   abbrev n : Name
   n = name.Mail m.next_uid
 
   put_holds : (d c : Folder) → c ≡ with_file d n (Some text) → HoldsFiles m (kind.Message text) c
   put_holds d c is = ap (λ (f : Folder). f n) is ∙ with_here d n (Some text)
 
-  pub message_written : {T E : Type 0} (result : Result T E) → Leaves files may_leave moment left_since (Puts n text result) (IsPut n text) old new → OnOk result (HasFiles files may_leave m (kind.Message text) new)
+  pub message_written : {T E : Type 0} (result : Result T E) → Leaves sees (Puts n text result) (IsPut n text) old new → OnOk result (HasFiles sees m (kind.Message text) new)
   message_written (Ok x) leaves = record {
-    seen = put_holds (files old) (files new) leaves.seen;
+    seen = put_holds (sees.files old) (sees.files new) leaves.seen;
     crash = λ c left.
         let from = leaves.crash c left in
         put_holds from.0 c from.2;
   }
   message_written (Err e) leaves = tt
 
-  pub message_others : {T E : Type 0} (result : Result T E) → Leaves files may_leave moment left_since (Puts n text result) (IsPut n text) old new → KeepsUnnamed m (kind.Message text) (files old) (files new)
-  message_others result leaves k unnamed = put_else n k text (files old) (files new) (λ e. unnamed e) (puts_either n text result (files old) (files new) leaves.seen)
+  pub message_others : {T E : Type 0} (result : Result T E) → Leaves sees (Puts n text result) (IsPut n text) old new → KeepsUnnamed m (kind.Message text) (sees.files old) (sees.files new)
+  message_others result leaves k unnamed = put_else n k text (sees.files old) (sees.files new) (λ e. unnamed e) (puts_either n text result (sees.files old) (sees.files new) leaves.seen)
 
 -- ---- the files of a check
 
@@ -115,15 +116,15 @@ module _ (m : Mailbox) (renewal : Renewal) where
   renew_unnamed d c some name.Log unnamed = renewed_else renewal.index renewal.cache d c name.Log (λ q. cc) (λ q. cc) some
   renew_unnamed d c some name.Log2 unnamed = renewed_else renewal.index renewal.cache d c name.Log2 (λ q. cc) (λ q. cc) some
 
-  module _ {S T E : Type 0} (files : S → Folder) (may_leave : S → Folder → Type 0) (moment : S → ℕ) (left_since : S → ℕ → Folder → Type 0) (old mid new : S) (result : Result T E)
-      (first : Leaves files may_leave moment left_since (IsSwept gone) (IsSweeping gone) old mid)
-      (second : Leaves files may_leave moment left_since (Renews renewal.index renewal.cache result) (IsRenewing renewal.index renewal.cache) mid new) where
-    pub check_written : OnOk result (HasFiles files may_leave m (kind.Check renewal) new)
+  module _ {S T E : Type 0} (sees : SeesFolder S) (old mid new : S) (result : Result T E)
+      (first : Leaves sees (IsSwept gone) (IsSweeping gone) old mid)
+      (second : Leaves sees (Renews renewal.index renewal.cache result) (IsRenewing renewal.index renewal.cache) mid new) where
+    pub check_written : OnOk result (HasFiles sees m (kind.Check renewal) new)
     check_written = by_result result second
       where
-        by_result : (r : Result T E) → Leaves files may_leave moment left_since (Renews renewal.index renewal.cache r) (IsRenewing renewal.index renewal.cache) mid new → OnOk r (HasFiles files may_leave m (kind.Check renewal) new)
+        by_result : (r : Result T E) → Leaves sees (Renews renewal.index renewal.cache r) (IsRenewing renewal.index renewal.cache) mid new → OnOk r (HasFiles sees m (kind.Check renewal) new)
         by_result (Ok x) leaves = record {
-          seen = check_holds (files old) (files mid) (files new) first.seen leaves.seen;
+          seen = check_holds (sees.files old) (sees.files mid) (sees.files new) first.seen leaves.seen;
           crash = λ c left.
               let two = leaves.crash c left in
               let one = first.crash two.0 two.1 in
@@ -131,7 +132,7 @@ module _ (m : Mailbox) (renewal : Renewal) where
         }
         by_result (Err e) leaves = tt
 
-    pub check_others : KeepsUnnamed m (kind.Check renewal) (files old) (files new)
+    pub check_others : KeepsUnnamed m (kind.Check renewal) (sees.files old) (sees.files new)
     check_others n unnamed =
-        renew_unnamed (files mid) (files new) (renews_some renewal.index renewal.cache result (files mid) (files new) second.seen) n unnamed
-        ∙ sweep_unnamed (files old) (files mid) (length gone, first.seen ∙ ap (λ (us : List ℕ). swept us (files old)) (sym (take_all (length gone) gone (omega arith)))) n unnamed
+        renew_unnamed (sees.files mid) (sees.files new) (renews_some renewal.index renewal.cache result (sees.files mid) (sees.files new) second.seen) n unnamed
+        ∙ sweep_unnamed (sees.files old) (sees.files mid) (length gone, first.seen ∙ ap (λ (us : List ℕ). swept us (sees.files old)) (sym (take_all (length gone) gone (omega arith)))) n unnamed

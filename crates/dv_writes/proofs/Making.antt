@@ -18,6 +18,7 @@ use Rattle.dv_keeping.specs.Turning.{TurnsFiles, TurnsOver, TurnsOverQuietly}
 use Rattle.dv_keeping.proofs.Kept.{KeepsMessages, beside_first, beside_log, beside_old, beside_put, beside_turn, messages_then, of_log}
 use Rattle.dv_writes.specs.Ways.{IsLeftOnWay, KeepsMails, MakesWay, MakesWayQuietly, MayGiveOn, healed, repaired}
 use Rattle.dv_writes.proofs.Ready.{gives_now, repaired_is}
+use Rattle.dv_shelf.specs.Sees.{SeesFolder}
 
 -- ---- the chain
 
@@ -97,27 +98,27 @@ fits_behind : (left : Option Turn) → Fits left (debt_of left)
 fits_behind None = tt
 fits_behind (Some turn) = refl
 
-module _ {S : Type 0} (may_leave : S → Folder → Type 0) (moment : S → ℕ) (left_since : S → ℕ → Folder → Type 0) (log : Log) (debt : Debt) (chain mid : Chain) (old between : S) where
-  since_repair : {T E : Type 0} (turn : Option Turn) (result : Result T E) → RepairsQuietly may_leave moment left_since log debt chain mid result old between → LeavesOnly moment left_since old between (MayGiveOn log debt turn chain)
-  since_repair turn result quiet = weaker moment left_since old between (MayGive log debt chain) (MayGiveOn log debt turn chain) quiet.since (λ c gives. inl gives)
+module _ {S : Type 0} (sees : SeesFolder S) (log : Log) (debt : Debt) (chain mid : Chain) (old between : S) where
+  since_repair : {T E : Type 0} (turn : Option Turn) (result : Result T E) → RepairsQuietly sees log debt chain mid result old between → LeavesOnly sees old between (MayGiveOn log debt turn chain)
+  since_repair turn result quiet = weaker sees old between (MayGive log debt chain) (MayGiveOn log debt turn chain) quiet.since (λ c gives. inl gives)
 
-  pub quiet_failed : {T U E F : Type 0} (e : E) (f : F) (owed left turn : Option Turn) → (mid ≡ chain) × (left ≡ owed) → Fits owed debt → RepairsQuietly may_leave moment left_since log debt chain mid {T = T} {E = E} (Err e) old between
-      → MakesWayQuietly may_leave moment left_since log debt owed left turn chain mid {T = U} {E = F} (Err f) old between
+  pub quiet_failed : {T U E F : Type 0} (e : E) (f : F) (owed left turn : Option Turn) → (mid ≡ chain) × (left ≡ owed) → Fits owed debt → RepairsQuietly sees log debt chain mid {T = T} {E = E} (Err e) old between
+      → MakesWayQuietly sees log debt owed left turn chain mid {T = U} {E = F} (Err f) old between
   quiet_failed e f owed left turn same fits quiet = record {
     since = since_repair turn (Err e) quiet;
     ok = tt;
     err = (debt, inl (same.0, same.1, refl), subst (λ (o : Option Turn). Fits o debt) (sym same.1) fits, quiet.err);
   }
 
-  pub quiet_paid : {T U E F : Type 0} (x : T) (y : U) (owed left : Option Turn) → RepairsQuietly may_leave moment left_since log debt chain mid {T = T} {E = E} (Ok x) old between → MakesWayQuietly may_leave moment left_since log debt owed left None chain mid {T = U} {E = F} (Ok y) old between
+  pub quiet_paid : {T U E F : Type 0} (x : T) (y : U) (owed left : Option Turn) → RepairsQuietly sees log debt chain mid {T = T} {E = E} (Ok x) old between → MakesWayQuietly sees log debt owed left None chain mid {T = U} {E = F} (Ok y) old between
   quiet_paid x y owed left quiet = record { since = since_repair None (Ok x) quiet; ok = quiet.ok; err = tt }
 
   pub quiet_turned : {T U E F : Type 0} (x : T) (owed : Option Turn) (turn : Turn) (left : Option Turn) (next : Chain) (new : S) (result : Result U F) → owed ≡ None → mid ≡ repaired owed chain → TurnsOver turn left mid next result
-      → RepairsQuietly may_leave moment left_since log debt chain mid {T = T} {E = E} (Ok x) old between → TurnsOverQuietly may_leave moment left_since log turn left mid next between new
-      → MakesWayQuietly may_leave moment left_since log debt owed left (Some turn) chain next result old new
+      → RepairsQuietly sees log debt chain mid {T = T} {E = E} (Ok x) old between → TurnsOverQuietly sees log turn left mid next between new
+      → MakesWayQuietly sees log debt owed left (Some turn) chain next result old new
   quiet_turned {U = U} {F = F} x owed turn left next new result none paid over quiet turns = record {
-    since = joined moment left_since old between new (MayGiveOn log debt (Some turn) chain) (since_repair (Some turn) (Ok x) quiet)
-        (weaker moment left_since between new (MayGive log (Last turn.new) mid) (MayGiveOn log debt (Some turn) chain) turns.since gives);
+    since = joined sees old between new (MayGiveOn log debt (Some turn) chain) (since_repair (Some turn) (Ok x) quiet)
+        (weaker sees between new (MayGive log (Last turn.new) mid) (MayGiveOn log debt (Some turn) chain) turns.since gives);
     ok = ok_by result over.paid;
     err = err_by result over;
   }
@@ -128,10 +129,10 @@ module _ {S : Type 0} (may_leave : S → Folder → Type 0) (moment : S → ℕ)
       gives : (c : Folder) → MayGive log (Last turn.new) mid c → MayGiveOn log debt (Some turn) chain c
       gives c found = ⊎_elim (λ here. inl (gives_now log debt chain c here)) (λ there. inr (refl, there)) (subst (λ (k : Chain). MayGive log (Last turn.new) k c) is found)
 
-      ok_by : (r : Result U F) → OnOk r (left ≡ None) → OnOk r (Stands may_leave log Nothing next new)
-      ok_by (Ok y) none = subst (λ (o : Option Turn). Stands may_leave log (debt_of o) next new) none turns.stands
+      ok_by : (r : Result U F) → OnOk r (left ≡ None) → OnOk r (Stands sees log Nothing next new)
+      ok_by (Ok y) none = subst (λ (o : Option Turn). Stands sees log (debt_of o) next new) none turns.stands
       ok_by (Err f) none = tt
 
-      err_by : (r : Result U F) → TurnsOver turn left mid next r → OnErr r ((now : Debt) × IsLeftOnWay owed left (Some turn) chain next debt now × Fits left now × Stands may_leave log now next new)
+      err_by : (r : Result U F) → TurnsOver turn left mid next r → OnErr r ((now : Debt) × IsLeftOnWay owed left (Some turn) chain next debt now × Fits left now × Stands sees log now next new)
       err_by (Ok y) behind = tt
       err_by (Err f) behind = (debt_of left, left_turned owed left turn chain next debt (behind.chain ∙ paid) behind.kept, fits_behind left, turns.stands)

@@ -23,6 +23,7 @@ use Rattle.dv_writes.specs.declared.steps.Files.{Files}
 use Rattle.dv_writes.specs.declared.steps.Files.TheVariants as kind
 use Rattle.dv_writes.specs.Steps.{HasFiles, HoldsFiles, MayRenew}
 use Rattle.dv_writes.specs.Writes.{AreFilesOf, IsAfter, Write, log_with}
+use Rattle.dv_shelf.specs.Sees.{SeesFolder}
 
 -- ---- one folder
 
@@ -79,25 +80,25 @@ may_renew log received m (command.Append flags keywords message) steps is = subs
 may_renew log received m command.Check steps is = subst (MayRenew log m) (sym is.is) is.cache
 may_renew log received m c steps is = subst (MayRenew log m) (sym is) tt
 
-pub next_keeps : {S T E : Type 0} (files : S → Folder) (may_leave : S → Folder → Type 0) (log : Log) (write : Write) (m after : Mailbox) (steps : Files) (new : S) (result : Result T E)
-    → ((text : List ℕ) → steps ≡ kind.Message text → OnOk result ((c : Folder) → may_leave new c → GivesMail m text c)) → OnOk result (HasFiles files may_leave m steps new) → ((c : Folder) → may_leave new c → Keeps log m c)
-    → IsAfter log write m after → AreFilesOf log write.received m write.command steps → OnOk result (KeepsNext may_leave log (log_with log write m) after new)
-next_keeps files may_leave log write m after steps new (Ok x) mail has keeps gives are = record {
+pub next_keeps : {S T E : Type 0} (sees : SeesFolder S) (log : Log) (write : Write) (m after : Mailbox) (steps : Files) (new : S) (result : Result T E)
+    → ((text : List ℕ) → steps ≡ kind.Message text → OnOk result ((c : Folder) → sees.may_leave new c → GivesMail m text c)) → OnOk result (HasFiles sees m steps new) → ((c : Folder) → sees.may_leave new c → Keeps log m c)
+    → IsAfter log write m after → AreFilesOf log write.received m write.command steps → OnOk result (KeepsNext sees log (log_with log write m) after new)
+next_keeps sees log write m after steps new (Ok x) mail has keeps gives are = record {
   named = refl;
   keeps = λ c left. next_kept log write.author write.received write.view m after c (keeps c left) write.command steps (λ text is. mail text is c left) (has.crash c left) gives are;
 }
-next_keeps files may_leave log write m after steps new (Err e) mail has keeps gives are = tt
+next_keeps sees log write m after steps new (Err e) mail has keeps gives are = tt
 
 abbrev text_in : Files → List ℕ
 text_in (kind.Message text) = text
 text_in other = []
 
 -- behind a message file that was put
-pub mail_given : {S T E : Type 0} (files : S → Folder) (may_leave : S → Folder → Type 0) (m : Mailbox) (text : List ℕ) (new : S) (result : Result T E) → IsValid m
-    → ((message guid : List ℕ) → IsFileOf message guid text → OnOk result (HoldsMail files may_leave m.next_uid message guid new)) → (other : List ℕ) → kind.Message text ≡ kind.Message other
-    → OnOk result ((c : Folder) → may_leave new c → GivesMail m other c)
-mail_given files may_leave m text new (Ok x) valid held other is = λ c left. record {
+pub mail_given : {S T E : Type 0} (sees : SeesFolder S) (m : Mailbox) (text : List ℕ) (new : S) (result : Result T E) → IsValid m
+    → ((message guid : List ℕ) → IsFileOf message guid text → OnOk result (HoldsMail sees m.next_uid message guid new)) → (other : List ℕ) → kind.Message text ≡ kind.Message other
+    → OnOk result ((c : Folder) → sees.may_leave new c → GivesMail m other c)
+mail_given sees m text new (Ok x) valid held other is = λ c left. record {
   valid = valid;
   has = λ message guid file. (held message guid (subst (IsFileOf message guid) (sym (ap text_in is)) file)).crash c left;
 }
-mail_given files may_leave m text new (Err e) valid held other is = tt
+mail_given sees m text new (Err e) valid held other is = tt

@@ -1,5 +1,5 @@
 -- The steps of a write, and the files that it makes and removes before its group. The records take
--- the members of a shelf's type.
+-- what a shelf shows.
 use Rattle.std.specs.Prelude.{◌≡◌, ℕ, List, Contains, All, Option, Some, None, Result, OnOk, ⊤}
 use Rattle.dv_model.specs.declared.types.Mailbox.{Mailbox}
 use Rattle.dv_model.specs.Journals.{Log}
@@ -16,6 +16,7 @@ use Rattle.dv_writes.specs.declared.steps.Files.{Files}
 use Rattle.dv_writes.specs.declared.steps.Files.TheVariants as files
 use Rattle.dv_writes.specs.declared.steps.Steps.{Steps}
 use Rattle.dv_writes.specs.Ways.{IsDue, ready}
+use Rattle.dv_shelf.specs.Sees.{SeesFolder}
 
 -- ---- before they are written
 
@@ -51,10 +52,10 @@ HoldsFiles m (files.Check renewal) c =
     × (c name.Index ≡ Some renewal.index) × (c name.Cache ≡ Some renewal.cache)
 
 -- so have the files as they are read, and each folder that a crash now may leave
-pub record HasFiles {S : Type 0} (files : S → Folder) (may_leave : S → Folder → Type 0)
+pub record HasFiles {S : Type 0} (sees : SeesFolder S)
     (m : Mailbox) (steps : Files) (shelf : S) : Type 0 where
-  pub seen : HoldsFiles m steps (files shelf)
-  pub crash : (c : Folder) → may_leave shelf c → HoldsFiles m steps c
+  pub seen : HoldsFiles m steps (sees.files shelf)
+  pub crash : (c : Folder) → sees.may_leave shelf c → HoldsFiles m steps c
 
 -- the files that are written or removed
 abbrev pub IsNamed : Mailbox → Files → Name → Type 0

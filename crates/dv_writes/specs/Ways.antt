@@ -1,5 +1,5 @@
 -- What comes before a write's own files: what is owed is paid, and a long log rotated. The records
--- take the members of a shelf's type.
+-- take what a shelf shows.
 use Rattle.std.specs.Prelude.{◌≡◌, ◌⊎◌, ℕ, ◌<◌, List, Option, Some, None, IfSome, IsSome, Result, OnOk, OnErr}
 use Rattle.dv_model.specs.Journals.{Log}
 use Rattle.dv_shelf.specs.declared.shelf.Name.TheVariants as name
@@ -13,6 +13,7 @@ use Rattle.dv_rotation.specs.Texts.{IsTurnOf, turned}
 use Rattle.dv_keeping.specs.Debts.{Debt, Fits, Last, MayGive, Nothing, Stands, debt_of}
 use Rattle.dv_keeping.specs.Keeping.{Gives}
 use Rattle.dv_keeping.specs.Repairing.{IsOwing}
+use Rattle.dv_shelf.specs.Sees.{SeesFolder}
 
 -- ---- the chain
 
@@ -69,13 +70,12 @@ IsLeftOnWay owed left turn old new debt now =
 
 -- From rest to rest: behind Ok nothing is owed, behind an error what is left says. A crash at any
 -- moment leaves a folder that gives the mailbox, or that with what was owed.
-pub record MakesWayQuietly {S : Type 0} (may_leave : S → Folder → Type 0) (moment : S → ℕ)
-    (left_since : S → ℕ → Folder → Type 0) (log : Log) (debt : Debt) (owed left turn : Option Turn)
+pub record MakesWayQuietly {S : Type 0} (sees : SeesFolder S) (log : Log) (debt : Debt) (owed left turn : Option Turn)
     (chain new_chain : Chain) {T E : Type 0} (result : Result T E) (old new : S) : Type 0 where
-  pub since : LeavesOnly moment left_since old new (MayGiveOn log debt turn chain)
-  pub ok : OnOk result (Stands may_leave log Nothing new_chain new)
+  pub since : LeavesOnly sees old new (MayGiveOn log debt turn chain)
+  pub ok : OnOk result (Stands sees log Nothing new_chain new)
   pub err : OnErr result ((now : Debt) × IsLeftOnWay owed left turn chain new_chain debt now
-      × Fits left now × Stands may_leave log now new_chain new)
+      × Fits left now × Stands sees log now new_chain new)
 
 -- the cache file and the message files are as before
 pub record KeepsMails (old new : Folder) : Type 0 where

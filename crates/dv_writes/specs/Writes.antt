@@ -1,5 +1,5 @@
--- What a write does to a store's chain, and to what its folder gives. The records take the members
--- of a shelf's type.
+-- What a write does to a store's chain, and to what its folder gives. The records take what a
+-- shelf shows.
 use Rattle.std.specs.Prelude.{◌≡◌, ◌⊎◌, ◌↔◌, ℕ, List, Contains, Option, Some, None, IfSome, Result, IfOk, OnOk, OnErr}
 use Rattle.dv_model.specs.declared.types.Command.{Command}
 use Rattle.dv_model.specs.declared.types.Command.TheVariants as command
@@ -31,6 +31,7 @@ use Rattle.dv_writes.specs.declared.steps.Renewal.{Renewal}
 use Rattle.dv_writes.specs.declared.steps.Steps.{Steps}
 use Rattle.dv_writes.specs.Steps.{HasWritten}
 use Rattle.dv_writes.specs.Ways.{IsLeftOnWay, MayGiveOn, StopsOnWay, ready}
+use Rattle.dv_shelf.specs.Sees.{SeesFolder}
 
 -- ---- the chain
 
@@ -133,15 +134,14 @@ IsLeftByWrite log debt write owed left text steps old new now =
 -- From rest to rest: behind Ok with the group, and nothing is owed; behind an error as before, with
 -- what is left. A crash at any moment leaves the mailbox from before or with the group, whole. The
 -- message files, the index and the cache file are as the steps say.
-pub record WritesStore {S : Type 0} (files : S → Folder) (may_leave : S → Folder → Type 0)
-    (moment : S → ℕ) (left_since : S → ℕ → Folder → Type 0) (log : Log) (debt : Debt)
+pub record WritesStore {S : Type 0} (sees : SeesFolder S) (log : Log) (debt : Debt)
     (write : Write) (owed left : Option Turn) (text : List ℕ) (steps : Steps)
     (chain new_chain : Chain) {T E : Type 0} (result : Result T E) (old new : S) : Type 0 where
   pub ok : OnOk result
-      (Stands may_leave (log_with log write chain.live.mailbox) Nothing new_chain new)
+      (Stands sees (log_with log write chain.live.mailbox) Nothing new_chain new)
   pub err : OnErr result ((now : Debt)
       × IsLeftByWrite log debt write owed left text steps chain new_chain now × Fits left now
-      × Stands may_leave log now new_chain new)
-  pub any_moment : LeavesOnly moment left_since old new
+      × Stands sees log now new_chain new)
+  pub any_moment : LeavesOnly sees old new
       (MayGiveWrite log debt write owed text steps chain)
-  pub written : HasWritten chain.live.mailbox steps.files result (files old) (files new)
+  pub written : HasWritten chain.live.mailbox steps.files result (sees.files old) (sees.files new)

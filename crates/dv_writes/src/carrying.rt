@@ -32,14 +32,14 @@ pub fn carry_out<S: Shelf>(
     // The mailbox, the mark, the touched UIDs and what is owed; what an error keeps.
     ensures value { CarriesOut owed.old owed.new text.now steps chain.old chain.new result }
     // What the folder gives and the files, at any moment and afterwards; from rest to rest.
-    ensures gives { S.tells → (log : Log) (debt : Debt) (write : Write) → Fits owed.old debt →
-        Stands S.may_leave log debt chain.old shelf.old →
-        IsWriteOf log write owed.old chain.old (S.files shelf.old) text.now steps →
-        WritesStore S.files S.may_leave S.moment S.left_since log debt write owed.old owed.new
+    ensures gives { S.sees.tells → (log : Log) (debt : Debt) (write : Write) → Fits owed.old debt →
+        Stands S.sees log debt chain.old shelf.old →
+        IsWriteOf log write owed.old chain.old (S.sees.files shelf.old) text.now steps →
+        WritesStore S.sees log debt write owed.old owed.new
         text.now steps chain.old chain.new result shelf.old shelf.new }
     // No message file is read; an error has its cause.
-    ensures mail_reads { S.mail_reads shelf.new ≡ S.mail_reads shelf.old }
-    ensures cause { HasCause (S.fault_count shelf.old) (S.fault_count shelf.new) result }
+    ensures mail_reads { S.sees.mail_reads shelf.new ≡ S.sees.mail_reads shelf.old }
+    ensures cause { HasCause (S.sees.fault_count shelf.old) (S.sees.fault_count shelf.new) result }
 {
     let Steps {
         turn,

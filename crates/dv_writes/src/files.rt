@@ -20,18 +20,18 @@ use dv_shelf::{Failed, Shelf};
 fn check_files<S: Shelf>(chain: &Chain, shelf: &mut S, renewal: &Renewal) -> Result<(), Failed>
     requires { AreFilesFor chain.now (kind.Check renewal.now) }
     // Behind Ok they are written, in the files and whatever a crash leaves; the other files stay.
-    ensures written { S.tells → OnOk result (HasFiles S.files S.may_leave
+    ensures written { S.sees.tells → OnOk result (HasFiles S.sees
         chain.now.live.mailbox (kind.Check renewal.now) shelf.new) }
-    ensures others { S.tells → KeepsUnnamed chain.now.live.mailbox (kind.Check renewal.now)
-        (S.files shelf.old) (S.files shelf.new) }
+    ensures others { S.sees.tells → KeepsUnnamed chain.now.live.mailbox (kind.Check renewal.now)
+        (S.sees.files shelf.old) (S.sees.files shelf.new) }
     // What the folder gives stays, at any moment.
-    ensures quiet { S.tells → (log : Log) →
-        Stands S.may_leave log Nothing chain.now shelf.old →
+    ensures quiet { S.sees.tells → (log : Log) →
+        Stands S.sees log Nothing chain.now shelf.old →
         MayRenew log chain.now.live.mailbox (kind.Check renewal.now) →
-        IsQuiet S.may_leave S.moment S.left_since log chain.now shelf.old shelf.new }
+        IsQuiet S.sees log chain.now shelf.old shelf.new }
     // No message file is read; an error has its cause.
-    ensures mail_reads { S.mail_reads shelf.new ≡ S.mail_reads shelf.old }
-    ensures cause { HasCause (S.fault_count shelf.old) (S.fault_count shelf.new) result }
+    ensures mail_reads { S.sees.mail_reads shelf.new ≡ S.sees.mail_reads shelf.old }
+    ensures cause { HasCause (S.sees.fault_count shelf.old) (S.sees.fault_count shelf.new) result }
 {
     clear(chain, shelf, renewal.gone.as_slice())?;
     renew(chain, shelf, &renewal.index, &renewal.cache)
@@ -43,25 +43,25 @@ fn check_files<S: Shelf>(chain: &Chain, shelf: &mut S, renewal: &Renewal) -> Res
 pub fn write_files<S: Shelf>(chain: &Chain, shelf: &mut S, files: &Files) -> Result<(), Failed>
     requires { AreFilesFor chain.now files.now }
     // Behind Ok they are written, in the files and whatever a crash leaves; the other files stay.
-    ensures written { S.tells → OnOk result
-        (HasFiles S.files S.may_leave chain.now.live.mailbox files.now shelf.new) }
-    ensures others { S.tells → KeepsUnnamed chain.now.live.mailbox files.now
-        (S.files shelf.old) (S.files shelf.new) }
+    ensures written { S.sees.tells → OnOk result
+        (HasFiles S.sees chain.now.live.mailbox files.now shelf.new) }
+    ensures others { S.sees.tells → KeepsUnnamed chain.now.live.mailbox files.now
+        (S.sees.files shelf.old) (S.sees.files shelf.new) }
     // What the folder gives stays, at any moment.
-    ensures quiet { S.tells → (log : Log) →
-        Stands S.may_leave log Nothing chain.now shelf.old →
+    ensures quiet { S.sees.tells → (log : Log) →
+        Stands S.sees log Nothing chain.now shelf.old →
         MayRenew log chain.now.live.mailbox files.now →
-        IsQuiet S.may_leave S.moment S.left_since log chain.now shelf.old shelf.new }
+        IsQuiet S.sees log chain.now shelf.old shelf.new }
     // Behind Ok whatever a crash leaves keeps the mailbox with the group of a write, too.
-    ensures next { S.tells → (log : Log) (write : Write) (after : Mailbox) →
-        Stands S.may_leave log Nothing chain.now shelf.old →
+    ensures next { S.sees.tells → (log : Log) (write : Write) (after : Mailbox) →
+        Stands S.sees log Nothing chain.now shelf.old →
         IsAfter log write chain.now.live.mailbox after →
         AreFilesOf log write.received chain.now.live.mailbox write.command files.now →
-        OnOk result (KeepsNext S.may_leave log
+        OnOk result (KeepsNext S.sees log
         (log_with log write chain.now.live.mailbox) after shelf.new) }
     // No message file is read; an error has its cause.
-    ensures mail_reads { S.mail_reads shelf.new ≡ S.mail_reads shelf.old }
-    ensures cause { HasCause (S.fault_count shelf.old) (S.fault_count shelf.new) result }
+    ensures mail_reads { S.sees.mail_reads shelf.new ≡ S.sees.mail_reads shelf.old }
+    ensures cause { HasCause (S.sees.fault_count shelf.old) (S.sees.fault_count shelf.new) result }
 {
     match files {
         Files::Nothing => Ok(()),

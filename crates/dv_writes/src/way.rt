@@ -27,16 +27,16 @@ pub fn make_way<S: Shelf>(
     // The chain and the turn that is owed, also behind an error.
     ensures value { MakesWay owed.old owed.new turn chain.old chain.new result }
     // What is left gives the same mailbox; from rest to rest.
-    ensures quiet { S.tells → (log : Log) (debt : Debt) → Fits owed.old debt →
-        Stands S.may_leave log debt chain.old shelf.old →
-        IfSome turn (λ t. ClosesLog chain.old t (S.files shelf.old)) →
-        MakesWayQuietly S.may_leave S.moment S.left_since log debt owed.old owed.new turn
+    ensures quiet { S.sees.tells → (log : Log) (debt : Debt) → Fits owed.old debt →
+        Stands S.sees log debt chain.old shelf.old →
+        IfSome turn (λ t. ClosesLog chain.old t (S.sees.files shelf.old)) →
+        MakesWayQuietly S.sees log debt owed.old owed.new turn
         chain.old chain.new result shelf.old shelf.new }
     // The cache file and the message files stay.
-    ensures files { S.tells → KeepsMails (S.files shelf.old) (S.files shelf.new) }
+    ensures files { S.sees.tells → KeepsMails (S.sees.files shelf.old) (S.sees.files shelf.new) }
     // No message file is read; an error has its cause.
-    ensures mail_reads { S.mail_reads shelf.new ≡ S.mail_reads shelf.old }
-    ensures cause { HasCause (S.fault_count shelf.old) (S.fault_count shelf.new) result }
+    ensures mail_reads { S.sees.mail_reads shelf.new ≡ S.sees.mail_reads shelf.old }
+    ensures cause { HasCause (S.sees.fault_count shelf.old) (S.sees.fault_count shelf.new) result }
 {
     repair(chain, shelf, owed)?;
     match turn {

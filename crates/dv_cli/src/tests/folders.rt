@@ -1,10 +1,9 @@
 use super::rows::{APPEND, CLOSED, FIRST_FILE, HEADER, SEEN, VALIDITY, folder_of};
-use super::{Left, bytes_of, ends, files_of, given, last_line, play, play_in};
+use super::{Left, bytes_of, ends, files_of, given, last_line, play};
 use dv_model::{Bytes, List};
-use dv_shelf::{Folder, Gate, MemShelf, Name};
+use dv_shelf::{Folder, MemShelf, Name};
 use std::alloc::Global;
 use std::process::Abort;
-use std::sync::atomic::{AtomicU64, Ordering};
 use std::test::Fail;
 
 const EMPTY: &[(Name, &[&[u8]])] = &[];
@@ -237,35 +236,5 @@ fn files_are_joined_by_the_snapshot(rt: HostRuntime) -> Result<(), Fail> {
         given(b"a SELECT\n"),
     )?;
     ends(&rt, &gap, 3, "FAULT 3 Gap 1:72 2:40\n");
-    Ok(())
-}
-
-// Notes the numbers of each call as two digits.
-#[derive(Drop)]
-struct NotingGate {
-    notes: AtomicU64,
-}
-
-impl Gate for NotingGate {
-    fn before(&self, session: u32, command: u32) {
-        let noted = self.notes.load(Ordering::SeqCst);
-        let note = u64::from(session)
-            .wrapping_mul(10)
-            .wrapping_add(u64::from(command));
-        self.notes.store(noted.wrapping_mul(100).wrapping_add(note), Ordering::SeqCst);
-    }
-}
-
-#[test]
-fn the_gate_is_called_with_session_and_command(rt: HostRuntime) -> Result<(), Fail> {
-    let alloc = rt.alloc();
-    let gate = NotingGate {
-        notes: AtomicU64::new(0),
-    };
-    let shelf = MemShelf::new(alloc, 100_000, List::new(alloc), None)?;
-    let script = b"x SELECT\ny SELECT\nx NOOP\nz NOOP\nx NOOP\ny NOOP\n";
-    let left = play_in(alloc, shelf, &gate, given(script))?;
-    assert_eq!(rt; left.status, 0);
-    assert_eq!(rt; gate.notes.load(Ordering::SeqCst), 112112311322);
     Ok(())
 }

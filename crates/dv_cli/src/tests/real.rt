@@ -1,7 +1,7 @@
 use super::{bytes_of, ends, given, play_in, rows, strings};
 use crate::program::obey_read;
-use dv_folder::Folder as RealFolder;
-use dv_model::List;
+use dv_folder::{Folder as RealFolder, Layout, Missing};
+use dv_model::{List, NoMemory};
 use dv_shelf::{MemSink, Name, OpenGate, Shelf};
 use std::alloc::Global;
 use std::test::Fail;
@@ -11,6 +11,10 @@ use std::{fs, process};
 fn path_of(rt: HostRuntime, name: &str) -> Result<String, Fail> {
     let id = process::id(rt.process());
     Ok(format!(in rt.alloc(); "{name}_of_test_{id}")?)
+}
+
+fn real_folder(alloc: Global, rt: HostRuntime, path: &str) -> Result<RealFolder, NoMemory> {
+    RealFolder::new(alloc, rt, path, Layout::Mailbox, Missing::Make)
 }
 
 const FIRST: &[u8] = b"a SELECT\na APPEND () {5}\nhello\na STORE 1 +FLAGS (\\Seen)\n";
@@ -48,13 +52,13 @@ END 0 MARK 1:140 GROUPS 2
 fn a_real_folder_keeps_mail_until_the_next_run(rt: HostRuntime) -> Result<(), Fail> {
     let alloc = rt.alloc();
     let path = path_of(rt, "keeps")?;
-    let shelf = RealFolder::new(alloc, rt, path.as_str())?;
+    let shelf = real_folder(alloc, rt, path.as_str())?;
     let first = play_in(alloc, shelf, &OpenGate, given(FIRST))?;
     ends(&rt, &first, 0, FIRST_TEXT);
     let file = fs::read(&rt, format!(in alloc; "{path}/u.1")?)?;
     assert!(rt; file.as_slice() == rows::FIRST_FILE);
     drop(first);
-    let shelf = RealFolder::new(alloc, rt, path.as_str())?;
+    let shelf = real_folder(alloc, rt, path.as_str())?;
     let second = play_in(alloc, shelf, &OpenGate, given(SECOND))?;
     ends(&rt, &second, 0, SECOND_TEXT);
     drop(second);
@@ -66,10 +70,10 @@ fn a_real_folder_keeps_mail_until_the_next_run(rt: HostRuntime) -> Result<(), Fa
 fn a_second_run_at_once_is_refused(rt: HostRuntime) -> Result<(), Fail> {
     let alloc = rt.alloc();
     let path = path_of(rt, "locked")?;
-    let shelf = RealFolder::new(alloc, rt, path.as_str())?;
+    let shelf = real_folder(alloc, rt, path.as_str())?;
     let first = play_in(alloc, shelf, &OpenGate, given(FIRST))?;
     // the first one's folder is still held
-    let shelf = RealFolder::new(alloc, rt, path.as_str())?;
+    let shelf = real_folder(alloc, rt, path.as_str())?;
     let second = play_in(alloc, shelf, &OpenGate, given(SECOND))?;
     ends(&rt, &second, 2, "FAULT 2 DISK 1\n");
     ends(&rt, &first, 0, FIRST_TEXT);
@@ -150,5 +154,27 @@ fn help_names_each_command(rt: HostRuntime) -> Result<(), Fail> {
     ] {
         assert!(rt; super::count_of(out.taken(), word.as_bytes()) > 0, "{word}");
     }
+    Ok(())
+}
+
+#[test]
+fn a_rebuild_makes_no_folder(rt: HostRuntime) -> Result<(), Fail> {
+    let path = path_of(rt, "missing")?;
+    let (status, out, _errors) = obeyed(rt, &[path.as_str(), "rebuild"])?;
+    assert_eq!(rt; status, 2);
+    assert!(rt; out.taken() == b"FAULT 2 DISK 1\n".as_slice());
+    assert!(rt; fs::metadata(&rt, path.as_str()).is_err());
+    Ok(())
+}
+
+#[test]
+fn a_rebuild_says_what_it_found(rt: HostRuntime) -> Result<(), Fail> {
+    let path = path_of(rt, "empty")?;
+    fs::create_dir(&rt, path.as_str())?;
+    let (status, out, errors) = obeyed(rt, &[path.as_str(), "rebuild"])?;
+    assert_eq!(rt; status, 0);
+    assert!(rt; out.taken() == b"END 0 REBUILT kept 0 skipped 0\n".as_slice());
+    assert!(rt; !errors.taken().is_empty());
+    fs::remove_dir_all(&rt, path.as_str())?;
     Ok(())
 }

@@ -21,24 +21,24 @@ returns-in-Ok-clause-since g c = λ tells here settled.
     let S = g.S.Shelf in
     let log = c.args.log.now in
     let same = text_is log c.as_slice.result.now c.in_ok-text.text c.as_slice-2.result.now (sym c.is_open.ensures ∙ c.if-not-is_open.false) c.requires c.as_slice.ensures c.in_ok-text.ensures.ok c.as_slice-2.ensures in
-    let old = S.files c.args.shelf.now in
-    subst (λ (t : List ℕ). LeavesOnly S.moment S.left_since c.args.shelf.now c.replace.new.self (λ f. (f ≡ old) ⊎ (f ≡ with_file old Log (Some t)))) same
-    (replaced_since S.files S.may_leave S.moment S.left_since c.args.shelf.now c.replace.new.self (Some c.as_slice-2.result.now) (λ f left. g.met.S.Shelf.only_now c.args.shelf.now f tells left) settled (c.replace.ensures.time tells) (c.replace.ensures.crash tells))
+    let old = S.sees.files c.args.shelf.now in
+    subst (λ (t : List ℕ). LeavesOnly S.sees c.args.shelf.now c.replace.new.self (λ f. (f ≡ old) ⊎ (f ≡ with_file old Log (Some t)))) same
+    (replaced_since S.sees c.args.shelf.now c.replace.new.self (Some c.as_slice-2.result.now) (λ f left. g.met.S.Shelf.only_now c.args.shelf.now f tells left) settled (c.replace.ensures.time tells) (c.replace.ensures.crash tells))
 
 pub returns-clause-files : goal.returns-clause-files
 returns-clause-files g c = λ tells here.
     let S = g.S.Shelf in
     let log = c.args.log.now in
     let same = text_is log c.as_slice.result.now c.in_ok-text.text c.as_slice-2.result.now (sym c.is_open.ensures ∙ c.if-not-is_open.false) c.requires c.as_slice.ensures c.in_ok-text.ensures.ok c.as_slice-2.ensures in
-    let old = S.files c.args.shelf.now in
-    subst (λ (t : List ℕ). (S.files c.replace.new.self ≡ old) ⊎ (S.files c.replace.new.self ≡ with_file old Log (Some t))) same
-    (either_put old (S.files c.replace.new.self) (Some c.as_slice-2.result.now) (c.in-Err.ensures.err tells))
+    let old = S.sees.files c.args.shelf.now in
+    subst (λ (t : List ℕ). (S.sees.files c.replace.new.self ≡ old) ⊎ (S.sees.files c.replace.new.self ≡ with_file old Log (Some t))) same
+    (either_put old (S.sees.files c.replace.new.self) (Some c.as_slice-2.result.now) (c.in-Err.ensures.err tells))
 
 pub returns-clause-since : goal.returns-clause-since
 returns-clause-since g c = λ tells here settled.
     let S = g.S.Shelf in
     let log = c.args.log.now in
     let same = text_is log c.as_slice.result.now c.in_ok-text.text c.as_slice-2.result.now (sym c.is_open.ensures ∙ c.if-not-is_open.false) c.requires c.as_slice.ensures c.in_ok-text.ensures.ok c.as_slice-2.ensures in
-    let old = S.files c.args.shelf.now in
-    subst (λ (t : List ℕ). LeavesOnly S.moment S.left_since c.args.shelf.now c.replace.new.self (λ f. (f ≡ old) ⊎ (f ≡ with_file old Log (Some t)))) same
-    (replaced_since S.files S.may_leave S.moment S.left_since c.args.shelf.now c.replace.new.self (Some c.as_slice-2.result.now) (λ f left. g.met.S.Shelf.only_now c.args.shelf.now f tells left) settled (c.replace.ensures.time tells) (c.replace.ensures.crash tells))
+    let old = S.sees.files c.args.shelf.now in
+    subst (λ (t : List ℕ). LeavesOnly S.sees c.args.shelf.now c.replace.new.self (λ f. (f ≡ old) ⊎ (f ≡ with_file old Log (Some t)))) same
+    (replaced_since S.sees c.args.shelf.now c.replace.new.self (Some c.as_slice-2.result.now) (λ f left. g.met.S.Shelf.only_now c.args.shelf.now f tells left) settled (c.replace.ensures.time tells) (c.replace.ensures.crash tells))

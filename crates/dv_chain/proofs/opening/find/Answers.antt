@@ -11,18 +11,18 @@ returns-in_err-live-clause-err g c = λ tells.
     let files = c.in_ok-log.field-0 in
     let are = c.in_ok-log.ensures.ok tells in
     rw (p.1, p.2)
-    (joined_fault (g.S.Shelf.files c.args.shelf.now) files are c.in_err-live.field-0.0
+    (joined_fault (g.S.Shelf.sees.files c.args.shelf.now) files are c.in_err-live.field-0.0
     (c.in_err-live.ensures.given are.log.spots (joining (good_file files.log are.log.spots) are.rotated.scan) are.log.has (are.rotated.is are.log.spots)))
 
 pub returns-in_err-live-clause-cause : goal.returns-in_err-live-clause-cause
 returns-in_err-live-clause-cause g c =
     let p = err_from_is_err_and c.from_residual-in_err-live.result c.from_residual-in_err-live.ensures.1 in
     rw (p.1, p.2)
-    (cause_still (g.S.Shelf.fault_count c.args.shelf.now) (g.S.Shelf.fault_count c.read_files.new.shelf) c.read_files.result _ c.read_files.ensures.cause c.in_err-live.ensures.disk)
+    (cause_still (g.S.Shelf.sees.fault_count c.args.shelf.now) (g.S.Shelf.sees.fault_count c.read_files.new.shelf) c.read_files.result _ c.read_files.ensures.cause c.in_err-live.ensures.disk)
 
 pub returns-clause-ok : goal.returns-clause-ok
 returns-clause-ok g c = λ tells.
     let files = c.in_ok-log.field-0 in
     let are = c.in_ok-log.ensures.ok tells in
-    joined_end (g.S.Shelf.files c.args.shelf.now) files are c.in_ok-live.live
+    joined_end (g.S.Shelf.sees.files c.args.shelf.now) files are c.in_ok-live.live
     (c.in_ok-live.ensures.given are.log.spots (joining (good_file files.log are.log.spots) are.rotated.scan) are.log.has (are.rotated.is are.log.spots))

@@ -13,10 +13,10 @@ returns-in_err-mend-clause-files g c = λ tells.
     let p = err_from_is_err_and c.from_residual-in_err-mend.result c.from_residual-in_err-mend.ensures.1 in
     let end = c.in_ok-log.ensures.ok tells in
     let looks = c.find.ensures.looks tells in
-    let there = still_there S.files S.may_leave S.moment S.left_since c.args.shelf.now c.find.new.shelf c.in_ok-log.log end.is looks in
-    let new = S.files c.mend.new.shelf in
+    let there = still_there S.sees c.args.shelf.now c.find.new.shelf c.in_ok-log.log end.is looks in
+    let new = S.sees.files c.mend.new.shelf in
     rw (p.1, p.2)
-    (fault_leaves (S.files c.args.shelf.now) new c.in_ok-log.log end.is c.in_err-mend.field-0.0
+    (fault_leaves (S.sees.files c.args.shelf.now) new c.in_ok-log.log end.is c.in_err-mend.field-0.0
     (subst (λ (d : Folder). LeavesMended d c.in_ok-log.log new (Err c.in_err-mend.field-0.0)) looks.same (c.in_err-mend.ensures.files tells there)))
 
 pub returns-in_err-mend-clause-quiet : goal.returns-in_err-mend-clause-quiet
@@ -24,23 +24,23 @@ returns-in_err-mend-clause-quiet g c = λ tells settled.
     let S = g.S.Shelf in
     let end = c.in_ok-log.ensures.ok tells in
     let looks = c.find.ensures.looks tells in
-    let there = still_there S.files S.may_leave S.moment S.left_since c.args.shelf.now c.find.new.shelf c.in_ok-log.log end.is looks in
-    let still = settled_still S.files S.may_leave S.moment S.left_since c.args.shelf.now c.find.new.shelf settled looks in
-    opened_quiet S.files S.may_leave S.moment S.left_since c.args.shelf.now c.find.new.shelf c.mend.new.shelf c.in_ok-log.log end.is settled looks (c.mend.ensures.since tells there still)
+    let there = still_there S.sees c.args.shelf.now c.find.new.shelf c.in_ok-log.log end.is looks in
+    let still = settled_still S.sees c.args.shelf.now c.find.new.shelf settled looks in
+    opened_quiet S.sees c.args.shelf.now c.find.new.shelf c.mend.new.shelf c.in_ok-log.log end.is settled looks (c.mend.ensures.since tells there still)
 
 pub returns-clause-chain : goal.returns-clause-chain
 returns-clause-chain g c = λ tells.
     let end = c.in_ok-log.ensures.ok tells in
-    chain_of (g.S.Shelf.files c.args.shelf.now) c.in_ok-log.log end.is _ refl refl refl refl refl refl
+    chain_of (g.S.Shelf.sees.files c.args.shelf.now) c.in_ok-log.log end.is _ refl refl refl refl refl refl
 
 pub returns-clause-quiet : goal.returns-clause-quiet
 returns-clause-quiet g c = λ tells settled.
     let S = g.S.Shelf in
     let end = c.in_ok-log.ensures.ok tells in
     let looks = c.find.ensures.looks tells in
-    let there = still_there S.files S.may_leave S.moment S.left_since c.args.shelf.now c.find.new.shelf c.in_ok-log.log end.is looks in
-    let still = settled_still S.files S.may_leave S.moment S.left_since c.args.shelf.now c.find.new.shelf settled looks in
-    opened_quiet S.files S.may_leave S.moment S.left_since c.args.shelf.now c.find.new.shelf c.mend.new.shelf c.in_ok-log.log end.is settled looks (c.mend.ensures.since tells there still)
+    let there = still_there S.sees c.args.shelf.now c.find.new.shelf c.in_ok-log.log end.is looks in
+    let still = settled_still S.sees c.args.shelf.now c.find.new.shelf settled looks in
+    opened_quiet S.sees c.args.shelf.now c.find.new.shelf c.mend.new.shelf c.in_ok-log.log end.is settled looks (c.mend.ensures.since tells there still)
 
 pub returns-clause-rests : goal.returns-clause-rests
 returns-clause-rests g c = λ tells settled.
@@ -48,10 +48,10 @@ returns-clause-rests g c = λ tells settled.
     let old = c.args.shelf.now in
     let end = c.in_ok-log.ensures.ok tells in
     let looks = c.find.ensures.looks tells in
-    let there = still_there S.files S.may_leave S.moment S.left_since old c.find.new.shelf c.in_ok-log.log end.is looks in
-    let still = settled_still S.files S.may_leave S.moment S.left_since old c.find.new.shelf settled looks in
-    let put = opened_put (S.files old) (S.files c.find.new.shelf) (S.files c.mend.new.shelf) c.in_ok-log.log end.is looks.same (c.in_ok-mend.ensures.files tells there) in
-    opened_rests S.files S.may_leave old c.mend.new.shelf _
-    (chain_of (S.files old) c.in_ok-log.log end.is _ refl refl refl refl refl refl)
+    let there = still_there S.sees old c.find.new.shelf c.in_ok-log.log end.is looks in
+    let still = settled_still S.sees old c.find.new.shelf settled looks in
+    let put = opened_put (S.sees.files old) (S.sees.files c.find.new.shelf) (S.sees.files c.mend.new.shelf) c.in_ok-log.log end.is looks.same (c.in_ok-mend.ensures.files tells there) in
+    opened_rests S.sees old c.mend.new.shelf _
+    (chain_of (S.sees.files old) c.in_ok-log.log end.is _ refl refl refl refl refl refl)
     (record { end = c.in_ok-log.ensures.whole.fits; count = c.in_ok-log.ensures.whole.count; named = c.in_ok-log.ensures.whole.named })
     end.found put (c.in_ok-mend.ensures.settled tells still)

@@ -24,5 +24,5 @@ returns-clause-runs g c = λ tells timed settled is_true.
     let S = g.S.Shelf in
     let C = g.C.Clock in
     let o = c.run_folder.result in
-    subst (λ (ls : List NamedLine). RunsOver S.files S.may_leave S.moment S.left_since (C.upcoming c.args.clock) (C.upcoming o.clock) (S.fault_count c.args.shelf) (S.fault_count o.shelf)
+    subst (λ (ls : List NamedLine). RunsOver S.sees (C.sees.upcoming c.args.clock) (C.sees.upcoming o.clock) (S.sees.fault_count c.args.shelf) (S.sees.fault_count o.shelf)
     (Some c.args.load) ls o.end ⊥ [] [] c.args.shelf o.shelf) c.generated_lines-lines.ensures.lines (c.run_folder.ensures.runs tells timed settled is_true)

@@ -11,8 +11,8 @@ returns-in-Ok-clause-begins g c = λ tells timed settled new.
     let C = g.C.Clock in
     let done = c.in-Ok.ensures in
     let types = c.have_types.ensures in
-    let none = has_none (S.files c.args.shelf) new in
-    begun_made S.files S.may_leave S.moment S.left_since C.upcoming (C.upcoming c.args.clock) c.args.shelf new c.in-Ok.store (done.first timed) (done.opens tells none).0 done.fresh (done.files tells timed)
+    let none = has_none (S.sees.files c.args.shelf) new in
+    begun_made S.sees C.sees (C.sees.upcoming c.args.clock) c.args.shelf new c.in-Ok.store (done.first timed) (done.opens tells none).0 done.fresh (done.files tells timed)
     (done.quiet tells timed none settled) (record { valid = types.valid; resets = types.resets; place = types.place; indexid = types.indexid }) (done.clock timed)
 
 pub returns-in-Err-clause-begins : goal.returns-in-Err-clause-begins
@@ -20,19 +20,19 @@ returns-in-Err-clause-begins g c = λ tells timed settled new.
     let S = g.S.Shelf in
     let C = g.C.Clock in
     let done = c.in-Err.ensures in
-    let none = has_none (S.files c.args.shelf) new in
-    unopened_made S.files S.may_leave S.moment S.left_since C.upcoming (C.upcoming c.args.clock) c.args.shelf new c.in-Err.e done.err (done.files tells timed) (done.quiet tells timed none settled)
+    let none = has_none (S.sees.files c.args.shelf) new in
+    unopened_made S.sees C.sees (C.sees.upcoming c.args.clock) c.args.shelf new c.in-Err.e done.err (done.files tells timed) (done.quiet tells timed none settled)
     (λ t f le left. g.met.S.Shelf.counts_now c.in-Err.e.0 t f le left) (omega (arith, g.met.C.Clock.readings_small c.args.clock 0 timed))
 
 pub returns-in-Ok-clause-clock : goal.returns-in-Ok-clause-clock
 returns-in-Ok-clause-clock g c = λ timed.
     let C = g.C.Clock in
-    read_once (C.upcoming c.args.clock) (C.upcoming c.in-Ok.store.clock) (Ok c.in-Ok.store.chain) (c.in-Ok.ensures.clock timed) tt
+    read_once (C.sees.upcoming c.args.clock) (C.sees.upcoming c.in-Ok.store.clock) (Ok c.in-Ok.store.chain) (c.in-Ok.ensures.clock timed) tt
 
 pub returns-in-Err-clause-clock : goal.returns-in-Err-clause-clock
 returns-in-Err-clause-clock g c = λ timed.
     let C = g.C.Clock in
-    read_once {A = Chain} (C.upcoming c.args.clock) (C.upcoming c.in-Err.e.1) (Err c.in-Err.e.2) (c.in-Err.ensures.clock timed) c.in-Err.ensures.err
+    read_once {A = Chain} (C.sees.upcoming c.args.clock) (C.sees.upcoming c.in-Err.e.1) (Err c.in-Err.e.2) (c.in-Err.ensures.clock timed) c.in-Err.ensures.err
 
 -- ---- what is found is told
 

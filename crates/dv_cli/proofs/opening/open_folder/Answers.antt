@@ -5,8 +5,7 @@ use Rattle.dv_chain.specs.declared.chain.Chain.{Chain}
 use Rattle.dv_chain.proofs.Shelves.{cause_then, settled_still}
 use Rattle.dv_store.specs.Opening.{answered, clock_behind, shelf_behind}
 use Rattle.dv_serial.specs.NextRuns.{IsTrueFolder}
-use Rattle.dv_cli.specs.Starts.{IsNew}
-use Rattle.dv_shelf.specs.Folders.{Folder}
+use Rattle.dv_shelf.specs.Folders.{Folder, IsNew}
 use Rattle.dv_cli.specs.Causes.{TellsOpening}
 use Rattle.dv_cli.proofs.Created.{outside_none}
 use Rattle.dv_cli.proofs.Looked.{begins_behind, cause_told, unlooked}
@@ -20,9 +19,9 @@ returns-in-Ok-true-clause-begins g c = λ tells timed settled is_true.
     let S = g.S.Shelf in
     let C = g.C.Clock in
     let looks = c.has_mailbox.ensures.looks tells in
-    let some : IsNew (S.files c.args.shelf) → ⊥ = MatchBool-at_true (IsNew (S.files c.args.shelf) → ⊥) (IsNew (S.files c.args.shelf)) c.in-Ok-true.field-0-test (c.in-Ok-true.ensures.is tells) in
-    begins_behind S.files S.may_leave S.moment S.left_since C.upcoming (C.upcoming c.args.clock) c.args.shelf c.has_mailbox.new.shelf settled looks c.open_found.result is_true
-    (c.open_found.ensures.begins tells (settled_still S.files S.may_leave S.moment S.left_since c.args.shelf c.has_mailbox.new.shelf settled looks) (subst IsTrueFolder (sym looks.same) is_true)
+    let some : IsNew (S.sees.files c.args.shelf) → ⊥ = MatchBool-at_true (IsNew (S.sees.files c.args.shelf) → ⊥) (IsNew (S.sees.files c.args.shelf)) c.in-Ok-true.field-0-test (c.in-Ok-true.ensures.is tells) in
+    begins_behind S.sees C.sees (C.sees.upcoming c.args.clock) c.args.shelf c.has_mailbox.new.shelf settled looks c.open_found.result is_true
+    (c.open_found.ensures.begins tells (settled_still S.sees c.args.shelf c.has_mailbox.new.shelf settled looks) (subst IsTrueFolder (sym looks.same) is_true)
     (λ new. some (subst IsNew looks.same new)))
 
 pub returns-in-Ok-false-clause-begins : goal.returns-in-Ok-false-clause-begins
@@ -30,44 +29,44 @@ returns-in-Ok-false-clause-begins g c = λ tells timed settled is_true.
     let S = g.S.Shelf in
     let C = g.C.Clock in
     let looks = c.has_mailbox.ensures.looks tells in
-    let new : IsNew (S.files c.args.shelf) = MatchBool-at_false (IsNew (S.files c.args.shelf) → ⊥) (IsNew (S.files c.args.shelf)) c.in-Ok-false.field-0-test (c.in-Ok-false.ensures.is tells) in
-    begins_behind S.files S.may_leave S.moment S.left_since C.upcoming (C.upcoming c.args.clock) c.args.shelf c.has_mailbox.new.shelf settled looks c.make_new.result is_true
-    (c.make_new.ensures.begins tells timed (settled_still S.files S.may_leave S.moment S.left_since c.args.shelf c.has_mailbox.new.shelf settled looks) (subst IsNew (sym looks.same) new))
+    let new : IsNew (S.sees.files c.args.shelf) = MatchBool-at_false (IsNew (S.sees.files c.args.shelf) → ⊥) (IsNew (S.sees.files c.args.shelf)) c.in-Ok-false.field-0-test (c.in-Ok-false.ensures.is tells) in
+    begins_behind S.sees C.sees (C.sees.upcoming c.args.clock) c.args.shelf c.has_mailbox.new.shelf settled looks c.make_new.result is_true
+    (c.make_new.ensures.begins tells timed (settled_still S.sees c.args.shelf c.has_mailbox.new.shelf settled looks) (subst IsNew (sym looks.same) new))
 
 pub returns-in-Err-clause-begins : goal.returns-in-Err-clause-begins
 returns-in-Err-clause-begins g c = λ tells timed settled is_true.
     let S = g.S.Shelf in
     let C = g.C.Clock in
-    unlooked S.files S.may_leave S.moment S.left_since C.upcoming (C.upcoming c.args.clock) c.args.shelf c.has_mailbox.new.shelf settled (c.has_mailbox.ensures.looks tells) c.in-Err.fault c.in-Err.ensures.err
+    unlooked S.sees C.sees (C.sees.upcoming c.args.clock) c.args.shelf c.has_mailbox.new.shelf settled (c.has_mailbox.ensures.looks tells) c.in-Err.fault c.in-Err.ensures.err
 
 -- ---- the clock
 
 pub returns-in-Ok-true-clause-clock : goal.returns-in-Ok-true-clause-clock
 returns-in-Ok-true-clause-clock g c = λ timed.
     let C = g.C.Clock in
-    unread_opening (C.upcoming c.args.clock) (C.upcoming (clock_behind c.open_found.result)) (answered c.open_found.result) (ap C.upcoming c.open_found.ensures.clock)
+    unread_opening (C.sees.upcoming c.args.clock) (C.sees.upcoming (clock_behind c.open_found.result)) (answered c.open_found.result) (ap C.sees.upcoming c.open_found.ensures.clock)
 
 pub returns-in-Err-clause-clock : goal.returns-in-Err-clause-clock
 returns-in-Err-clause-clock g c = λ timed.
     let C = g.C.Clock in
-    unread_opening {A = Chain} (C.upcoming c.args.clock) (C.upcoming c.args.clock) (Err c.in-Err.fault) refl
+    unread_opening {A = Chain} (C.sees.upcoming c.args.clock) (C.sees.upcoming c.args.clock) (Err c.in-Err.fault) refl
 
 -- ---- causes
 
 pub returns-in-Ok-true-clause-cause : goal.returns-in-Ok-true-clause-cause
 returns-in-Ok-true-clause-cause g c =
     let S = g.S.Shelf in
-    cause_then (S.fault_count c.args.shelf) (S.fault_count c.has_mailbox.new.shelf) (S.fault_count (shelf_behind c.open_found.result)) c.has_mailbox.result (answered c.open_found.result) c.has_mailbox.ensures.cause c.open_found.ensures.cause
+    cause_then (S.sees.fault_count c.args.shelf) (S.sees.fault_count c.has_mailbox.new.shelf) (S.sees.fault_count (shelf_behind c.open_found.result)) c.has_mailbox.result (answered c.open_found.result) c.has_mailbox.ensures.cause c.open_found.ensures.cause
 
 pub returns-in-Ok-false-clause-cause : goal.returns-in-Ok-false-clause-cause
 returns-in-Ok-false-clause-cause g c =
     let S = g.S.Shelf in
-    cause_then (S.fault_count c.args.shelf) (S.fault_count c.has_mailbox.new.shelf) (S.fault_count (shelf_behind c.make_new.result)) c.has_mailbox.result (answered c.make_new.result) c.has_mailbox.ensures.cause c.make_new.ensures.cause
+    cause_then (S.sees.fault_count c.args.shelf) (S.sees.fault_count c.has_mailbox.new.shelf) (S.sees.fault_count (shelf_behind c.make_new.result)) c.has_mailbox.result (answered c.make_new.result) c.has_mailbox.ensures.cause c.make_new.ensures.cause
 
 pub returns-in-Err-clause-cause : goal.returns-in-Err-clause-cause
 returns-in-Err-clause-cause g c =
     let S = g.S.Shelf in
-    cause_told Bool Chain (S.fault_count c.args.shelf) (S.fault_count c.has_mailbox.new.shelf) c.in-Err.fault c.in-Err.ensures.cause
+    cause_told Bool Chain (S.sees.fault_count c.args.shelf) (S.sees.fault_count c.has_mailbox.new.shelf) c.in-Err.fault c.in-Err.ensures.cause
 
 -- ---- what is found is told
 
@@ -75,7 +74,7 @@ pub returns-in-Ok-true-clause-found : goal.returns-in-Ok-true-clause-found
 returns-in-Ok-true-clause-found g c = λ tells.
     let S = g.S.Shelf in
     let looks = c.has_mailbox.ensures.looks tells in
-    let some : IsNew (S.files c.args.shelf) → ⊥ = MatchBool-at_true (IsNew (S.files c.args.shelf) → ⊥) (IsNew (S.files c.args.shelf)) c.in-Ok-true.field-0-test (c.in-Ok-true.ensures.is tells) in
+    let some : IsNew (S.sees.files c.args.shelf) → ⊥ = MatchBool-at_true (IsNew (S.sees.files c.args.shelf) → ⊥) (IsNew (S.sees.files c.args.shelf)) c.in-Ok-true.field-0-test (c.in-Ok-true.ensures.is tells) in
     subst (λ (folder : Folder). TellsOpening folder (answered c.open_found.result)) looks.same
     (c.open_found.ensures.found tells (λ new. some (subst IsNew looks.same new)))
 
@@ -83,7 +82,7 @@ pub returns-in-Ok-false-clause-found : goal.returns-in-Ok-false-clause-found
 returns-in-Ok-false-clause-found g c = λ tells.
     let S = g.S.Shelf in
     let looks = c.has_mailbox.ensures.looks tells in
-    let new : IsNew (S.files c.args.shelf) = MatchBool-at_false (IsNew (S.files c.args.shelf) → ⊥) (IsNew (S.files c.args.shelf)) c.in-Ok-false.field-0-test (c.in-Ok-false.ensures.is tells) in
+    let new : IsNew (S.sees.files c.args.shelf) = MatchBool-at_false (IsNew (S.sees.files c.args.shelf) → ⊥) (IsNew (S.sees.files c.args.shelf)) c.in-Ok-false.field-0-test (c.in-Ok-false.ensures.is tells) in
     subst (λ (folder : Folder). TellsOpening folder (answered c.make_new.result)) looks.same
     (c.make_new.ensures.found tells (subst IsNew (sym looks.same) new))
 

@@ -5,8 +5,8 @@ use Rattle.dv_cli.proofs.reading.read_script.Given as goal
 abbrev pub invariant-loop-script : goal.invariant-loop-script
 invariant-loop-script g l = record {
   size : length l.text ≤ read_limit;
-  so_far : g.I.Source.tells → g.I.Source.left l.initial.script ≡ l.text ++ g.I.Source.left l.script;
-  later : g.I.Source.fault_count l.initial.script ≤ g.I.Source.fault_count l.script;
+  so_far : g.I.Source.sees.tells → g.I.Source.sees.left l.initial.script ≡ l.text ++ g.I.Source.sees.left l.script;
+  later : g.I.Source.sees.fault_count l.initial.script ≤ g.I.Source.sees.fault_count l.script;
 }
 
 abbrev pub decreases-loop-script : goal.decreases-loop-script

@@ -15,26 +15,26 @@ returns-in-Ok-clause-runs g c = λ tells timed settled is_true.
     let O = g.O.Sink in
     let served = c.serve_lines.ensures in
     let behind = c.serve_lines.result in
-    runs_serving S.files S.may_leave S.moment S.left_since (C.upcoming c.args.clock) (C.upcoming behind.clock) (S.fault_count c.args.shelf) (S.fault_count behind.shelf) c.args.load (g.L.Lines.left c.args.lines.now)
-    O.tells (O.taken c.args.out.now) (O.taken c.serve_lines.new.out) c.args.shelf behind.shelf behind.end served.ends
-    (served.runs tells timed (C.upcoming c.args.clock) c.args.shelf (c.in-Ok.ensures.begins tells timed settled is_true) (S.fault_count c.args.shelf) c.in-Ok.ensures.cause.later)
+    runs_serving S.sees (C.sees.upcoming c.args.clock) (C.sees.upcoming behind.clock) (S.sees.fault_count c.args.shelf) (S.sees.fault_count behind.shelf) c.args.load (g.L.Lines.left c.args.lines.now)
+    O.sees.tells (O.sees.taken c.args.out.now) (O.sees.taken c.serve_lines.new.out) c.args.shelf behind.shelf behind.end served.ends.0
+    (served.runs tells timed (C.sees.upcoming c.args.clock) c.args.shelf (c.in-Ok.ensures.begins tells timed settled is_true) (S.sees.fault_count c.args.shelf) c.in-Ok.ensures.cause.later)
 
 pub returns-in-Ok-clause-cause : goal.returns-in-Ok-clause-cause
 returns-in-Ok-clause-cause g c =
     let S = g.S.Shelf in
     let O = g.O.Sink in
     let behind = c.serve_lines.result in
-    end_later (S.fault_count c.args.shelf) (S.fault_count c.in-Ok.store.shelf) (S.fault_count behind.shelf) (O.fault_count c.args.out.now) (O.fault_count c.serve_lines.new.out) c.in-Ok.ensures.cause.later behind.end
-    c.serve_lines.ensures.ends c.serve_lines.ensures.cause
+    end_later (S.sees.fault_count c.args.shelf) (S.sees.fault_count c.in-Ok.store.shelf) (S.sees.fault_count behind.shelf) (O.sees.fault_count c.args.out.now) (O.sees.fault_count c.serve_lines.new.out) c.in-Ok.ensures.cause.later behind.end
+    c.serve_lines.ensures.ends.0 c.serve_lines.ensures.cause
 
 pub returns-in-Ok-clause-readings : goal.returns-in-Ok-clause-readings
 returns-in-Ok-clause-readings g c = λ timed.
     let C = g.C.Clock in
     let behind = c.serve_lines.result in
-    let old = C.upcoming c.args.clock in
-    let mid = C.upcoming c.in-Ok.store.clock in
-    let new = C.upcoming behind.clock in
-    run_takes (length (g.L.Lines.left c.args.lines.now)) old new behind.end c.serve_lines.ensures.ends
+    let old = C.sees.upcoming c.args.clock in
+    let mid = C.sees.upcoming c.in-Ok.store.clock in
+    let new = C.sees.upcoming behind.clock in
+    run_takes (length (g.L.Lines.left c.args.lines.now)) old new behind.end c.serve_lines.ensures.ends.0
     (takes_both 1 (2 * length (g.L.Lines.left c.args.lines.now)) old mid new (c.in-Ok.ensures.clock timed) (c.serve_lines.ensures.readings timed))
 
 -- ---- the folder isn't opened
@@ -45,15 +45,15 @@ returns-in-Err-clause-runs g c = λ tells timed settled is_true. (λ told. refl,
 pub returns-in-Err-clause-cause : goal.returns-in-Err-clause-cause
 returns-in-Err-clause-cause g c =
     let S = g.S.Shelf in
-    unopened_cause Chain (S.fault_count c.args.shelf) (S.fault_count c.in-Err.shelf) (g.O.Sink.fault_count c.args.out.now) c.in-Err.fault c.in-Err.ensures.cause
+    unopened_cause Chain (S.sees.fault_count c.args.shelf) (S.sees.fault_count c.in-Err.shelf) (g.O.Sink.sees.fault_count c.args.out.now) c.in-Err.fault c.in-Err.ensures.cause
 
 pub returns-in-Err-clause-readings : goal.returns-in-Err-clause-readings
 returns-in-Err-clause-readings g c = λ timed.
     let C = g.C.Clock in
-    fault_takes Chain (Unit {0}) (C.upcoming c.args.clock) (C.upcoming c.in-Err.clock) c.in-Err.fault (c.in-Err.ensures.clock timed)
+    fault_takes Chain (Unit {0}) (C.sees.upcoming c.args.clock) (C.sees.upcoming c.in-Err.clock) c.in-Err.fault (c.in-Err.ensures.clock timed)
 
 -- ---- what is found is told
 
 pub returns-in-Ok-clause-found : goal.returns-in-Ok-clause-found
 returns-in-Ok-clause-found g c = λ tells.
-    served_told (g.S.Shelf.files c.args.shelf) c.serve_lines.result.end c.serve_lines.ensures.ends (c.in-Ok.ensures.found tells)
+    served_told (g.S.Shelf.sees.files c.args.shelf) c.serve_lines.result.end c.serve_lines.ensures.ends.0 (c.in-Ok.ensures.found tells)

@@ -7,7 +7,7 @@ returns-in_default-clause-runs g c = λ tells timed clock old begun base later.
     let S = g.S.Shelf in
     let shelf = c.args.store.shelf in
     rw c.unserved.ensures
-    (serves_none S.files S.may_leave S.moment S.left_since g.C.Clock.upcoming clock old c.args.store begun base c.args.load (S.fault_count shelf) later (g.L.Lines.left c.args.lines.now) g.O.Sink.tells (g.O.Sink.taken c.args.out.now)
+    (serves_none S.sees g.C.Clock.sees clock old c.args.store begun base c.args.load (S.sees.fault_count shelf) later (g.L.Lines.left c.args.lines.now) g.O.Sink.sees.tells (g.O.Sink.sees.taken c.args.out.now)
     (g.met.S.Shelf.leaves_files shelf tells))
 
 pub returns-clause-runs : goal.returns-clause-runs
@@ -17,6 +17,6 @@ returns-clause-runs g c = λ tells timed clock old begun base later.
     let served = c.serve_lines-served in
     let new = c.serve_lines-served.new.self in
     rw (c.end_behind-end.ensures, c.loaded_by-loaded.ensures, c.mark.ensures, c.count.ensures, c.parts-shelf.ensures)
-    (serves_all S.files S.may_leave S.moment S.left_since g.C.Clock.upcoming clock old c.args.store begun base c.args.load S.fault_count later (S.fault_count new.store.shelf) (g.L.Lines.left c.args.lines.now) O.tells (O.taken c.args.out.now)
-    (O.taken served.new.out) c.args.sessions c.in-Ok.seats served.result c.new-serial.result new c.in-Ok.ensures c.new-serial.ensures
+    (serves_all S.sees g.C.Clock.sees clock old c.args.store begun base c.args.load S.sees.fault_count later (S.sees.fault_count new.store.shelf) (g.L.Lines.left c.args.lines.now) O.sees.tells (O.sees.taken c.args.out.now)
+    (O.sees.taken served.new.out) c.args.sessions c.in-Ok.seats served.result c.new-serial.result new c.in-Ok.ensures c.new-serial.ensures
     (λ follows. served.ensures.runs tells timed (behind clock begun.used) begun.start base follows) (g.met.S.Shelf.leaves_files new.store.shelf tells))

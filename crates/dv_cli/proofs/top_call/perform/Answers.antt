@@ -20,9 +20,9 @@ returns-in-Run-clause-runs g c = λ tells timed settled is_true lines answers.
     let o = c.run_script.result in
     let t = task_of (map string_bytes c.args.words.now) in
     let run : t ≡ Some task.Run = sym c.task_of.ensures.is ∙ c.in-Some.is ∙ ap Some c.in-Run.is in
-    let has = seen t g.I.Source.tells (parsed (g.I.Source.left c.args.script.now)) lines (Some task.Run) run answers in
-    subst (λ (x : Option Task). RunsTask S.files S.may_leave S.moment S.left_since (C.upcoming c.args.clock) (C.upcoming o.clock) (S.fault_count c.args.shelf) (S.fault_count o.shelf)
-    x lines o.end O.tells (O.taken c.args.out.now) (O.taken c.run_script.new.out) c.args.shelf o.shelf) (sym run)
+    let has = seen t g.I.Source.sees.tells (parsed (g.I.Source.sees.left c.args.script.now)) lines (Some task.Run) run answers in
+    subst (λ (x : Option Task). RunsTask S.sees (C.sees.upcoming c.args.clock) (C.sees.upcoming o.clock) (S.sees.fault_count c.args.shelf) (S.sees.fault_count o.shelf)
+    x lines o.end O.sees.tells (O.sees.taken c.args.out.now) (O.sees.taken c.run_script.new.out) c.args.shelf o.shelf) (sym run)
     (record { runs = c.run_script.ensures.runs tells timed has.0 settled is_true lines has.1; loads = λ none. absurd (none tt); silent = λ none. absurd (none tt) })
 
 -- the folder is rebuilt
@@ -30,8 +30,9 @@ pub returns-in-Rebuild-clause-cause : goal.returns-in-Rebuild-clause-cause
 returns-in-Rebuild-clause-cause g c =
     let t = task_of (map string_bytes c.args.words.now) in
     let rebuild : t ≡ Some task.Rebuild = sym c.task_of.ensures.is ∙ c.in-Some.is ∙ ap Some c.in-Rebuild.is in (
-      subst (λ (x : Option Task). EndsBy x c.run_rebuild.result.end) (sym rebuild) c.run_rebuild.ensures.ends,
-      c.run_rebuild.ensures.cause (g.I.Source.fault_count c.args.script.now) (g.O.Sink.fault_count c.args.out.now),
+      subst (λ (x : Option Task). EndsBy x c.run_rebuild.result.end) (sym rebuild) c.run_rebuild.ensures.ends.0,
+      c.run_rebuild.ensures.cause (g.I.Source.sees.fault_count c.args.script.now) (g.O.Sink.sees.fault_count c.args.out.now),
+      c.run_rebuild.ensures.ends.1,
     )
 
 -- a generated script is run, and no reply is written
@@ -41,16 +42,16 @@ returns-in-Generate-clause-runs g c = λ tells timed settled is_true lines answe
     let C = g.C.Clock in
     let O = g.O.Sink in
     let o = c.run_load.result in
-    let taken = O.taken c.args.out.now in
+    let taken = O.sees.taken c.args.out.now in
     let t = task_of (map string_bytes c.args.words.now) in
     let load = c.in-Generate.load in
     let is : t ≡ Some (task.Generate load) = sym c.task_of.ensures.is ∙ c.in-Some.is ∙ ap Some c.in-Generate.is in
-    let same : lines ≡ generated_by load = seen t g.I.Source.tells (parsed (g.I.Source.left c.args.script.now)) lines (Some (task.Generate load)) is answers in
+    let same : lines ≡ generated_by load = seen t g.I.Source.sees.tells (parsed (g.I.Source.sees.left c.args.script.now)) lines (Some (task.Generate load)) is answers in
     let run =
-    ran S.files S.may_leave S.moment S.left_since (C.upcoming c.args.clock) (C.upcoming o.clock) (S.fault_count c.args.shelf) (S.fault_count o.shelf) (Some load) (generated_by load) c.args.shelf o.shelf
+    ran S.sees (C.sees.upcoming c.args.clock) (C.sees.upcoming o.clock) (S.sees.fault_count c.args.shelf) (S.sees.fault_count o.shelf) (Some load) (generated_by load) c.args.shelf o.shelf
     Rattle.std.proofs.Common.[] Rattle.std.proofs.Common.[] taken taken o.end (c.run_load.ensures.runs tells timed settled is_true) in
-    subst (λ (x : Option Task). RunsTask S.files S.may_leave S.moment S.left_since (C.upcoming c.args.clock) (C.upcoming o.clock) (S.fault_count c.args.shelf) (S.fault_count o.shelf)
-    x lines o.end O.tells taken taken c.args.shelf o.shelf) (sym is)
-    (subst (λ (ls : List NamedLine). RunsTask S.files S.may_leave S.moment S.left_since (C.upcoming c.args.clock) (C.upcoming o.clock) (S.fault_count c.args.shelf) (S.fault_count o.shelf)
-    (Some (task.Generate load)) ls o.end O.tells taken taken c.args.shelf o.shelf) (sym same)
+    subst (λ (x : Option Task). RunsTask S.sees (C.sees.upcoming c.args.clock) (C.sees.upcoming o.clock) (S.sees.fault_count c.args.shelf) (S.sees.fault_count o.shelf)
+    x lines o.end O.sees.tells taken taken c.args.shelf o.shelf) (sym is)
+    (subst (λ (ls : List NamedLine). RunsTask S.sees (C.sees.upcoming c.args.clock) (C.sees.upcoming o.clock) (S.sees.fault_count c.args.shelf) (S.sees.fault_count o.shelf)
+    (Some (task.Generate load)) ls o.end O.sees.tells taken taken c.args.shelf o.shelf) (sym same)
     (record { runs = inr run; loads = λ none. run; silent = λ none. refl }))

@@ -16,6 +16,7 @@ use Rattle.dv_cli.proofs.Statuses.{causes_of, comes_later, sink_cause}
 use Rattle.dv_cli.proofs.Takes.{status_takes}
 use Rattle.dv_cli.proofs.WholeRuns.{WellOr, Writes, ends_well, fault_is_told, lines_output, rebuilt_output, refused_output, script_output, start_is_served, task_output, told_plainly}
 use Rattle.dv_cli.proofs.WrongWords.{usage_prints, usage_status}
+use Rattle.dv_cli.proofs.Told.{fault_told, told_by}
 use Rattle.dv_cli.proofs.top_call.run.Given as given
 use Rattle.dv_cli.proofs.top_call.run.Goals as goal
 
@@ -26,35 +27,35 @@ module _ (g : given.Over) (c : goal.After-conclude-status g) where
   t = task_of (map string_bytes c.args.words.now)
 
   abbrev before : Counts
-  before = counts_of (g.S.Shelf.fault_count c.args.shelf) (g.I.Source.fault_count c.args.script.now) (g.O.Sink.fault_count c.args.out.now)
+  before = counts_of (g.S.Shelf.sees.fault_count c.args.shelf) (g.I.Source.sees.fault_count c.args.script.now) (g.O.Sink.sees.fault_count c.args.out.now)
 
   abbrev now : Counts
-  now = counts_of (g.S.Shelf.fault_count c.perform-end.result.shelf) (g.I.Source.fault_count c.perform-end.new.script) (g.O.Sink.fault_count c.conclude-status.new.out)
+  now = counts_of (g.S.Shelf.sees.fault_count c.perform-end.result.shelf) (g.I.Source.sees.fault_count c.perform-end.new.script) (g.O.Sink.sees.fault_count c.conclude-status.new.out)
 
   comes : ComesFrom before now c.perform-end.result.end
   comes =
-      comes_later before _ _ (g.O.Sink.fault_count c.perform-end.new.out) _ c.perform-end.result.end
+      comes_later before _ _ (g.O.Sink.sees.fault_count c.perform-end.new.out) _ c.perform-end.result.end
       c.conclude-status.ensures.later c.perform-end.ensures.cause.1.cause
 
   sinks : c.conclude-status.result ≡ 7 → Rose before.output now.output
   sinks seven =
       sink_cause before
-      (counts_of (g.S.Shelf.fault_count c.perform-end.result.shelf) (g.I.Source.fault_count c.perform-end.new.script) (g.O.Sink.fault_count c.perform-end.new.out))
+      (counts_of (g.S.Shelf.sees.fault_count c.perform-end.result.shelf) (g.I.Source.sees.fault_count c.perform-end.new.script) (g.O.Sink.sees.fault_count c.perform-end.new.out))
       now.output c.perform-end.result.end c.perform-end.ensures.cause.1.cause c.perform-end.ensures.cause.1.later.2
       c.conclude-status.ensures.later (c.conclude-status.ensures.cause seven)
 
-  well : (lines : List NamedLine) → Answers t g.I.Source.tells (parsed (g.I.Source.left c.args.script.now)) lines
+  well : (lines : List NamedLine) → Answers t g.I.Source.sees.tells (parsed (g.I.Source.sees.left c.args.script.now)) lines
       → WellOr c.conclude-status.result c.perform-end.result.end before now
   well lines answers =
-      ends_well c.conclude-status.result before now t g.I.Source.tells (parsed (g.I.Source.left c.args.script.now)) lines
-      c.perform-end.result.end answers c.perform-end.ensures.cause.0 c.perform-end.ensures.script comes c.conclude-status.ensures.status sinks
+      ends_well c.conclude-status.result before now t g.I.Source.sees.tells (parsed (g.I.Source.sees.left c.args.script.now)) lines
+      c.perform-end.result.end answers c.perform-end.ensures.cause.0 (λ run tells. (c.perform-end.ensures.script run tells).0) comes c.conclude-status.ensures.status sinks
 
 -- ---- what is answered, written and left
 
 pub returns-clause-runs : goal.returns-clause-runs
 returns-clause-runs g c = λ tells clock_tells settled true_folder lines answers. record {
   how = c.perform-end.result.end;
-  between = g.O.Sink.taken c.perform-end.new.out;
+  between = g.O.Sink.sees.taken c.perform-end.new.out;
   runs = c.perform-end.ensures.runs tells clock_tells settled true_folder lines answers;
   cause = comes g c;
   ended = c.conclude-status.ensures.status;
@@ -69,8 +70,8 @@ returns-clause-rebuilds g c = λ is tells clock_tells settled.
       cause = comes g c;
       ended = c.conclude-status.ensures.status;
       concludes = λ told.
-          subst (λ (taken : List ℕ). Concludes c.perform-end.result.end c.conclude-status.result taken (g.O.Sink.taken c.conclude-status.new.out))
-          (ap g.O.Sink.taken rebuilds.0) (c.conclude-status.ensures.text told);
+          subst (λ (taken : List ℕ). Concludes c.perform-end.result.end c.conclude-status.result taken (g.O.Sink.sees.taken c.conclude-status.new.out))
+          (ap g.O.Sink.sees.taken rebuilds.0) (c.conclude-status.ensures.text told);
     }
 
 pub returns-clause-usage : goal.returns-clause-usage
@@ -78,13 +79,13 @@ returns-clause-usage g c = λ none.
     let usage = c.perform-end.ensures.usage none in
     let e = c.perform-end.result.end in
     let status = c.conclude-status.result in
-    let new = g.O.Sink.taken c.conclude-status.new.out in (
+    let new = g.O.Sink.sees.taken c.conclude-status.new.out in (
       usage.2,
       usage_status status (subst (λ (x : End). IsStatus x status) usage.1 c.conclude-status.ensures.status),
       λ told.
-          usage_prints status (g.O.Sink.taken c.args.out.now) new
-          (subst (λ (x : End). Concludes x status (g.O.Sink.taken c.args.out.now) new) usage.1
-          (subst (λ (taken : List ℕ). Concludes e status taken new) (ap g.O.Sink.taken usage.0) (c.conclude-status.ensures.text told))),
+          usage_prints status (g.O.Sink.sees.taken c.args.out.now) new
+          (subst (λ (x : End). Concludes x status (g.O.Sink.sees.taken c.args.out.now) new) usage.1
+          (subst (λ (taken : List ℕ). Concludes e status taken new) (ap g.O.Sink.sees.taken usage.0) (c.conclude-status.ensures.text told))),
     )
 
 pub returns-clause-refused : goal.returns-clause-refused
@@ -97,28 +98,31 @@ returns-clause-refused g c = λ run script_tells fault bad.
         cause = comes g c;
         ended = c.conclude-status.ensures.status;
         concludes = λ told.
-            subst (λ (taken : List ℕ). Concludes c.perform-end.result.end c.conclude-status.result taken (g.O.Sink.taken c.conclude-status.new.out))
-            (ap g.O.Sink.taken refused.2) (c.conclude-status.ensures.text told);
+            subst (λ (taken : List ℕ). Concludes c.perform-end.result.end c.conclude-status.result taken (g.O.Sink.sees.taken c.conclude-status.new.out))
+            (ap g.O.Sink.sees.taken refused.2) (c.conclude-status.ensures.text told);
       },
+      fault_told fault c.perform-end.result.end _ c.perform-end.result.told refused.0 (c.perform-end.ensures.script run script_tells).1,
     )
 
 -- ---- what it comes from
 
 pub returns-clause-causes : goal.returns-clause-causes
-returns-clause-causes g c =
-    causes_of c.conclude-status.result (t g c) (before g c) (now g c)
-    (g.S.Shelf.files c.args.shelf) (parsed (g.I.Source.left c.args.script.now)) g.S.Shelf.tells g.I.Source.tells
-    c.perform-end.result.end c.conclude-status.ensures.status c.perform-end.ensures.cause.0 (comes g c) (sinks g c)
-    c.perform-end.ensures.found c.perform-end.ensures.script
+returns-clause-causes g c = (
+  told_by (t g c) c.perform-end.result.end c.conclude-status.result c.perform-end.result.told c.perform-end.ensures.cause.0 c.conclude-status.ensures.status c.perform-end.ensures.cause.2,
+  causes_of c.conclude-status.result (t g c) (before g c) (now g c)
+      (g.S.Shelf.sees.files c.args.shelf) (parsed (g.I.Source.sees.left c.args.script.now)) g.S.Shelf.sees.tells g.I.Source.sees.tells
+      c.perform-end.result.end c.conclude-status.ensures.status c.perform-end.ensures.cause.0 (comes g c) (sinks g c)
+      c.perform-end.ensures.found (λ run tells. (c.perform-end.ensures.script run tells).0),
+)
 
 pub returns-clause-fault : goal.returns-clause-fault
 returns-clause-fault g c = λ tells lines answers has.
-    fault_is_told c.conclude-status.result (before g c) (now g c) (g.S.Shelf.files c.args.shelf)
+    fault_is_told c.conclude-status.result (before g c) (now g c) (g.S.Shelf.sees.files c.args.shelf)
     c.perform-end.result.end (c.perform-end.ensures.found tells) has (well g c lines answers)
 
 pub returns-clause-complete : goal.returns-clause-complete
 returns-clause-complete g c = λ tells lines answers start used starts.
-    start_is_served c.conclude-status.result (before g c) (now g c) (g.C.Clock.upcoming c.args.clock) (g.S.Shelf.files c.args.shelf)
+    start_is_served c.conclude-status.result (before g c) (now g c) (g.C.Clock.sees.upcoming c.args.clock) (g.S.Shelf.sees.files c.args.shelf)
     start used c.perform-end.result.end (c.perform-end.ensures.found tells) starts (well g c lines answers)
 
 pub returns-clause-readings : goal.returns-clause-readings
@@ -131,7 +135,7 @@ returns-clause-readings g c = λ clock_tells. record {
 
 -- ---- what it is a function of
 
-module _ (g : given.Over) (c : goal.After-conclude-status g) (out_tells : g.O.Sink.tells) (not-four : c.conclude-status.result ≡ 4 → ⊥)
+module _ (g : given.Over) (c : goal.After-conclude-status g) (out_tells : g.O.Sink.sees.tells) (not-four : c.conclude-status.result ≡ 4 → ⊥)
     (still : Rattle.dv_cli.specs.Causes.AnyRose (before g c) (now g c) → ⊥) where
   abbrev e : End
   e = c.perform-end.result.end
@@ -140,13 +144,13 @@ module _ (g : given.Over) (c : goal.After-conclude-status g) (out_tells : g.O.Si
   status = c.conclude-status.result
 
   abbrev old : List ℕ
-  old = g.O.Sink.taken c.args.out.now
+  old = g.O.Sink.sees.taken c.args.out.now
 
   abbrev mid : List ℕ
-  mid = g.O.Sink.taken c.perform-end.new.out
+  mid = g.O.Sink.sees.taken c.perform-end.new.out
 
   abbrev new : List ℕ
-  new = g.O.Sink.taken c.conclude-status.new.out
+  new = g.O.Sink.sees.taken c.conclude-status.new.out
 
   not-seven : status ≡ 7 → ⊥
   not-seven seven = still (inr (inr (sinks g c seven)))
@@ -156,30 +160,30 @@ module _ (g : given.Over) (c : goal.After-conclude-status g) (out_tells : g.O.Si
 
   -- nothing was written before it
   only : c.perform-end.new.out ≡ c.args.out.now → Concludes e status old new
-  only same = subst (λ (taken : List ℕ). Concludes e status taken new) (ap g.O.Sink.taken same) last
+  only same = subst (λ (taken : List ℕ). Concludes e status taken new) (ap g.O.Sink.sees.taken same) last
 
-  lines_told : g.S.Shelf.tells → g.C.Clock.tells
-      → Rattle.dv_shelf.specs.Crashes.IsSettled g.S.Shelf.files g.S.Shelf.may_leave c.args.shelf
-      → Rattle.dv_serial.specs.NextRuns.IsTrueFolder (g.S.Shelf.files c.args.shelf) → (lines : List NamedLine)
-      → Answers (t g c) g.I.Source.tells (parsed (g.I.Source.left c.args.script.now)) lines → Opens (t g c)
-      → Writes old new (IsOutputOver (load_in (t g c)) lines (g.C.Clock.upcoming c.args.clock) (g.S.Shelf.files c.args.shelf))
+  lines_told : g.S.Shelf.sees.tells → g.C.Clock.sees.tells
+      → Rattle.dv_shelf.specs.Crashes.IsSettled g.S.Shelf.sees c.args.shelf
+      → Rattle.dv_serial.specs.NextRuns.IsTrueFolder (g.S.Shelf.sees.files c.args.shelf) → (lines : List NamedLine)
+      → Answers (t g c) g.I.Source.sees.tells (parsed (g.I.Source.sees.left c.args.script.now)) lines → Opens (t g c)
+      → Writes old new (IsOutputOver (load_in (t g c)) lines (g.C.Clock.sees.upcoming c.args.clock) (g.S.Shelf.sees.files c.args.shelf))
   lines_told tells clock_tells settled true_folder lines answers opens =
       let S = g.S.Shelf in
       let runs = c.perform-end.ensures.runs tells clock_tells settled true_folder lines answers in
-      lines_output S.files S.may_leave S.moment S.left_since (g.C.Clock.upcoming c.args.clock) (g.C.Clock.upcoming c.perform-end.result.clock)
-      (S.fault_count c.args.shelf) (S.fault_count c.perform-end.result.shelf) (t g c) lines g.O.Sink.tells old mid new
+      lines_output S.sees (g.C.Clock.sees.upcoming c.args.clock) (g.C.Clock.sees.upcoming c.perform-end.result.clock)
+      (S.sees.fault_count c.args.shelf) (S.sees.fault_count c.perform-end.result.shelf) (t g c) lines g.O.Sink.sees.tells old mid new
       c.args.shelf c.perform-end.result.shelf (λ rose. still (inl rose)) out_tells opens runs.silent
       e status (before g c) (now g c) (well g c lines answers) still not-four not-seven last runs.runs
 
 pub returns-clause-output : goal.returns-clause-output
 returns-clause-output g c = λ tells clock_tells script_tells out_tells settled true_folder not-four still.
     let S = g.S.Shelf in
-    let read = parsed (g.I.Source.left c.args.script.now) in
-    let clock = g.C.Clock.upcoming c.args.clock in
-    let folder = S.files c.args.shelf in
+    let read = parsed (g.I.Source.sees.left c.args.script.now) in
+    let clock = g.C.Clock.sees.upcoming c.args.clock in
+    let folder = S.sees.files c.args.shelf in
     let old = old g c out_tells not-four still in
     let new = new g c out_tells not-four still in
-    task_output (t g c) (g.I.Source.left c.args.script.now) clock folder old new
+    task_output (t g c) (g.I.Source.sees.left c.args.script.now) clock folder old new
     (λ none.
     let usage = c.perform-end.ensures.usage none in (
       usage_text,
@@ -191,7 +195,7 @@ returns-clause-output g c = λ tells clock_tells script_tells out_tells settled 
     (λ lines is.
     subst (λ (x : Option Task). Writes old new (IsOutputOver (load_in x) lines clock folder)) run
     (lines_told g c out_tells not-four still tells clock_tells settled true_folder lines
-    (subst (λ (x : Option Task). Answers x g.I.Source.tells read lines) (sym run) (script_tells, is))
+    (subst (λ (x : Option Task). Answers x g.I.Source.sees.tells read lines) (sym run) (script_tells, is))
     (subst Opens (sym run) tt)))
     (λ fault bad.
     let refused = c.perform-end.ensures.refused run script_tells fault bad in
@@ -199,11 +203,11 @@ returns-clause-output g c = λ tells clock_tells script_tells out_tells settled 
     (not-seven g c out_tells not-four still) still (only g c out_tells not-four still refused.2)))
     (λ is.
     let rebuilds = c.perform-end.ensures.rebuilds is tells clock_tells settled in
-    rebuilt_output S.files S.may_leave S.moment S.left_since clock (g.C.Clock.upcoming c.perform-end.result.clock) c.perform-end.result.end
+    rebuilt_output S.sees clock (g.C.Clock.sees.upcoming c.perform-end.result.clock) c.perform-end.result.end c.perform-end.result.told
     c.args.shelf c.perform-end.result.shelf c.conclude-status.result (before g c) (now g c) old new rebuilds.1 (comes g c) still not-four (not-seven g c out_tells not-four still)
     (only g c out_tells not-four still rebuilds.0))
     (λ load is.
     subst (λ (x : Option Task). Writes old new (IsOutputOver (load_in x) (generated_by load) clock folder)) is
     (lines_told g c out_tells not-four still tells clock_tells settled true_folder (generated_by load)
-    (subst (λ (x : Option Task). Answers x g.I.Source.tells read (generated_by load)) (sym is) refl)
+    (subst (λ (x : Option Task). Answers x g.I.Source.sees.tells read (generated_by load)) (sym is) refl)
     (subst Opens (sym is) tt)))

@@ -1,4 +1,4 @@
-use Rattle.std.proofs.Common.{◌≡◌, ◌∙◌, ap, sym, subst, refl, inl, inr, List, length, arith}
+use Rattle.std.proofs.Common.{◌≡◌, ◌∙◌, ap, sym, subst, refl, inl, inr, ℕ, List, length, arith}
 use Rattle.std.specs.Prelude.{None, Some}
 use Rattle.dv_formats.specs.Parsing.{parsed}
 use Rattle.dv_formats.specs.Scripts.{NamedLine}
@@ -12,6 +12,8 @@ use Rattle.dv_cli.specs.Runs.{RunsOver}
 use Rattle.dv_cli.proofs.Parsed.{same_lines}
 use Rattle.dv_cli.proofs.Reached.{folder_comes, folder_ends, folder_script, folder_takes, not_refused, read_comes, read_ends, read_faults, read_script, read_takes_none, reads_refused, reads_well}
 use Rattle.dv_cli.proofs.Takes.{run_takes, takes_none}
+use Rattle.dv_cli.proofs.Told.{quiet_at, quiet_ends}
+use Rattle.dv_cli.specs.Told.{TellsEnd}
 use Rattle.dv_cli.proofs.top_call.run_script.Goals as goal
 
 -- ---- lines that are served
@@ -28,21 +30,23 @@ returns-in-Ok-open_script-clause-runs g c = λ tells clock_tells script_tells se
     let C = g.C.Clock in
     let O = g.O.Sink in
     let o = c.run_folder.result in
-    let read = parsed (g.I.Source.left c.args.script.now) in
+    let read = parsed (g.I.Source.sees.left c.args.script.now) in
     let says = sym (c.in-Ok.ensures.text script_tells) ∙ sym (ap parsed c.as_slice.ensures) ∙ c.in-Ok-open_script.ensures.lines in
-    inr (subst (λ (ls : List NamedLine). RunsOver S.files S.may_leave S.moment S.left_since
-    (C.upcoming c.args.clock) (C.upcoming o.clock) (S.fault_count c.args.shelf) (S.fault_count o.shelf) None ls o.end O.tells (O.taken c.args.out.now)
-    (O.taken c.run_folder.new.out) c.args.shelf o.shelf) (same_lines read _ lines says is) (c.run_folder.ensures.runs tells clock_tells settled true_folder))
+    inr (subst (λ (ls : List NamedLine). RunsOver S.sees
+    (C.sees.upcoming c.args.clock) (C.sees.upcoming o.clock) (S.sees.fault_count c.args.shelf) (S.sees.fault_count o.shelf) None ls o.end O.sees.tells (O.sees.taken c.args.out.now)
+    (O.sees.taken c.run_folder.new.out) c.args.shelf o.shelf) (same_lines read _ lines says is) (c.run_folder.ensures.runs tells clock_tells settled true_folder))
 
 pub returns-in-Ok-open_script-clause-refused : goal.returns-in-Ok-open_script-clause-refused
 returns-in-Ok-open_script-clause-refused g c = λ script_tells fault bad.
     let says = sym (c.in-Ok.ensures.text script_tells) ∙ sym (ap parsed c.as_slice.ensures) ∙ c.in-Ok-open_script.ensures.lines in
-    absurd (not_refused (parsed (g.I.Source.left c.args.script.now)) _ fault says bad)
+    absurd (not_refused (parsed (g.I.Source.sees.left c.args.script.now)) _ fault says bad)
 
 pub returns-in-Ok-open_script-clause-script : goal.returns-in-Ok-open_script-clause-script
 returns-in-Ok-open_script-clause-script g c = λ script_tells.
-    let says = sym (c.in-Ok.ensures.text script_tells) ∙ sym (ap parsed c.as_slice.ensures) ∙ c.in-Ok-open_script.ensures.lines in
-    folder_script _ _ _ _ (parsed (g.I.Source.left c.args.script.now)) _ c.run_folder.result.end c.run_folder.ensures.cause.cause says
+    let says = sym (c.in-Ok.ensures.text script_tells) ∙ sym (ap parsed c.as_slice.ensures) ∙ c.in-Ok-open_script.ensures.lines in (
+      folder_script _ _ _ _ (parsed (g.I.Source.sees.left c.args.script.now)) _ c.run_folder.result.end c.run_folder.ensures.cause.cause says,
+      quiet_ends _ c.run_folder.result.end c.run_folder.result.told c.run_folder.ensures.quiet,
+    )
 
 pub returns-in-Ok-open_script-clause-cause : goal.returns-in-Ok-open_script-clause-cause
 returns-in-Ok-open_script-clause-cause g c =
@@ -53,17 +57,19 @@ returns-in-Ok-open_script-clause-cause g c =
     }
 
 pub returns-in-Ok-open_script-clause-ends : goal.returns-in-Ok-open_script-clause-ends
-returns-in-Ok-open_script-clause-ends g c =
-    folder_ends (Some task.Run) _ _ _ _ c.run_folder.result.end tt refl (λ rose. refl) c.run_folder.ensures.cause.cause
+returns-in-Ok-open_script-clause-ends g c = (
+  folder_ends (Some task.Run) _ _ _ _ c.run_folder.result.end tt refl (λ rose. refl) c.run_folder.ensures.cause.cause,
+  quiet_at c.run_folder.result.end c.run_folder.result.told c.run_folder.ensures.quiet,
+)
 
 pub returns-in-Ok-open_script-clause-readings : goal.returns-in-Ok-open_script-clause-readings
 returns-in-Ok-open_script-clause-readings g c = λ clock_tells script_tells lines is.
     let C = g.C.Clock in
     let all = lines_left c.in-Ok-open_script.opened.lines in
     let says = sym (c.in-Ok.ensures.text script_tells) ∙ sym (ap parsed c.as_slice.ensures) ∙ c.in-Ok-open_script.ensures.lines in
-    let same : all ≡ lines = same_lines (parsed (g.I.Source.left c.args.script.now)) all lines says is in
-    subst (λ (ls : List NamedLine). TakesUpTo (most_readings (length ls)) (C.upcoming c.args.clock) (C.upcoming c.run_folder.result.clock)) same
-    (run_takes (length all) (C.upcoming c.args.clock) (C.upcoming c.run_folder.result.clock) c.run_folder.result.end (c.run_folder.ensures.readings clock_tells))
+    let same : all ≡ lines = same_lines (parsed (g.I.Source.sees.left c.args.script.now)) all lines says is in
+    subst (λ (ls : List NamedLine). TakesUpTo (most_readings (length ls)) (C.sees.upcoming c.args.clock) (C.sees.upcoming c.run_folder.result.clock)) same
+    (run_takes (length all) (C.sees.upcoming c.args.clock) (C.sees.upcoming c.run_folder.result.clock) c.run_folder.result.end (c.run_folder.ensures.readings clock_tells))
 
 pub returns-in-Ok-open_script-clause-unread : goal.returns-in-Ok-open_script-clause-unread
 returns-in-Ok-open_script-clause-unread g c = λ clock_tells.
@@ -73,19 +79,21 @@ returns-in-Ok-open_script-clause-unread g c = λ clock_tells.
 
 pub returns-in-Err-clause-runs : goal.returns-in-Err-clause-runs
 returns-in-Err-clause-runs g c = λ tells clock_tells script_tells settled true_folder lines is.
-    let good = reads_well (parsed (g.I.Source.left c.args.script.now)) lines c.in-Err.end (c.in-Err.ensures.unread (parsed (g.I.Source.left c.args.script.now))) is in
+    let good = reads_well (parsed (g.I.Source.sees.left c.args.script.now)) lines c.in-Err.end (c.in-Err.ensures.unread (parsed (g.I.Source.sees.left c.args.script.now))) is in
     inl (rw c.untouched.ensures.end good, refl, c.untouched.ensures.shelf)
 
 pub returns-in-Err-clause-refused : goal.returns-in-Err-clause-refused
 returns-in-Err-clause-refused g c = λ script_tells fault bad. (
   record { shelf = c.untouched.ensures.shelf; clock = c.untouched.ensures.clock },
-  rw c.untouched.ensures.end (reads_refused (parsed (g.I.Source.left c.args.script.now)) fault c.in-Err.end (c.in-Err.ensures.unread (parsed (g.I.Source.left c.args.script.now))) bad),
+  rw c.untouched.ensures.end (reads_refused (parsed (g.I.Source.sees.left c.args.script.now)) fault c.in-Err.end (c.in-Err.ensures.unread (parsed (g.I.Source.sees.left c.args.script.now))) bad),
   refl,
 )
 
 pub returns-in-Err-clause-script : goal.returns-in-Err-clause-script
-returns-in-Err-clause-script g c = λ script_tells.
-    rw c.untouched.ensures.end (read_script (parsed (g.I.Source.left c.args.script.now)) c.in-Err.end (c.in-Err.ensures.unread (parsed (g.I.Source.left c.args.script.now))))
+returns-in-Err-clause-script g c = λ script_tells. (
+  rw c.untouched.ensures.end (read_script (parsed (g.I.Source.sees.left c.args.script.now)) c.in-Err.end (c.in-Err.ensures.unread (parsed (g.I.Source.sees.left c.args.script.now)))),
+  quiet_ends _ c.untouched.result.end c.untouched.result.told c.untouched.ensures.told,
+)
 
 pub returns-in-Err-clause-found : goal.returns-in-Err-clause-found
 returns-in-Err-clause-found g c = λ tells.
@@ -99,27 +107,30 @@ returns-in-Err-clause-cause g c =
     })
 
 pub returns-in-Err-clause-ends : goal.returns-in-Err-clause-ends
-returns-in-Err-clause-ends g c = rw c.untouched.ensures.end (read_ends _ _ c.in-Err.end c.in-Err.ensures.cause)
+returns-in-Err-clause-ends g c = (
+  rw c.untouched.ensures.end (read_ends _ _ c.in-Err.end c.in-Err.ensures.cause),
+  quiet_at c.untouched.result.end c.untouched.result.told c.untouched.ensures.told,
+)
 
 pub returns-in-Err-clause-readings : goal.returns-in-Err-clause-readings
 returns-in-Err-clause-readings g c = λ clock_tells script_tells lines is.
-    takes_none _ _ _ (ap g.C.Clock.upcoming c.untouched.ensures.clock)
+    takes_none _ _ _ (ap g.C.Clock.sees.upcoming c.untouched.ensures.clock)
 
 pub returns-in-Err-clause-unread : goal.returns-in-Err-clause-unread
 returns-in-Err-clause-unread g c = λ clock_tells.
-    rw c.untouched.ensures.end (read_takes_none _ _ _ _ c.in-Err.end c.in-Err.ensures.cause (ap g.C.Clock.upcoming c.untouched.ensures.clock))
+    rw c.untouched.ensures.end (read_takes_none _ _ _ _ c.in-Err.end c.in-Err.ensures.cause (ap g.C.Clock.sees.upcoming c.untouched.ensures.clock))
 
 -- ---- a script that is refused
 
 pub returns-clause-runs : goal.returns-clause-runs
 returns-clause-runs g c = λ tells clock_tells script_tells settled true_folder lines is.
-    let read = parsed (g.I.Source.left c.args.script.now) in
+    let read = parsed (g.I.Source.sees.left c.args.script.now) in
     let fails = subst (ScriptFails c.in-Err-open_script.end) (ap parsed c.as_slice.ensures ∙ c.in-Ok.ensures.text script_tells) c.in-Err-open_script.ensures.lines in
     inl (rw c.untouched-in-Err-open_script.ensures.end (reads_well read lines (end.Script c.in-Err-open_script.end) fails is), refl, c.untouched-in-Err-open_script.ensures.shelf)
 
 pub returns-clause-refused : goal.returns-clause-refused
 returns-clause-refused g c = λ script_tells fault bad.
-    let read = parsed (g.I.Source.left c.args.script.now) in
+    let read = parsed (g.I.Source.sees.left c.args.script.now) in
     let fails = subst (ScriptFails c.in-Err-open_script.end) (ap parsed c.as_slice.ensures ∙ c.in-Ok.ensures.text script_tells) c.in-Err-open_script.ensures.lines in (
       record { shelf = c.untouched-in-Err-open_script.ensures.shelf; clock = c.untouched-in-Err-open_script.ensures.clock },
       rw c.untouched-in-Err-open_script.ensures.end (reads_refused read fault (end.Script c.in-Err-open_script.end) fails bad),
@@ -128,9 +139,10 @@ returns-clause-refused g c = λ script_tells fault bad.
 
 pub returns-clause-script : goal.returns-clause-script
 returns-clause-script g c = λ script_tells.
-    let read = parsed (g.I.Source.left c.args.script.now) in
+    let read = parsed (g.I.Source.sees.left c.args.script.now) in
     let fails = subst (ScriptFails c.in-Err-open_script.end) (ap parsed c.as_slice.ensures ∙ c.in-Ok.ensures.text script_tells) c.in-Err-open_script.ensures.lines in
-    rw c.untouched-in-Err-open_script.ensures.end fails
+    let line = subst (λ (l : List ℕ). TellsEnd l (end.Script c.in-Err-open_script.end) c.told_of-told.result) (c.as_slice-in-Err-open_script.ensures ∙ c.in-Ok.ensures.front script_tells) c.told_of-told.ensures.line in
+    (rw c.untouched-in-Err-open_script.ensures.end fails, rw (c.untouched-in-Err-open_script.ensures.end, c.untouched-in-Err-open_script.ensures.told) line)
 
 pub returns-clause-found : goal.returns-clause-found
 returns-clause-found g c = λ tells. rw c.untouched-in-Err-open_script.ensures.end tt
@@ -143,12 +155,12 @@ returns-clause-cause g c =
     })
 
 pub returns-clause-ends : goal.returns-clause-ends
-returns-clause-ends g c = rw c.untouched-in-Err-open_script.ensures.end refl
+returns-clause-ends g c = (rw c.untouched-in-Err-open_script.ensures.end refl, rw (c.untouched-in-Err-open_script.ensures.end, c.untouched-in-Err-open_script.ensures.told) c.told_of-told.ensures.at)
 
 pub returns-clause-readings : goal.returns-clause-readings
 returns-clause-readings g c = λ clock_tells script_tells lines is.
-    takes_none _ _ _ (ap g.C.Clock.upcoming c.untouched-in-Err-open_script.ensures.clock)
+    takes_none _ _ _ (ap g.C.Clock.sees.upcoming c.untouched-in-Err-open_script.ensures.clock)
 
 pub returns-clause-unread : goal.returns-clause-unread
 returns-clause-unread g c = λ clock_tells.
-    rw c.untouched-in-Err-open_script.ensures.end (ap g.C.Clock.upcoming c.untouched-in-Err-open_script.ensures.clock)
+    rw c.untouched-in-Err-open_script.ensures.end (ap g.C.Clock.sees.upcoming c.untouched-in-Err-open_script.ensures.clock)

@@ -5,4 +5,4 @@ use Rattle.dv_cli.proofs.top_call.script_text.Goals as goal
 
 pub returns-in-Ok-clause-text : goal.returns-in-Ok-clause-text
 returns-in-Ok-clause-text g c = λ tells.
-    ap parsed (c.in-Ok.ensures.text tells) ∙ parsed_front (g.I.Source.left c.args.script.now)
+    ap parsed (c.in-Ok.ensures.text tells) ∙ parsed_front (g.I.Source.sees.left c.args.script.now)

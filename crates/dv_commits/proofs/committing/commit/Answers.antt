@@ -9,7 +9,7 @@ returns-in_err-mark-clause-opens g c = λ tells after pending rest.
     let p = err_from_is_err_and c.from_residual.result c.from_residual.ensures.1 in
     let old = c.args.shelf.now in
     rw p.1
-    (commit_failed S.files S.may_leave S.moment S.left_since c.args.text.now after c.args.chain.now pending old c.commit.new.shelf rest _ refl refl (g.met.S.Shelf.leaves_files old tells)
+    (commit_failed S.sees c.args.text.now after c.args.chain.now pending old c.commit.new.shelf rest _ refl refl (g.met.S.Shelf.leaves_files old tells)
     p.0 c.in_err-mark.field-0.0 refl c.in_err-mark.ensures.value (c.in_err-mark.ensures.bytes tells) (c.in_err-mark.ensures.crash tells))
 
 pub returns-clause-value : goal.returns-clause-value
@@ -34,5 +34,5 @@ returns-clause-opens g c = λ tells after pending rest.
     let ready = c.requires.ready in
     let old = c.args.shelf.now in
     let mailbox = c.complete-touched.ensures.is ready.after ready.makes ∙ pending_one c.args.text.now ready.after after c.args.chain.now ready.pending pending in
-    commit_done S.files S.may_leave S.moment S.left_since c.args.text.now after c.args.chain.now pending old c.commit.new.shelf rest _ refl refl (g.met.S.Shelf.leaves_files old tells)
+    commit_done S.sees c.args.text.now after c.args.chain.now pending old c.commit.new.shelf rest _ refl refl (g.met.S.Shelf.leaves_files old tells)
     _ c.in_ok-mark.mark mailbox c.in_ok-mark.ensures.value (c.in_ok-mark.ensures.bytes tells) (c.in_ok-mark.ensures.crash tells)

@@ -27,7 +27,7 @@ returns-in_err-write_at-clause-writes g c = λ tells.
       err = on_err c.from_residual.result (c.in_err-write_at.ensures.err tells);
       durable = no_ok _ c.from_residual.result c.from_residual.ensures.0;
       crash = c.write_at.ensures.crash tells;
-      since = written_once S.moment S.left_since S.may_leave s0 c.write_at.new.self c.args.at (length c.args.bytes.now)
+      since = written_once S.sees s0 c.write_at.new.self c.args.at (length c.args.bytes.now)
           (λ f left. g.met.S.Shelf.only_now s0 f tells left) (c.write_at.ensures.time tells) (c.write_at.ensures.crash tells);
     }
 
@@ -39,13 +39,13 @@ returns-clause-writes g c = λ tells.
     let bytes = c.args.bytes.now in
     let step : Folder → Folder → Type 0 = ChangesOnly Log (TornFile c.args.at (length bytes)) in
     let wrote = c.sync.ensures.files tells ∙ c.in_ok-write_at.ensures.ok tells in
-    let first = written_once S.moment S.left_since S.may_leave s0 c.write_at.new.self c.args.at (length bytes)
+    let first = written_once S.sees s0 c.write_at.new.self c.args.at (length bytes)
     (λ f left. g.met.S.Shelf.only_now s0 f tells left) (c.write_at.ensures.time tells) (c.write_at.ensures.crash tells) in
-    let crash : (f : Folder) → S.may_leave s2 f → FromOneOf (S.may_leave s0) step f = λ f left. c.write_at.ensures.crash tells f (c.sync.ensures.crash tells f left) in
+    let crash : (f : Folder) → S.sees.may_leave s2 f → FromOneOf (S.sees.may_leave s0) step f = λ f left. c.write_at.ensures.crash tells f (c.sync.ensures.crash tells f left) in
     record {
       ok = on_ok c.sync.result wrote;
-      err = on_err c.sync.result (written_torn (S.files s0) (S.files s2) c.args.at bytes wrote);
+      err = on_err c.sync.result (written_torn (S.sees.files s0) (S.sees.files s2) c.args.at bytes wrote);
       durable = c.sync.ensures.durable tells;
       crash = crash;
-      since = goes_on S.moment S.left_since s0 c.write_at.new.self s2 (FromOneOf (S.may_leave s0) step) (S.may_leave s2) first (c.sync.ensures.time tells) crash;
+      since = goes_on S.sees s0 c.write_at.new.self s2 (FromOneOf (S.sees.may_leave s0) step) (S.sees.may_leave s2) first (c.sync.ensures.time tells) crash;
     }

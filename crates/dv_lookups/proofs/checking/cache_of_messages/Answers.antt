@@ -11,7 +11,7 @@ use Rattle.dv_lookups.proofs.checking.cache_of_messages.Goals as goal
 
 pub returns-clause-text : goal.returns-clause-text
 returns-clause-text g c = λ told mail are.
-    let folder = g.S.Shelf.files c.args.shelf.now in
+    let folder = g.S.Shelf.sees.files c.args.shelf.now in
     let m = c.args.chain.now.live.mailbox in
     let indexid = c.args.chain.now.indexid in
     let seq = c.args.seq in

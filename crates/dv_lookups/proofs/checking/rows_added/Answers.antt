@@ -11,7 +11,7 @@ use Rattle.dv_lookups.proofs.checking.rows_added.Goals as goal
 
 pub loop-k-preserved : goal.loop-k-preserved
 loop-k-preserved g c =
-    let folder = g.S.Shelf.files c.args.shelf.now in
+    let folder = g.S.Shelf.sees.files c.args.shelf.now in
     let rows = c.args.live.now.mailbox.rows in
     let first = 32 + 16 * length rows in
     let k = c.loop-k.k in
@@ -37,11 +37,11 @@ returns-in_err-row-clause-mail_reads g c =
     let less : i < length c.args.live.now.mailbox.rows = omega (arith, c.loop-k-test.true, c.count-k-end.ensures) in
     let p = err_from_is_err_and c.from_residual.result c.from_residual.ensures.1 in
     rw p.1
-    (i + 1, omega (arith, less), reads_more (S.mail_reads c.args.shelf.now) (S.mail_reads c.loop-k.shelf) (S.mail_reads c.cache_row.new.shelf) i c.loop-k.invariant.mail_reads c.cache_row.ensures.mail_reads)
+    (i + 1, omega (arith, less), reads_more (S.sees.mail_reads c.args.shelf.now) (S.sees.mail_reads c.loop-k.shelf) (S.sees.mail_reads c.cache_row.new.shelf) i c.loop-k.invariant.mail_reads c.cache_row.ensures.mail_reads)
 
 pub returns-in-Err-clause-mail_reads : goal.returns-in-Err-clause-mail_reads
 returns-in-Err-clause-mail_reads g c =
     let S = g.S.Shelf in
     let i = c.loop-k.k in
     let less : i < length c.args.live.now.mailbox.rows = omega (arith, c.loop-k-test.true, c.count-k-end.ensures) in
-    (i + 1, omega (arith, less), reads_more (S.mail_reads c.args.shelf.now) (S.mail_reads c.loop-k.shelf) (S.mail_reads c.cache_row.new.shelf) i c.loop-k.invariant.mail_reads c.cache_row.ensures.mail_reads)
+    (i + 1, omega (arith, less), reads_more (S.sees.mail_reads c.args.shelf.now) (S.sees.mail_reads c.loop-k.shelf) (S.sees.mail_reads c.cache_row.new.shelf) i c.loop-k.invariant.mail_reads c.cache_row.ensures.mail_reads)

@@ -19,14 +19,14 @@ returns-in_err-mail-clause-mail_reads g c =
     let less : i < length c.args.uids.now = c.loop-uid-test.true in
     let p = err_from_is_err_and c.from_residual.result c.from_residual.ensures.1 in
     rw p.1
-    (i + 1, omega (arith, less), reads_more (S.mail_reads c.args.shelf.now) (S.mail_reads c.loop-uid.shelf) (S.mail_reads c.read_mail.new.shelf) i c.loop-uid.invariant.mail_reads c.read_mail.ensures.mail_reads)
+    (i + 1, omega (arith, less), reads_more (S.sees.mail_reads c.args.shelf.now) (S.sees.mail_reads c.loop-uid.shelf) (S.sees.mail_reads c.read_mail.new.shelf) i c.loop-uid.invariant.mail_reads c.read_mail.ensures.mail_reads)
 
 pub returns-in-Err-clause-mail_reads : goal.returns-in-Err-clause-mail_reads
 returns-in-Err-clause-mail_reads g c =
     let S = g.S.Shelf in
     let i = c.loop-uid.uid-index in
     let less : i < length c.args.uids.now = c.loop-uid-test.true in
-    (i + 1, omega (arith, less), reads_more (S.mail_reads c.args.shelf.now) (S.mail_reads c.loop-uid.shelf) (S.mail_reads c.read_mail.new.shelf) i c.loop-uid.invariant.mail_reads c.read_mail.ensures.mail_reads)
+    (i + 1, omega (arith, less), reads_more (S.sees.mail_reads c.args.shelf.now) (S.sees.mail_reads c.loop-uid.shelf) (S.sees.mail_reads c.read_mail.new.shelf) i c.loop-uid.invariant.mail_reads c.read_mail.ensures.mail_reads)
 
 pub loop-uid-preserved : goal.loop-uid-preserved
 loop-uid-preserved g c =
@@ -45,12 +45,12 @@ loop-uid-preserved g c =
       beside = ap (map (λ (row : GuidRow). row.uid)) pushed ∙ map-append (λ (row : GuidRow). row.uid) before (row ∷ []) ∙ ap (λ (l : List ℕ). l ++ uid ∷ []) c.loop-uid.invariant.beside ∙ sym more;
       guids = All-same (λ (row : GuidRow). IsGuid row.guid) c.push.new.self (before ++ row ∷ []) pushed (All-push (λ (row : GuidRow). IsGuid row.guid) before row c.loop-uid.invariant.guids c.is_guid.ensures);
       rows = λ tells.
-          let folder : Folder = S.files old in
-          let same : S.files mid ≡ folder = (c.loop-uid.invariant.looks tells).same in
+          let folder : Folder = S.sees.files old in
+          let same : S.sees.files mid ≡ folder = (c.loop-uid.invariant.looks tells).same in
           let guid : c.guid-guid.result ≡ guid_at folder uid = c.guid-guid.ensures ∙ (c.in_ok-mail.ensures.found tells).guid ∙ ap (λ (f : Folder). guid_in (f (name.Mail uid))) same in
           pushed ∙ ap (λ (l : List GuidRow). l ++ row ∷ []) (c.loop-uid.invariant.rows tells) ∙ ap (λ (b : List ℕ). guid_rows folder (take i uids) ++ record { uid = uid; guid = b } ∷ []) guid
           ∙ sym (ap (guid_rows folder) more ∙ map-append (λ (u : ℕ). record { uid = u; guid = guid_at folder u }) (take i uids) (uid ∷ []));
-      looks = λ tells. looked_both S.files S.may_leave S.moment S.left_since old mid new (c.loop-uid.invariant.looks tells) (c.in_ok-mail.ensures.looks tells);
-      mail_reads = reads_more (S.mail_reads old) (S.mail_reads mid) (S.mail_reads new) i c.loop-uid.invariant.mail_reads c.in_ok-mail.ensures.mail_reads;
+      looks = λ tells. looked_both S.sees old mid new (c.loop-uid.invariant.looks tells) (c.in_ok-mail.ensures.looks tells);
+      mail_reads = reads_more (S.sees.mail_reads old) (S.sees.mail_reads mid) (S.sees.mail_reads new) i c.loop-uid.invariant.mail_reads c.in_ok-mail.ensures.mail_reads;
       faults = c.in_ok-mail.ensures.cause.same (λ e. cc) ∙ c.loop-uid.invariant.faults;
     }

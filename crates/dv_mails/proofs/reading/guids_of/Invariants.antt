@@ -10,8 +10,8 @@ abbrev pub invariant-loop-uid : goal.invariant-loop-uid
 invariant-loop-uid g l = record {
   beside : map (λ (row : GuidRow). row.uid) l.rows ≡ take l.uid-index l.uids;
   guids : All (λ (row : GuidRow). IsGuid row.guid) l.rows;
-  rows : g.S.Shelf.tells → l.rows ≡ guid_rows (g.S.Shelf.files l.initial.shelf) (take l.uid-index l.uids);
-  looks : g.S.Shelf.tells → OnlyLooks g.S.Shelf.files g.S.Shelf.may_leave g.S.Shelf.moment g.S.Shelf.left_since l.initial.shelf l.shelf;
-  mail_reads : g.S.Shelf.mail_reads l.shelf ≡ after_reads (g.S.Shelf.mail_reads l.initial.shelf) l.uid-index;
-  faults : g.S.Shelf.fault_count l.shelf ≡ g.S.Shelf.fault_count l.initial.shelf;
+  rows : g.S.Shelf.sees.tells → l.rows ≡ guid_rows (g.S.Shelf.sees.files l.initial.shelf) (take l.uid-index l.uids);
+  looks : g.S.Shelf.sees.tells → OnlyLooks g.S.Shelf.sees l.initial.shelf l.shelf;
+  mail_reads : g.S.Shelf.sees.mail_reads l.shelf ≡ after_reads (g.S.Shelf.sees.mail_reads l.initial.shelf) l.uid-index;
+  faults : g.S.Shelf.sees.fault_count l.shelf ≡ g.S.Shelf.sees.fault_count l.initial.shelf;
 }

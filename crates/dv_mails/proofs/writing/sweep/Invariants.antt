@@ -5,7 +5,7 @@ use Rattle.dv_mails.proofs.writing.sweep.Given as goal
 
 abbrev pub invariant-loop-uid : goal.invariant-loop-uid
 invariant-loop-uid g l = record {
-  leaves : g.S.Shelf.tells → Leaves g.S.Shelf.files g.S.Shelf.may_leave g.S.Shelf.moment g.S.Shelf.left_since (IsSwept (take l.uid-index l.uids)) (IsSweeping l.uids) l.initial.shelf l.shelf;
-  mail_reads : g.S.Shelf.mail_reads l.shelf ≡ g.S.Shelf.mail_reads l.initial.shelf;
-  later : g.S.Shelf.fault_count l.initial.shelf ≤ g.S.Shelf.fault_count l.shelf;
+  leaves : g.S.Shelf.sees.tells → Leaves g.S.Shelf.sees (IsSwept (take l.uid-index l.uids)) (IsSweeping l.uids) l.initial.shelf l.shelf;
+  mail_reads : g.S.Shelf.sees.mail_reads l.shelf ≡ g.S.Shelf.sees.mail_reads l.initial.shelf;
+  later : g.S.Shelf.sees.fault_count l.initial.shelf ≤ g.S.Shelf.sees.fault_count l.shelf;
 }

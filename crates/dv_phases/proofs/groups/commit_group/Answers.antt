@@ -7,5 +7,5 @@ returns-clause-gives g c = λ tells log written after stands pending keeps.
     let old = c.args.shelf.now in
     let new = c.commit.new.shelf in
     let group = c.commit.ensures.opens tells after pending stands.rests in
-    group_written S.files S.may_leave S.moment S.left_since c.args.text.now log written after c.args.chain.now c.commit.new.chain old new stands pending keeps c.commit.result c.commit.ensures.value group
-    (λ f left. g.met.S.Shelf.counts_now new (S.moment old) f group.any_moment.later left)
+    group_written S.sees c.args.text.now log written after c.args.chain.now c.commit.new.chain old new stands pending keeps c.commit.result c.commit.ensures.value group
+    (λ f left. g.met.S.Shelf.counts_now new (S.sees.moment old) f group.any_moment.later left)

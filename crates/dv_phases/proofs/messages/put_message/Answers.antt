@@ -14,7 +14,7 @@ returns-clause-quiet g c = λ tells log stands.
     let chain = c.args.chain.now in
     let text = c.args.text.now in
     let n = name.Mail chain.live.mailbox.next_uid in
-    quiet_steps S.files S.may_leave S.moment S.left_since log chain old new (Puts n text c.put.result) (IsPut n text)
+    quiet_steps S.sees log chain old new (Puts n text c.put.result) (IsPut n text)
     (λ d f puts has. next_put log chain d f has c.next_uid.ensures.valid text (puts_either n text c.put.result d f puts))
     (λ d f put has. next_put log chain d f has c.next_uid.ensures.valid text put)
-    (subst (λ (u : ℕ). Leaves S.files S.may_leave S.moment S.left_since (Puts (name.Mail u) text c.put.result) (IsPut (name.Mail u) text) old new) c.next_uid.ensures.is (c.put.ensures.leaves tells)) stands
+    (subst (λ (u : ℕ). Leaves S.sees (Puts (name.Mail u) text c.put.result) (IsPut (name.Mail u) text) old new) c.next_uid.ensures.is (c.put.ensures.leaves tells)) stands

@@ -9,6 +9,6 @@ returns-clause-leaves g c = λ tells.
     let S = g.S.Shelf in
     let old = c.args.shelf.now in
     let new = c.replace.new.self in
-    subst (λ (t : List ℕ). Leaves S.files S.may_leave S.moment S.left_since (Puts name.Cache t c.replace.result) (IsPut name.Cache t) old new) c.as_slice.ensures
-    (replaced S.files S.may_leave S.moment S.left_since old new name.Cache c.as_slice.result.now c.replace.result (λ f left. g.met.S.Shelf.only_now old f tells left)
+    subst (λ (t : List ℕ). Leaves S.sees (Puts name.Cache t c.replace.result) (IsPut name.Cache t) old new) c.as_slice.ensures
+    (replaced S.sees old new name.Cache c.as_slice.result.now c.replace.result (λ f left. g.met.S.Shelf.only_now old f tells left)
     (c.replace.ensures.ok tells) (c.replace.ensures.err tells) (c.replace.ensures.durable tells) (c.replace.ensures.crash tells) (c.replace.ensures.time tells))

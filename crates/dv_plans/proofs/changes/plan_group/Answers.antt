@@ -13,16 +13,16 @@ pub returns-in-Err-clause-mail_reads : goal.returns-in-Err-clause-mail_reads
 returns-in-Err-clause-mail_reads g c =
     let command = c.args.c.now in
     let changed : c.as_slice.result.now ≡ changed_uids command c.args.view.now c.args.live.now.mailbox = ◌∙◌ {c = changed_uids c.args.c.now c.args.view.now c.args.live.now.mailbox} c.as_slice.ensures c.in_ok-uids.ensures in
-    let before = g.S.Shelf.mail_reads c.args.shelf.now in
-    let now = g.S.Shelf.mail_reads c.removed_guids.new.shelf in
+    let before = g.S.Shelf.sees.mail_reads c.args.shelf.now in
+    let now = g.S.Shelf.sees.mail_reads c.removed_guids.new.shelf in
     subst (λ (us : List ℕ). CountsUpTo (length (removed_of command us)) before now) changed c.in-Err.ensures.mail_reads
 
 pub returns-in_err-group-clause-mail_reads : goal.returns-in_err-group-clause-mail_reads
 returns-in_err-group-clause-mail_reads g c =
     let command = c.args.c.now in
     let changed : c.as_slice.result.now ≡ changed_uids command c.args.view.now c.args.live.now.mailbox = ◌∙◌ {c = changed_uids c.args.c.now c.args.view.now c.args.live.now.mailbox} c.as_slice.ensures c.in_ok-uids.ensures in
-    let before = g.S.Shelf.mail_reads c.args.shelf.now in
-    let now = g.S.Shelf.mail_reads c.removed_guids.new.shelf in
+    let before = g.S.Shelf.sees.mail_reads c.args.shelf.now in
+    let now = g.S.Shelf.sees.mail_reads c.removed_guids.new.shelf in
     let n = length (expunged_uids command c.args.view.now c.args.live.now.mailbox) in
     let p = err_from_is_err_and c.from_residual-in_err-group.result c.from_residual-in_err-group.ensures.1 in
     rw p.1 (all_counted n before now (subst (λ (us : List ℕ). CountsReads (length (removed_of command us)) before now) changed c.in-Ok.ensures.mail_reads))
@@ -31,8 +31,8 @@ pub returns-clause-mail_reads : goal.returns-clause-mail_reads
 returns-clause-mail_reads g c =
     let command = c.args.c.now in
     let changed : c.as_slice.result.now ≡ changed_uids command c.args.view.now c.args.live.now.mailbox = ◌∙◌ {c = changed_uids c.args.c.now c.args.view.now c.args.live.now.mailbox} c.as_slice.ensures c.in_ok-uids.ensures in
-    let before = g.S.Shelf.mail_reads c.args.shelf.now in
-    let now = g.S.Shelf.mail_reads c.removed_guids.new.shelf in
+    let before = g.S.Shelf.sees.mail_reads c.args.shelf.now in
+    let now = g.S.Shelf.sees.mail_reads c.removed_guids.new.shelf in
     subst (λ (us : List ℕ). CountsReads (length (removed_of command us)) before now) changed c.in-Ok.ensures.mail_reads
 
 pub returns-clause-group : goal.returns-clause-group
@@ -51,7 +51,7 @@ returns-clause-group g c =
 
 pub returns-clause-read : goal.returns-clause-read
 returns-clause-read g c = λ tells.
-    let folder = g.S.Shelf.files c.args.shelf.now in
+    let folder = g.S.Shelf.sees.files c.args.shelf.now in
     let view = c.args.view.now in
     let m = c.args.live.now.mailbox in
     let changed : c.as_slice.result.now ≡ changed_uids c.args.c.now view m = ◌∙◌ {c = changed_uids c.args.c.now c.args.view.now c.args.live.now.mailbox} c.as_slice.ensures c.in_ok-uids.ensures in

@@ -43,12 +43,12 @@ returns-clause-write g c = λ tells reads.
     let times = c.read_times-times.result in
     let before = c.in_ok-before.before in
     let old = c.args.shelf.now in
-    let upcoming : ℕ → ℕ = g.C.Clock.upcoming c.args.clock.now in
+    let upcoming : ℕ → ℕ = g.C.Clock.sees.upcoming c.args.clock.now in
     plans_each command c.args.view.now chain c.args.uids.now owed times before c.requires.command c.have_bounds.ensures.ordered c.have_bounds.ensures.valid c.have_bounds.ensures.resets
     c.requires.found c.requires.written (c.read_times-times.ensures.turn ∙ c.is_turn_due.ensures) c.in_ok-before.ensures.is c.write_group.new.live c.write_group.ensures.mailbox c.in_ok-written.written c.in_ok-written.ensures.ready
     (λ view guid changed removed. c.in_ok-written.ensures.group view guid changed (c.as_slice.ensures ∙ removed))
-    (S.files old) (S.files c.read_before.new.shelf) (received_at (turns owed chain) upcoming)
-    (read_at command c.args.uids.now chain times.received (received_at (turns owed chain) upcoming) (S.files old) before
+    (S.sees.files old) (S.sees.files c.read_before.new.shelf) (received_at (turns owed chain) upcoming)
+    (read_at command c.args.uids.now chain times.received (received_at (turns owed chain) upcoming) (S.sees.files old) before
     (λ append. c.read_times-times.ensures.received reads (c.is_append.ensures ∙ append) ∙ ap (λ (b : Bool). received_at b upcoming) c.is_turn_due.ensures) (c.in_ok-before.ensures.read tells))
     (c.in_ok-before.ensures.looks tells).same
 
@@ -60,6 +60,6 @@ returns-clause-files g c = λ tells reads.
     let owed = c.args.owed.now in
     let times = c.read_times-times.result in
     let before = c.in_ok-before.before in
-    let upcoming : ℕ → ℕ = g.C.Clock.upcoming c.args.clock.now in
-    files_at command chain times.received (received_at (turns owed chain) upcoming) (S.files c.args.shelf.now) before.files
+    let upcoming : ℕ → ℕ = g.C.Clock.sees.upcoming c.args.clock.now in
+    files_at command chain times.received (received_at (turns owed chain) upcoming) (S.sees.files c.args.shelf.now) before.files
     (λ append. c.read_times-times.ensures.received reads (c.is_append.ensures ∙ append) ∙ ap (λ (b : Bool). received_at b upcoming) c.is_turn_due.ensures) (c.in_ok-before.ensures.read tells).files

@@ -15,9 +15,11 @@ returns c =
     record {
       salvaged = s;
       used = c.in_ok-salvage.used;
+      sources = c.in_ok-salvage.sources;
       salvages = c.in_ok-salvage.ensures;
       named = c.new_indexid-indexid.ensures.is ∙ ap (λ (l : List ℕ). new_indexid l c.args.now) c.as_slice.ensures;
       text = c.in_ok-text.ensures.text ∙ ap (λ (n : ℕ). log_text (header_of indexid n s.mailbox.highest) (rebuilt_records s c.args.kept.now indexid)) c.max.ensures;
+      remains = c.in_ok-remains.ensures;
       fits = c.in_ok-text.ensures.fits;
       good = good_header indexid (stamp_of c.args.now) s.mailbox.highest c.new_indexid-indexid.ensures.some (omega (arith, c.new_indexid-indexid.type_inv)) (omega (arith, c.ranges.now.fits)) (omega (arith, left.valid.highest.1));
       records = c.in_ok-text.ensures.records;

@@ -13,28 +13,28 @@ returns-in_err-put-in-Ok-clause-files g c = λ tells.
     let p = err_from_is_err_and c.from_residual.result c.from_residual.ensures.1 in
     let e = c.in_err-put-in-Ok.field-0.0 in
     let looks = c.in-Ok.ensures.looks tells in
-    let new = S.files c.put.new.shelf in
+    let new = S.sees.files c.put.new.shelf in
     rw (p.1, p.2)
-    (fault_left (S.files c.args.shelf.now) c.args.now c.in-Ok.log c.in-Ok.rebuilt (c.in-Ok.ensures.prepared tells) c.ranges.now.fits new e
+    (fault_left (S.sees.files c.args.shelf.now) c.args.now c.in-Ok.log c.in-Ok.rebuilt (c.in-Ok.ensures.prepared tells) c.ranges.now.fits new e
     (subst (λ (d : Folder). LeavesPut d c.in-Ok.log.text new (Err e)) looks.same (c.in_err-put-in-Ok.ensures.files tells)))
 
 pub returns-in_err-put-in-Ok-clause-since : goal.returns-in_err-put-in-Ok-clause-since
 returns-in_err-put-in-Ok-clause-since g c = λ tells settled.
     let S = g.S.Shelf in
     let looks = c.in-Ok.ensures.looks tells in
-    let still = settled_still S.files S.may_leave S.moment S.left_since c.args.shelf.now c.prepare.new.shelf settled looks in
-    rebuilt_since S.files S.may_leave S.moment S.left_since c.args.shelf.now c.prepare.new.shelf c.put.new.shelf c.args.now c.in-Ok.log c.in-Ok.rebuilt (c.in-Ok.ensures.prepared tells) c.ranges.now.fits settled looks (c.put.ensures.since tells still)
+    let still = settled_still S.sees c.args.shelf.now c.prepare.new.shelf settled looks in
+    rebuilt_since S.sees c.args.shelf.now c.prepare.new.shelf c.put.new.shelf c.args.now c.in-Ok.log c.in-Ok.rebuilt (c.in-Ok.ensures.prepared tells) c.ranges.now.fits settled looks (c.put.ensures.since tells still)
 
 pub returns-in_ok-put-in-Ok-clause-files : goal.returns-in_ok-put-in-Ok-clause-files
 returns-in_ok-put-in-Ok-clause-files g c = λ tells.
     let S = g.S.Shelf in
     let looks = c.in-Ok.ensures.looks tells in
-    put_told (S.files c.args.shelf.now) c.args.now c.in-Ok.log c.in-Ok.rebuilt (c.in-Ok.ensures.prepared tells) c.ranges.now.fits (S.files c.put.new.shelf)
+    put_told (S.sees.files c.args.shelf.now) c.args.now c.in-Ok.log c.in-Ok.rebuilt (c.in-Ok.ensures.prepared tells) c.ranges.now.fits (S.sees.files c.put.new.shelf)
     (c.in_ok-put-in-Ok.ensures.files tells ∙ ap (λ (d : Folder). with_file d Log (Some c.in-Ok.log.text)) looks.same)
 
 pub returns-in_ok-put-in-Ok-clause-since : goal.returns-in_ok-put-in-Ok-clause-since
 returns-in_ok-put-in-Ok-clause-since g c = λ tells settled.
     let S = g.S.Shelf in
     let looks = c.in-Ok.ensures.looks tells in
-    let still = settled_still S.files S.may_leave S.moment S.left_since c.args.shelf.now c.prepare.new.shelf settled looks in
-    rebuilt_since S.files S.may_leave S.moment S.left_since c.args.shelf.now c.prepare.new.shelf c.put.new.shelf c.args.now c.in-Ok.log c.in-Ok.rebuilt (c.in-Ok.ensures.prepared tells) c.ranges.now.fits settled looks (c.put.ensures.since tells still)
+    let still = settled_still S.sees c.args.shelf.now c.prepare.new.shelf settled looks in
+    rebuilt_since S.sees c.args.shelf.now c.prepare.new.shelf c.put.new.shelf c.args.now c.in-Ok.log c.in-Ok.rebuilt (c.in-Ok.ensures.prepared tells) c.ranges.now.fits settled looks (c.put.ensures.since tells still)

@@ -8,8 +8,8 @@ use Rattle.dv_store.proofs.sweeping.put_snapshot.Goals as goal
 pub returns-clause-cache : goal.returns-clause-cache
 returns-clause-cache g c = λ tells.
     let S = g.S.Shelf in
-    let old = S.files c.args.shelf.now in
-    let new = S.files c.checkpoint.new.shelf in
+    let old = S.sees.files c.args.shelf.now in
+    let new = S.sees.files c.checkpoint.new.shelf in
     put_else name.Index name.Cache c.args.text.now old new (λ q. cc) (puts_either name.Index c.args.text.now c.checkpoint.result old new (c.checkpoint.ensures.leaves tells).seen)
 
 pub returns-clause-quiet : goal.returns-clause-quiet
@@ -17,6 +17,6 @@ returns-clause-quiet g c = λ tells log stands.
     let S = g.S.Shelf in
     let chain = c.args.chain.now in
     let text = c.args.text.now in
-    quiet_steps S.files S.may_leave S.moment S.left_since log chain c.args.shelf.now c.checkpoint.new.shelf (Puts name.Index text c.checkpoint.result) (IsPut name.Index text)
+    quiet_steps S.sees log chain c.args.shelf.now c.checkpoint.new.shelf (Puts name.Index text c.checkpoint.result) (IsPut name.Index text)
     (λ d f puts has. index_put log chain d f has text c.requires (puts_either name.Index text c.checkpoint.result d f puts)) (λ d f put has. index_put log chain d f has text c.requires put)
     (c.checkpoint.ensures.leaves tells) stands

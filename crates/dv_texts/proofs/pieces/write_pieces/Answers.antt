@@ -6,7 +6,7 @@ use Rattle.dv_texts.proofs.pieces.write_pieces.Goals as goal
 
 pub loop-piece-preserved : goal.loop-piece-preserved
 loop-piece-preserved g c =
-    let old = g.O.Sink.taken c.args.out.now in
+    let old = g.O.Sink.sees.taken c.args.out.now in
     let i = c.loop-piece.piece-index in
     let pieces = c.args.pieces.now in
     let piece : List ℕ = c.piece-item.result in
@@ -15,7 +15,7 @@ loop-piece-preserved g c =
     record {
       taken = λ tells.
           c.in_ok-write_all.ensures.ok tells
-          ∙ ap (λ (t : List ℕ). g.O.Sink.taken c.loop-piece.out ++ t) c.as_slice.ensures
+          ∙ ap (λ (t : List ℕ). g.O.Sink.sees.taken c.loop-piece.out ++ t) c.as_slice.ensures
           ∙ ap (λ (t : List ℕ). t ++ piece) (c.loop-piece.invariant.taken tells)
           ∙ append_assoc old (joined (take i pieces)) piece
           ∙ ap (λ (t : List ℕ). old ++ t) (sym (joined_more pieces i piece c.loop-piece-test.true c.piece-item.is));
@@ -24,8 +24,8 @@ loop-piece-preserved g c =
 
 pub returns-in_err-write_all-clause-err : goal.returns-in_err-write_all-clause-err
 returns-in_err-write_all-clause-err g c = λ tells.
-    let old = g.O.Sink.taken c.args.out.now in
-    let mid = g.O.Sink.taken c.loop-piece.out in
-    let new = g.O.Sink.taken c.write_all.new.self in
+    let old = g.O.Sink.sees.taken c.args.out.now in
+    let mid = g.O.Sink.sees.taken c.loop-piece.out in
+    let new = g.O.Sink.sees.taken c.write_all.new.self in
     front_of_pieces c.args.pieces.now c.loop-piece.piece-index c.piece-item.result old mid new c.loop-piece-test.true c.piece-item.is (c.loop-piece.invariant.taken tells)
     (subst (λ (t : List ℕ). AppendsFront mid new t) c.as_slice.ensures (c.write_all.ensures.err tells))

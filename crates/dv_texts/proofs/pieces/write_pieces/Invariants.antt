@@ -4,6 +4,6 @@ use Rattle.dv_texts.proofs.pieces.write_pieces.Given as goal
 
 abbrev pub invariant-loop-piece : goal.invariant-loop-piece
 invariant-loop-piece g l = record {
-  taken : g.O.Sink.tells → g.O.Sink.taken l.out ≡ g.O.Sink.taken l.initial.out ++ joined (take l.piece-index l.pieces);
-  later : g.O.Sink.fault_count l.initial.out ≤ g.O.Sink.fault_count l.out;
+  taken : g.O.Sink.sees.tells → g.O.Sink.sees.taken l.out ≡ g.O.Sink.sees.taken l.initial.out ++ joined (take l.piece-index l.pieces);
+  later : g.O.Sink.sees.fault_count l.initial.out ≤ g.O.Sink.sees.fault_count l.out;
 }

@@ -31,7 +31,7 @@ returns-in_err-make_way-clause-gives g c = λ tells log debt write fits stands i
     let S = g.S.Shelf in
     let p = err_from_is_err_and c.from_residual.result c.from_residual.ensures.1 in
     rw p.1
-    (stores_stopped S.files S.may_leave S.moment S.left_since log debt write c.args.owed.now c.args.text.now c.args.steps c.args.chain.now c.args.shelf.now is c.make_way.new.owed c.make_way.new.chain c.make_way.new.shelf _ p.0
+    (stores_stopped S.sees log debt write c.args.owed.now c.args.text.now c.args.steps c.args.chain.now c.args.shelf.now is c.make_way.new.owed c.make_way.new.chain c.make_way.new.shelf _ p.0
     (c.in_err-make_way.ensures.quiet tells log debt fits stands is.closes) (c.in_err-make_way.ensures.files tells))
 
 pub returns-in_err-write_files-clause-value : goal.returns-in_err-write_files-clause-value
@@ -53,10 +53,10 @@ returns-in_err-write_files-clause-gives g c = λ tells log debt write fits stand
     let way = c.make_way.new.shelf in
     let value = c.in_ok-make_way.ensures.value in
     let quiet = c.in_ok-make_way.ensures.quiet tells log debt fits stands is.closes in
-    let there = files_there S.files S.may_leave S.moment S.left_since log debt write owed text steps chain old is left mid way _ value in
+    let there = files_there S.sees log debt write owed text steps chain old is left mid way _ value in
     let before = c.in_err-write_files.ensures.quiet tells log quiet.ok (may_renew log write.received mid.live.mailbox write.command steps.files there) in
     rw p.1
-    (stores_halted S.files S.may_leave S.moment S.left_since log debt write owed text steps chain old is left mid way _ value c.requires.steps.due fits quiet (c.in_ok-make_way.ensures.files tells)
+    (stores_halted S.sees log debt write owed text steps chain old is left mid way _ value c.requires.steps.due fits quiet (c.in_ok-make_way.ensures.files tells)
     c.write_files.new.shelf before (c.in_err-write_files.ensures.others tells) p.0)
 
 pub returns-clause-value : goal.returns-clause-value
@@ -81,12 +81,12 @@ returns-clause-gives g c = λ tells log debt write fits stands is.
     let between = c.write_files.new.shelf in
     let value = c.in_ok-make_way.ensures.value in
     let quiet = c.in_ok-make_way.ensures.quiet tells log debt fits stands is.closes in
-    let there = files_there S.files S.may_leave S.moment S.left_since log debt write owed text steps chain old is left mid way _ value in
-    let gives = after_there S.files S.may_leave S.moment S.left_since log debt write owed text steps chain old is left mid way _ value in
-    let pending = pending_there S.files S.may_leave S.moment S.left_since log debt write owed text steps chain old is left mid way _ value in
+    let there = files_there S.sees log debt write owed text steps chain old is left mid way _ value in
+    let gives = after_there S.sees log debt write owed text steps chain old is left mid way _ value in
+    let pending = pending_there S.sees log debt write owed text steps chain old is left mid way _ value in
     let before = c.in_ok-write_files.ensures.quiet tells log quiet.ok (may_renew log write.received mid.live.mailbox write.command steps.files there) in
-    let next = next_here S.files S.may_leave S.moment S.left_since log debt write owed text steps chain old is left mid way _ value between (c.in_ok-write_files.ensures.next tells log write is.after quiet.ok gives there) in
-    stores_failed S.files S.may_leave S.moment S.left_since log debt write owed text steps chain old is left mid way _ value c.requires.steps.due fits quiet (c.in_ok-make_way.ensures.files tells)
+    let next = next_here S.sees log debt write owed text steps chain old is left mid way _ value between (c.in_ok-write_files.ensures.next tells log write is.after quiet.ok gives there) in
+    stores_failed S.sees log debt write owed text steps chain old is left mid way _ value c.requires.steps.due fits quiet (c.in_ok-make_way.ensures.files tells)
     between before (c.in_ok-write_files.ensures.others tells) c.commit_group.new.chain c.commit_group.new.shelf _ _ c.in-Err.ensures.value
     (c.in-Err.ensures.gives tells log (log_with log write chain.live.mailbox) is.after before.stands pending next)
 
@@ -104,11 +104,11 @@ returns-in-Ok-clause-gives g c = λ tells log debt write fits stands is.
     let between = c.write_files.new.shelf in
     let value = c.in_ok-make_way.ensures.value in
     let quiet = c.in_ok-make_way.ensures.quiet tells log debt fits stands is.closes in
-    let there = files_there S.files S.may_leave S.moment S.left_since log debt write owed text steps chain old is left mid way _ value in
-    let gives = after_there S.files S.may_leave S.moment S.left_since log debt write owed text steps chain old is left mid way _ value in
-    let pending = pending_there S.files S.may_leave S.moment S.left_since log debt write owed text steps chain old is left mid way _ value in
+    let there = files_there S.sees log debt write owed text steps chain old is left mid way _ value in
+    let gives = after_there S.sees log debt write owed text steps chain old is left mid way _ value in
+    let pending = pending_there S.sees log debt write owed text steps chain old is left mid way _ value in
     let before = c.in_ok-write_files.ensures.quiet tells log quiet.ok (may_renew log write.received mid.live.mailbox write.command steps.files there) in
-    let next = next_here S.files S.may_leave S.moment S.left_since log debt write owed text steps chain old is left mid way _ value between (c.in_ok-write_files.ensures.next tells log write is.after quiet.ok gives there) in
-    stores_done S.files S.may_leave S.moment S.left_since log debt write owed text steps chain old is left mid way _ value c.requires.steps.due fits quiet (c.in_ok-make_way.ensures.files tells)
+    let next = next_here S.sees log debt write owed text steps chain old is left mid way _ value between (c.in_ok-write_files.ensures.next tells log write is.after quiet.ok gives there) in
+    stores_done S.sees log debt write owed text steps chain old is left mid way _ value c.requires.steps.due fits quiet (c.in_ok-make_way.ensures.files tells)
     between before (c.in_ok-write_files.ensures.others tells) c.commit_group.new.chain c.commit_group.new.shelf _
     (c.in-Ok.ensures.gives tells log (log_with log write chain.live.mailbox) is.after before.stands pending next) (c.in_ok-write_files.ensures.written tells).seen

@@ -22,8 +22,8 @@ returns-in_err-clear-clause-written g c = λ tells.
 pub returns-in_err-clear-clause-others : goal.returns-in_err-clear-clause-others
 returns-in_err-clear-clause-others g c = λ tells.
     let S = g.S.Shelf in
-    sweep_unnamed c.args.chain.now.live.mailbox c.args.renewal.now (S.files c.args.shelf.now) (S.files c.clear.new.shelf)
-    (subst (λ (us : List ℕ). IsSweeping us (S.files c.args.shelf.now) (S.files c.clear.new.shelf)) c.as_slice.ensures (c.in_err-clear.ensures.leaves tells).seen)
+    sweep_unnamed c.args.chain.now.live.mailbox c.args.renewal.now (S.sees.files c.args.shelf.now) (S.sees.files c.clear.new.shelf)
+    (subst (λ (us : List ℕ). IsSweeping us (S.sees.files c.args.shelf.now) (S.sees.files c.clear.new.shelf)) c.as_slice.ensures (c.in_err-clear.ensures.leaves tells).seen)
 
 pub returns-in_err-clear-clause-quiet : goal.returns-in_err-clear-clause-quiet
 returns-in_err-clear-clause-quiet g c = λ tells log stands renews. c.in_err-clear.ensures.quiet tells log stands
@@ -33,19 +33,19 @@ returns-clause-written g c = λ tells.
     let S = g.S.Shelf in
     let old = c.args.shelf.now in
     let mid = c.clear.new.shelf in
-    let first = subst (λ (us : List ℕ). Leaves S.files S.may_leave S.moment S.left_since (IsSwept us) (IsSweeping us) old mid) c.as_slice.ensures (c.in_ok-clear.ensures.leaves tells) in
-    check_written c.args.chain.now.live.mailbox c.args.renewal.now S.files S.may_leave S.moment S.left_since old mid c.renew.new.shelf c.renew.result first (c.renew.ensures.leaves tells)
+    let first = subst (λ (us : List ℕ). Leaves S.sees (IsSwept us) (IsSweeping us) old mid) c.as_slice.ensures (c.in_ok-clear.ensures.leaves tells) in
+    check_written c.args.chain.now.live.mailbox c.args.renewal.now S.sees old mid c.renew.new.shelf c.renew.result first (c.renew.ensures.leaves tells)
 
 pub returns-clause-others : goal.returns-clause-others
 returns-clause-others g c = λ tells.
     let S = g.S.Shelf in
     let old = c.args.shelf.now in
     let mid = c.clear.new.shelf in
-    let first = subst (λ (us : List ℕ). Leaves S.files S.may_leave S.moment S.left_since (IsSwept us) (IsSweeping us) old mid) c.as_slice.ensures (c.in_ok-clear.ensures.leaves tells) in
-    check_others c.args.chain.now.live.mailbox c.args.renewal.now S.files S.may_leave S.moment S.left_since old mid c.renew.new.shelf c.renew.result first (c.renew.ensures.leaves tells)
+    let first = subst (λ (us : List ℕ). Leaves S.sees (IsSwept us) (IsSweeping us) old mid) c.as_slice.ensures (c.in_ok-clear.ensures.leaves tells) in
+    check_others c.args.chain.now.live.mailbox c.args.renewal.now S.sees old mid c.renew.new.shelf c.renew.result first (c.renew.ensures.leaves tells)
 
 pub returns-clause-quiet : goal.returns-clause-quiet
 returns-clause-quiet g c = λ tells log stands renews.
     let S = g.S.Shelf in
     let first = c.in_ok-clear.ensures.quiet tells log stands in
-    quiet_both S.files S.may_leave S.moment S.left_since log c.args.chain.now c.args.shelf.now c.clear.new.shelf c.renew.new.shelf first (c.renew.ensures.quiet tells log first.stands renews)
+    quiet_both S.sees log c.args.chain.now c.args.shelf.now c.clear.new.shelf c.renew.new.shelf first (c.renew.ensures.quiet tells log first.stands renews)

@@ -18,13 +18,13 @@ returns-in_err-repair-clause-quiet g c = λ tells log debt fits stands closes.
     let S = g.S.Shelf in
     let p = err_from_is_err_and c.from_residual.result c.from_residual.ensures.1 in
     rw p.1
-    (quiet_failed S.may_leave S.moment S.left_since log debt c.args.chain.now c.repair.new.chain c.args.shelf.now c.repair.new.shelf _ p.0 c.args.owed.now c.repair.new.turn c.args.turn c.in_err-repair.ensures.value.failed fits
+    (quiet_failed S.sees log debt c.args.chain.now c.repair.new.chain c.args.shelf.now c.repair.new.shelf _ p.0 c.args.owed.now c.repair.new.turn c.args.turn c.in_err-repair.ensures.value.failed fits
     (c.in_err-repair.ensures.quiet tells log debt fits stands))
 
 pub returns-in_err-repair-clause-files : goal.returns-in_err-repair-clause-files
 returns-in_err-repair-clause-files g c = λ tells.
     let S = g.S.Shelf in
-    repair_mails c.args.owed.now c.args.chain.now.log _ (S.files c.args.shelf.now) (S.files c.repair.new.shelf) (c.in_err-repair.ensures.files tells)
+    repair_mails c.args.owed.now c.args.chain.now.log _ (S.sees.files c.args.shelf.now) (S.sees.files c.repair.new.shelf) (c.in_err-repair.ensures.files tells)
 
 pub turn_over-requires-clause-room : goal.turn_over-requires-clause-room
 turn_over-requires-clause-room g c =
@@ -51,16 +51,16 @@ returns-in-Some-clause-quiet g c = λ tells log debt fits stands closes.
     let due = subst (λ (o : Option Turn). IsDue c.args.owed.now chain o) c.in-Some.is c.requires.due in
     let paid = repaired_is _ c.args.owed.now c.repair.new.turn chain c.repair.new.chain c.requires.owing c.in_ok-repair.ensures.value in
     let quiet = c.in_ok-repair.ensures.quiet tells log debt fits stands in
-    let closes_old = subst (λ (o : Option Turn). IfSome o (λ t. ClosesLog chain t (S.files old))) c.in-Some.is closes in
+    let closes_old = subst (λ (o : Option Turn). IfSome o (λ t. ClosesLog chain t (S.sees.files old))) c.in-Some.is closes in
     let closes_mid = (c.in_ok-repair.ensures.turns tells due.2 made).closes closes_old in
     rw c.in-Some.is
-    (quiet_turned S.may_leave S.moment S.left_since log debt chain c.repair.new.chain old mid _ c.args.owed.now made c.turn_over.new.owed c.turn_over.new.chain c.turn_over.new.shelf c.turn_over.result due.2 paid c.turn_over.ensures.value quiet
+    (quiet_turned S.sees log debt chain c.repair.new.chain old mid _ c.args.owed.now made c.turn_over.new.owed c.turn_over.new.chain c.turn_over.new.shelf c.turn_over.result due.2 paid c.turn_over.ensures.value quiet
     (c.turn_over.ensures.quiet tells log quiet.ok closes_mid))
 
 pub returns-in-Some-clause-files : goal.returns-in-Some-clause-files
 returns-in-Some-clause-files g c = λ tells.
     let S = g.S.Shelf in
-    turn_mails c.args.owed.now c.args.chain.now.log _ c.in-Some.made c.turn_over.new.owed c.turn_over.result (S.files c.args.shelf.now) (S.files c.repair.new.shelf) (S.files c.turn_over.new.shelf)
+    turn_mails c.args.owed.now c.args.chain.now.log _ c.in-Some.made c.turn_over.new.owed c.turn_over.result (S.sees.files c.args.shelf.now) (S.sees.files c.repair.new.shelf) (S.sees.files c.turn_over.new.shelf)
     (c.in_ok-repair.ensures.files tells) (c.turn_over.ensures.leaves tells).seen
 
 pub returns-in-None-clause-value : goal.returns-in-None-clause-value
@@ -72,9 +72,9 @@ pub returns-in-None-clause-quiet : goal.returns-in-None-clause-quiet
 returns-in-None-clause-quiet g c = λ tells log debt fits stands closes.
     let S = g.S.Shelf in
     rw c.in-None.is
-    (quiet_paid S.may_leave S.moment S.left_since log debt c.args.chain.now c.repair.new.chain c.args.shelf.now c.repair.new.shelf _ tt c.args.owed.now c.repair.new.turn (c.in_ok-repair.ensures.quiet tells log debt fits stands))
+    (quiet_paid S.sees log debt c.args.chain.now c.repair.new.chain c.args.shelf.now c.repair.new.shelf _ tt c.args.owed.now c.repair.new.turn (c.in_ok-repair.ensures.quiet tells log debt fits stands))
 
 pub returns-in-None-clause-files : goal.returns-in-None-clause-files
 returns-in-None-clause-files g c = λ tells.
     let S = g.S.Shelf in
-    repair_mails c.args.owed.now c.args.chain.now.log _ (S.files c.args.shelf.now) (S.files c.repair.new.shelf) (c.in_ok-repair.ensures.files tells)
+    repair_mails c.args.owed.now c.args.chain.now.log _ (S.sees.files c.args.shelf.now) (S.sees.files c.repair.new.shelf) (c.in_ok-repair.ensures.files tells)

@@ -24,7 +24,7 @@ fetch_rows-requires-clause-numbers g c =
 pub returns-clause-found : goal.returns-clause-found
 returns-clause-found g c = λ told same truth mail are.
     let with = g.R.Replies.with in
-    let folder = g.S.Shelf.files c.args.shelf.now in
+    let folder = g.S.Shelf.sees.files c.args.shelf.now in
     let m = c.args.chain.now.live.mailbox in
     let view = c.args.view.now in
     let by_uid = c.args.by_uid in
@@ -53,7 +53,7 @@ returns-clause-spares g c = λ told same stand.
     let chosen = named by_uid set view in
     let is = ok_gives (λ numbers. rows_at view.rows numbers ≡ chosen) c.named.result c.in_ok-numbers.numbers (sym c.in_memory.ensures ∙ c.in_ok-numbers.was) c.named.ensures.is in
     let all : rows_at c.as_slice-rows.result.now c.as_slice-2.result.now ≡ chosen = ap (λ (rs : List Shown). rows_at rs c.as_slice-2.result.now) (c.as_slice-rows.ensures ∙ c.rows.ensures.is) ∙ ap (rows_at view.rows) c.as_slice-2.ensures ∙ is in
-    subst (λ uids. SparesEach (S.files c.args.shelf.now) c.args.chain.now.indexid c.args.chain.now.live.mailbox uids (S.mail_reads c.args.shelf.now) (S.mail_reads c.fetch_rows.new.shelf))
+    subst (λ uids. SparesEach (S.sees.files c.args.shelf.now) c.args.chain.now.indexid c.args.chain.now.live.mailbox uids (S.sees.mail_reads c.args.shelf.now) (S.sees.mail_reads c.fetch_rows.new.shelf))
     (ap uids_of all ∙ fetch_reads by_uid set items view c.requires.reads) (c.fetch_rows.ensures.spares told same stand)
 
 pub returns-clause-most : goal.returns-clause-most
@@ -66,7 +66,7 @@ returns-clause-most g c =
     let chosen = named by_uid set view in
     let is = ok_gives (λ numbers. rows_at view.rows numbers ≡ chosen) c.named.result c.in_ok-numbers.numbers (sym c.in_memory.ensures ∙ c.in_ok-numbers.was) c.named.ensures.is in
     let all : rows_at c.as_slice-rows.result.now c.as_slice-2.result.now ≡ chosen = ap (λ (rs : List Shown). rows_at rs c.as_slice-2.result.now) (c.as_slice-rows.ensures ∙ c.rows.ensures.is) ∙ ap (rows_at view.rows) c.as_slice-2.ensures ∙ is in
-    subst (λ uids. CountsUpTo (count_by (has_uid c.args.chain.now.live.mailbox) uids) (S.mail_reads c.args.shelf.now) (S.mail_reads c.fetch_rows.new.shelf))
+    subst (λ uids. CountsUpTo (count_by (has_uid c.args.chain.now.live.mailbox) uids) (S.sees.mail_reads c.args.shelf.now) (S.sees.mail_reads c.fetch_rows.new.shelf))
     (ap uids_of all ∙ fetch_reads by_uid set items view c.requires.reads) c.fetch_rows.ensures.most
 
 pub returns-clause-failed : goal.returns-clause-failed

@@ -16,7 +16,7 @@ pub loop-number-preserved : goal.loop-number-preserved
 loop-number-preserved g c =
     let S = g.S.Shelf in
     let with = g.R.Replies.with in
-    let folder = S.files c.args.shelf.now in
+    let folder = S.sees.files c.args.shelf.now in
     let indexid = c.args.chain.now.indexid in
     let m = c.args.chain.now.live.mailbox in
     let items = c.args.items.now in
@@ -32,10 +32,10 @@ loop-number-preserved g c =
     let did = c.fetch_row.ensures in
     let same : s ≡ row_at rows n = c.row_at-s.ensures in
     let uid : s.uid ≡ get_or uids i 0 = ap (λ (x : Shown). x.uid) same ∙ sym (uid_is rows numbers i less) in
-    let still : S.tells → S.files c.loop-number.shelf ≡ folder = λ told. (inv.looks told).same in
-    let file : S.tells → IsFileOf folder c.args.self.now → IsFileOf (S.files c.loop-number.shelf) c.loop-number.self = λ told same.
+    let still : S.sees.tells → S.sees.files c.loop-number.shelf ≡ folder = λ told. (inv.looks told).same in
+    let file : S.sees.tells → IsFileOf folder c.args.self.now → IsFileOf (S.sees.files c.loop-number.shelf) c.loop-number.self = λ told same.
     subst (λ (f : Folder). IsFileOf f c.loop-number.self) (sym (still told)) (inv.file told same) in
-    let truth : S.tells → HasTrueCache folder indexid m → HasTrueCache (S.files c.loop-number.shelf) indexid m = λ told true_cache.
+    let truth : S.sees.tells → HasTrueCache folder indexid m → HasTrueCache (S.sees.files c.loop-number.shelf) indexid m = λ told true_cache.
     subst (λ (f : Folder). HasTrueCache f indexid m) (sym (still told)) true_cache in
     let each = λ (row : ℕ × Shown). line_of m items row (mail_of folder m row.1.uid) in
     record {
@@ -49,7 +49,7 @@ loop-number-preserved g c =
           ∙ ap (λ (row : ℕ × Shown). with c.args.lines.now (before ++ each row)) (sym (row_is rows numbers i less))
           ∙ ap (with c.args.lines.now) (sym (flat_more each all i (n, row_at rows n) (row_less rows numbers i less)));
       damaged = λ told is true_cache.
-          damage_more folder (S.files c.loop-number.shelf) m uids i s.uid c.loop-number.damaged c.fetch_row.new.damaged (uid_less rows numbers i less) uid (still told) (inv.damaged told is true_cache)
+          damage_more folder (S.sees.files c.loop-number.shelf) m uids i s.uid c.loop-number.damaged c.fetch_row.new.damaged (uid_less rows numbers i less) uid (still told) (inv.damaged told is true_cache)
           (c.in_ok-fetch_row.ensures.damaged told (file told is) (truth told true_cache));
       file = λ told same. subst (λ (f : Folder). IsFileOf f c.fetch_row.new.self) (still told) (did.file told (file told same));
       again = λ read.
@@ -57,7 +57,7 @@ loop-number-preserved g c =
           did.economy.again (ap is_read before ∙ read) ∙ before;
       aside = λ no. did.economy.aside no ∙ inv.aside no;
       looks = search rules;
-      reads = row_more S.tells S.files indexid m c.args.asked.now S.mail_reads uids i s.uid
+      reads = row_more S.sees indexid m c.args.asked.now uids i s.uid
           c.args.shelf.now c.loop-number.shelf c.fetch_row.new.shelf c.args.self.now c.loop-number.self c.fetch_row.new.self (uid_less rows numbers i less) uid
           still inv.file inv.reads did.economy did.spares;
       faults = search rules;
@@ -68,7 +68,7 @@ returns-in_err-fetch_row-clause-failed g c = λ told is true_cache failed.
     let S = g.S.Shelf in
     let all = rows_at c.args.rows.now c.args.numbers.now in
     let p = err_from_is_err_and c.from_residual.result c.from_residual.ensures.1 in (
-      lines_of (S.files c.args.shelf.now) c.args.chain.now.live.mailbox c.args.items.now (take c.loop-number.number-index all),
+      lines_of (S.sees.files c.args.shelf.now) c.args.chain.now.live.mailbox c.args.items.now (take c.loop-number.number-index all),
       c.fetch_row.ensures.failed (passed_on c.from_residual.result c.fetch_row.result c.in_err-fetch_row.field-0.0 p.0 fault.Failed c.in_err-fetch_row.was p.1 p.2 failed) ∙ c.loop-number.invariant.lines told is true_cache,
     )
 
@@ -86,8 +86,8 @@ returns-in_err-fetch_row-clause-most g c =
     let s = c.row_at-s.result.now in
     let inv = c.loop-number.invariant in
     let uid : s.uid ≡ get_or uids i 0 = ap (λ (x : Shown). x.uid) c.row_at-s.ensures ∙ sym (uid_is rows numbers i less) in
-    most_of (IsNear S.tells S.files indexid m asked c.args.shelf.now c.args.self.now) m uids (i + 1) (S.mail_reads c.args.shelf.now) (S.mail_reads c.fetch_row.new.shelf)
-    (row_more S.tells S.files indexid m asked S.mail_reads uids i s.uid
+    most_of (IsNear S.sees indexid m asked c.args.shelf.now c.args.self.now) m uids (i + 1) (S.sees.mail_reads c.args.shelf.now) (S.sees.mail_reads c.fetch_row.new.shelf)
+    (row_more S.sees indexid m asked uids i s.uid
     c.args.shelf.now c.loop-number.shelf c.fetch_row.new.shelf c.args.self.now c.loop-number.self c.fetch_row.new.self (uid_less rows numbers i less) uid
     (λ told. (inv.looks told).same) inv.file inv.reads c.fetch_row.ensures.economy c.fetch_row.ensures.spares)
 
@@ -105,8 +105,8 @@ returns-in_err-fetch_row-clause-spares g c =
     let s = c.row_at-s.result.now in
     let inv = c.loop-number.invariant in
     let uid : s.uid ≡ get_or uids i 0 = ap (λ (x : Shown). x.uid) c.row_at-s.ensures ∙ sym (uid_is rows numbers i less) in
-    spares_of S.tells S.files indexid m asked uids (i + 1) c.args.shelf.now c.args.self.now (S.mail_reads c.args.shelf.now) (S.mail_reads c.fetch_row.new.shelf)
-    (row_more S.tells S.files indexid m asked S.mail_reads uids i s.uid
+    spares_of S.sees indexid m asked uids (i + 1) c.args.shelf.now c.args.self.now (S.sees.mail_reads c.args.shelf.now) (S.sees.mail_reads c.fetch_row.new.shelf)
+    (row_more S.sees indexid m asked uids i s.uid
     c.args.shelf.now c.loop-number.shelf c.fetch_row.new.shelf c.args.self.now c.loop-number.self c.fetch_row.new.self (uid_less rows numbers i less) uid
     (λ told. (inv.looks told).same) inv.file inv.reads c.fetch_row.ensures.economy c.fetch_row.ensures.spares)
 
@@ -114,11 +114,11 @@ pub returns-clause-most : goal.returns-clause-most
 returns-clause-most g c =
     let S = g.S.Shelf in
     let m = c.args.chain.now.live.mailbox in
-    most_of (IsNear S.tells S.files c.args.chain.now.indexid m c.args.asked.now c.args.shelf.now c.args.self.now) m (uids_of (rows_at c.args.rows.now c.args.numbers.now)) c.loop-number.number-index
-    (S.mail_reads c.args.shelf.now) (S.mail_reads c.loop-number.shelf) c.loop-number.invariant.reads
+    most_of (IsNear S.sees c.args.chain.now.indexid m c.args.asked.now c.args.shelf.now c.args.self.now) m (uids_of (rows_at c.args.rows.now c.args.numbers.now)) c.loop-number.number-index
+    (S.sees.mail_reads c.args.shelf.now) (S.sees.mail_reads c.loop-number.shelf) c.loop-number.invariant.reads
 
 pub returns-clause-spares : goal.returns-clause-spares
 returns-clause-spares g c =
     let S = g.S.Shelf in
-    spares_of S.tells S.files c.args.chain.now.indexid c.args.chain.now.live.mailbox c.args.asked.now (uids_of (rows_at c.args.rows.now c.args.numbers.now)) c.loop-number.number-index
-    c.args.shelf.now c.args.self.now (S.mail_reads c.args.shelf.now) (S.mail_reads c.loop-number.shelf) c.loop-number.invariant.reads
+    spares_of S.sees c.args.chain.now.indexid c.args.chain.now.live.mailbox c.args.asked.now (uids_of (rows_at c.args.rows.now c.args.numbers.now)) c.loop-number.number-index
+    c.args.shelf.now c.args.self.now (S.sees.mail_reads c.args.shelf.now) (S.sees.mail_reads c.loop-number.shelf) c.loop-number.invariant.reads

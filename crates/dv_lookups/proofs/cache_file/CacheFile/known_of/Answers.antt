@@ -9,7 +9,7 @@ use Rattle.dv_lookups.proofs.cache_file.CacheFile.known_of.Goals as goal
 
 pub returns-clause-found : goal.returns-clause-found
 returns-clause-found g c = λ told same looks.
-    let folder = g.S.Shelf.files c.args.shelf.now in
+    let folder = g.S.Shelf.sees.files c.args.shelf.now in
     let m = c.args.chain.now.live.mailbox in
     let row = c.args.row.now in
     let file = c.load.new.self in

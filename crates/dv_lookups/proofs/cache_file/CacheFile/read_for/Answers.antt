@@ -20,7 +20,7 @@ returns-in-Fetch-clause-found g c = λ told same truth mail are.
 pub returns-in-Fetch-clause-most : goal.returns-in-Fetch-clause-most
 returns-in-Fetch-clause-most g c =
     let S = g.S.Shelf in
-    subst (λ (cmd : Command). CountsUpTo (count_by (has_uid c.args.chain.now.live.mailbox) (uids_read cmd c.args.view.now)) (S.mail_reads c.args.shelf.now) (S.mail_reads c.fetch_for.new.shelf)) (sym c.in-Fetch.is)
+    subst (λ (cmd : Command). CountsUpTo (count_by (has_uid c.args.chain.now.live.mailbox) (uids_read cmd c.args.view.now)) (S.sees.mail_reads c.args.shelf.now) (S.sees.mail_reads c.fetch_for.new.shelf)) (sym c.in-Fetch.is)
     c.fetch_for.ensures.most
 
 pub returns-in-Fetch-clause-spares : goal.returns-in-Fetch-clause-spares
@@ -28,7 +28,7 @@ returns-in-Fetch-clause-spares g c = λ told same stand.
     let S = g.S.Shelf in
     let asked = c.in_ok-asked.asked in
     let asks = ok_gives (Asks c.args.c.now) c.asked_by.result asked (sym c.in_memory.ensures ∙ c.in_ok-asked.was) c.asked_by.ensures in
-    subst (λ (cmd : Command). SparesEach (S.files c.args.shelf.now) c.args.chain.now.indexid c.args.chain.now.live.mailbox (uids_read cmd c.args.view.now) (S.mail_reads c.args.shelf.now) (S.mail_reads c.fetch_for.new.shelf))
+    subst (λ (cmd : Command). SparesEach (S.sees.files c.args.shelf.now) c.args.chain.now.indexid c.args.chain.now.live.mailbox (uids_read cmd c.args.view.now) (S.sees.mail_reads c.args.shelf.now) (S.sees.mail_reads c.fetch_for.new.shelf))
     (sym c.in-Fetch.is) (c.fetch_for.ensures.spares told same (stand asked asks))
 
 pub returns-in-Search-clause-found : goal.returns-in-Search-clause-found
@@ -42,7 +42,7 @@ returns-in-Search-clause-found g c = λ told same truth mail are.
 pub returns-in-Search-clause-most : goal.returns-in-Search-clause-most
 returns-in-Search-clause-most g c =
     let S = g.S.Shelf in
-    subst (λ (cmd : Command). CountsUpTo (count_by (has_uid c.args.chain.now.live.mailbox) (uids_read cmd c.args.view.now)) (S.mail_reads c.args.shelf.now) (S.mail_reads c.search_for.new.shelf)) (sym c.in-Search.is)
+    subst (λ (cmd : Command). CountsUpTo (count_by (has_uid c.args.chain.now.live.mailbox) (uids_read cmd c.args.view.now)) (S.sees.mail_reads c.args.shelf.now) (S.sees.mail_reads c.search_for.new.shelf)) (sym c.in-Search.is)
     c.search_for.ensures.most
 
 pub returns-in-Search-clause-spares : goal.returns-in-Search-clause-spares
@@ -50,5 +50,5 @@ returns-in-Search-clause-spares g c = λ told same stand.
     let S = g.S.Shelf in
     let asked = c.in_ok-asked.asked in
     let asks = ok_gives (Asks c.args.c.now) c.asked_by.result asked (sym c.in_memory.ensures ∙ c.in_ok-asked.was) c.asked_by.ensures in
-    subst (λ (cmd : Command). SparesEach (S.files c.args.shelf.now) c.args.chain.now.indexid c.args.chain.now.live.mailbox (uids_read cmd c.args.view.now) (S.mail_reads c.args.shelf.now) (S.mail_reads c.search_for.new.shelf))
+    subst (λ (cmd : Command). SparesEach (S.sees.files c.args.shelf.now) c.args.chain.now.indexid c.args.chain.now.live.mailbox (uids_read cmd c.args.view.now) (S.sees.mail_reads c.args.shelf.now) (S.sees.mail_reads c.search_for.new.shelf))
     (sym c.in-Search.is) (c.search_for.ensures.spares told same (stand asked asks))

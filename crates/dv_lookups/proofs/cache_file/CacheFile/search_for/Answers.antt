@@ -16,7 +16,7 @@ use Rattle.dv_lookups.proofs.cache_file.CacheFile.search_for.Goals as goal
 pub returns-clause-found : goal.returns-clause-found
 returns-clause-found g c = λ told same truth mail are.
     let with = g.R.Replies.with in
-    let folder = g.S.Shelf.files c.args.shelf.now in
+    let folder = g.S.Shelf.sees.files c.args.shelf.now in
     let m = c.args.chain.now.live.mailbox in
     let view = c.args.view.now in
     let by_uid = c.args.by_uid in
@@ -34,23 +34,23 @@ returns-clause-found g c = λ told same truth mail are.
 pub returns-in_err-in_memory-clause-most : goal.returns-in_err-in_memory-clause-most
 returns-in_err-in_memory-clause-most g c =
     let S = g.S.Shelf in
-    subst (λ uids. CountsUpTo (count_by (has_uid c.args.chain.now.live.mailbox) uids) (S.mail_reads c.args.shelf.now) (S.mail_reads c.search_rows.new.shelf))
+    subst (λ uids. CountsUpTo (count_by (has_uid c.args.chain.now.live.mailbox) uids) (S.sees.mail_reads c.args.shelf.now) (S.sees.mail_reads c.search_rows.new.shelf))
     (search_reads c.args.by_uid c.args.key.now c.args.view.now c.requires.reads) c.search_rows.ensures.most
 
 pub returns-in_err-in_memory-clause-spares : goal.returns-in_err-in_memory-clause-spares
 returns-in_err-in_memory-clause-spares g c = λ told same stand.
     let S = g.S.Shelf in
-    subst (λ uids. SparesEach (S.files c.args.shelf.now) c.args.chain.now.indexid c.args.chain.now.live.mailbox uids (S.mail_reads c.args.shelf.now) (S.mail_reads c.search_rows.new.shelf))
+    subst (λ uids. SparesEach (S.sees.files c.args.shelf.now) c.args.chain.now.indexid c.args.chain.now.live.mailbox uids (S.sees.mail_reads c.args.shelf.now) (S.sees.mail_reads c.search_rows.new.shelf))
     (search_reads c.args.by_uid c.args.key.now c.args.view.now c.requires.reads) (c.search_rows.ensures.spares told same stand)
 
 pub returns-clause-most : goal.returns-clause-most
 returns-clause-most g c =
     let S = g.S.Shelf in
-    subst (λ uids. CountsUpTo (count_by (has_uid c.args.chain.now.live.mailbox) uids) (S.mail_reads c.args.shelf.now) (S.mail_reads c.search_rows.new.shelf))
+    subst (λ uids. CountsUpTo (count_by (has_uid c.args.chain.now.live.mailbox) uids) (S.sees.mail_reads c.args.shelf.now) (S.sees.mail_reads c.search_rows.new.shelf))
     (search_reads c.args.by_uid c.args.key.now c.args.view.now c.requires.reads) c.search_rows.ensures.most
 
 pub returns-clause-spares : goal.returns-clause-spares
 returns-clause-spares g c = λ told same stand.
     let S = g.S.Shelf in
-    subst (λ uids. SparesEach (S.files c.args.shelf.now) c.args.chain.now.indexid c.args.chain.now.live.mailbox uids (S.mail_reads c.args.shelf.now) (S.mail_reads c.search_rows.new.shelf))
+    subst (λ uids. SparesEach (S.sees.files c.args.shelf.now) c.args.chain.now.indexid c.args.chain.now.live.mailbox uids (S.sees.mail_reads c.args.shelf.now) (S.sees.mail_reads c.search_rows.new.shelf))
     (search_reads c.args.by_uid c.args.key.now c.args.view.now c.requires.reads) (c.search_rows.ensures.spares told same stand)

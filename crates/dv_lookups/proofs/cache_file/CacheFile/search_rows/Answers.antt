@@ -21,7 +21,7 @@ overflow_add-number g c =
 pub loop-s-preserved : goal.loop-s-preserved
 loop-s-preserved g c =
     let S = g.S.Shelf in
-    let folder = S.files c.args.shelf.now in
+    let folder = S.sees.files c.args.shelf.now in
     let indexid = c.args.chain.now.indexid in
     let m = c.args.chain.now.live.mailbox in
     let view = c.args.view.now in
@@ -37,10 +37,10 @@ loop-s-preserved g c =
     let did = c.search_row.ensures in
     let uid : s.uid ≡ get_or uids i 0 = sym (numbered_uid view i less s is) in
     let number : c.loop-s.number + 1 ≡ i + 1 = ap (λ n. n + 1) inv.counted in
-    let still : S.tells → S.files c.loop-s.shelf ≡ folder = λ told. (inv.looks told).same in
-    let file : S.tells → IsFileOf folder c.args.self.now → IsFileOf (S.files c.loop-s.shelf) c.loop-s.self = λ told same.
+    let still : S.sees.tells → S.sees.files c.loop-s.shelf ≡ folder = λ told. (inv.looks told).same in
+    let file : S.sees.tells → IsFileOf folder c.args.self.now → IsFileOf (S.sees.files c.loop-s.shelf) c.loop-s.self = λ told same.
     subst (λ (f : Folder). IsFileOf f c.loop-s.self) (sym (still told)) (inv.file told same) in
-    let truth : S.tells → HasTrueCache folder indexid m → HasTrueCache (S.files c.loop-s.shelf) indexid m = λ told true_cache.
+    let truth : S.sees.tells → HasTrueCache folder indexid m → HasTrueCache (S.sees.files c.loop-s.shelf) indexid m = λ told true_cache.
     subst (λ (f : Folder). HasTrueCache f indexid m) (sym (still told)) true_cache in
     record {
       counted = number;
@@ -53,7 +53,7 @@ loop-s-preserved g c =
           ∙ ap (λ (row : ℕ × Shown). before ++ number_in folder m k view by_uid row) (sym (numbered_is view i less s is))
           ∙ sym (numbers_more folder m k view by_uid all i (i + 1, s) (numbered_less view i less));
       damaged = λ told same true_cache.
-          damage_more folder (S.files c.loop-s.shelf) m uids i s.uid c.loop-s.picked.damaged c.search_row.new.picked.damaged (numbered_uid_less view i less) uid (still told) (inv.damaged told same true_cache)
+          damage_more folder (S.sees.files c.loop-s.shelf) m uids i s.uid c.loop-s.picked.damaged c.search_row.new.picked.damaged (numbered_uid_less view i less) uid (still told) (inv.damaged told same true_cache)
           (c.in_ok-search_row.ensures.damaged told (file told same) (truth told true_cache));
       file = λ told same. subst (λ (f : Folder). IsFileOf f c.search_row.new.self) (still told) (did.file told (file told same));
       again = λ read.
@@ -61,7 +61,7 @@ loop-s-preserved g c =
           did.economy.again (ap is_read before ∙ read) ∙ before;
       aside = λ no. did.economy.aside no ∙ inv.aside no;
       looks = search rules;
-      reads = row_more S.tells S.files indexid m c.args.asked.now S.mail_reads uids i s.uid
+      reads = row_more S.sees indexid m c.args.asked.now uids i s.uid
           c.args.shelf.now c.loop-s.shelf c.search_row.new.shelf c.args.self.now c.loop-s.self c.search_row.new.self (numbered_uid_less view i less) uid
           still inv.file inv.reads did.economy did.spares;
       faults = search rules;
@@ -81,8 +81,8 @@ returns-in_err-search_row-clause-most g c =
     let less : i < length view.rows = subst (λ rs. i < length rs) rows c.loop-s-test.true in
     let is : s ≡ get_or view.rows i s = c.s-item.is ∙ ap (λ rs. get_or rs i s) rows in
     let inv = c.loop-s.invariant in
-    most_of (IsNear S.tells S.files indexid m asked c.args.shelf.now c.args.self.now) m uids (i + 1) (S.mail_reads c.args.shelf.now) (S.mail_reads c.search_row.new.shelf)
-    (row_more S.tells S.files indexid m asked S.mail_reads uids i s.uid
+    most_of (IsNear S.sees indexid m asked c.args.shelf.now c.args.self.now) m uids (i + 1) (S.sees.mail_reads c.args.shelf.now) (S.sees.mail_reads c.search_row.new.shelf)
+    (row_more S.sees indexid m asked uids i s.uid
     c.args.shelf.now c.loop-s.shelf c.search_row.new.shelf c.args.self.now c.loop-s.self c.search_row.new.self (numbered_uid_less view i less) (sym (numbered_uid view i less s is))
     (λ told. (inv.looks told).same) inv.file inv.reads c.search_row.ensures.economy c.search_row.ensures.spares)
 
@@ -100,8 +100,8 @@ returns-in_err-search_row-clause-spares g c =
     let less : i < length view.rows = subst (λ rs. i < length rs) rows c.loop-s-test.true in
     let is : s ≡ get_or view.rows i s = c.s-item.is ∙ ap (λ rs. get_or rs i s) rows in
     let inv = c.loop-s.invariant in
-    spares_of S.tells S.files indexid m asked uids (i + 1) c.args.shelf.now c.args.self.now (S.mail_reads c.args.shelf.now) (S.mail_reads c.search_row.new.shelf)
-    (row_more S.tells S.files indexid m asked S.mail_reads uids i s.uid
+    spares_of S.sees indexid m asked uids (i + 1) c.args.shelf.now c.args.self.now (S.sees.mail_reads c.args.shelf.now) (S.sees.mail_reads c.search_row.new.shelf)
+    (row_more S.sees indexid m asked uids i s.uid
     c.args.shelf.now c.loop-s.shelf c.search_row.new.shelf c.args.self.now c.loop-s.self c.search_row.new.self (numbered_uid_less view i less) (sym (numbered_uid view i less s is))
     (λ told. (inv.looks told).same) inv.file inv.reads c.search_row.ensures.economy c.search_row.ensures.spares)
 
@@ -109,23 +109,23 @@ pub returns-clause-numbers : goal.returns-clause-numbers
 returns-clause-numbers g c = λ told same true_cache k ready asks.
     let done = subst (λ rs. length rs ≤ c.loop-s.s-index) (c.as_slice-s-items.ensures ∙ c.rows.ensures.is) c.loop-s-test.false in
     c.loop-s.invariant.numbers told same true_cache k ready asks
-    ∙ ap (numbers_found (g.S.Shelf.files c.args.shelf.now) c.args.chain.now.live.mailbox k c.args.view.now c.args.by_uid) (all_numbered c.args.view.now c.loop-s.s-index done)
+    ∙ ap (numbers_found (g.S.Shelf.sees.files c.args.shelf.now) c.args.chain.now.live.mailbox k c.args.view.now c.args.by_uid) (all_numbered c.args.view.now c.loop-s.s-index done)
 
 pub returns-clause-damaged : goal.returns-clause-damaged
 returns-clause-damaged g c = λ told same true_cache.
     let done = subst (λ rs. length rs ≤ c.loop-s.s-index) (c.as_slice-s-items.ensures ∙ c.rows.ensures.is) c.loop-s-test.false in
     c.loop-s.invariant.damaged told same true_cache
-    ∙ ap (damaged_of (g.S.Shelf.files c.args.shelf.now) c.args.chain.now.live.mailbox) (all_numbered_uids c.args.view.now c.loop-s.s-index done)
+    ∙ ap (damaged_of (g.S.Shelf.sees.files c.args.shelf.now) c.args.chain.now.live.mailbox) (all_numbered_uids c.args.view.now c.loop-s.s-index done)
 
 pub returns-clause-most : goal.returns-clause-most
 returns-clause-most g c =
     let S = g.S.Shelf in
     let m = c.args.chain.now.live.mailbox in
-    most_of (IsNear S.tells S.files c.args.chain.now.indexid m c.args.asked.now c.args.shelf.now c.args.self.now) m (uids_of (numbered c.args.view.now)) c.loop-s.s-index
-    (S.mail_reads c.args.shelf.now) (S.mail_reads c.loop-s.shelf) c.loop-s.invariant.reads
+    most_of (IsNear S.sees c.args.chain.now.indexid m c.args.asked.now c.args.shelf.now c.args.self.now) m (uids_of (numbered c.args.view.now)) c.loop-s.s-index
+    (S.sees.mail_reads c.args.shelf.now) (S.sees.mail_reads c.loop-s.shelf) c.loop-s.invariant.reads
 
 pub returns-clause-spares : goal.returns-clause-spares
 returns-clause-spares g c =
     let S = g.S.Shelf in
-    spares_of S.tells S.files c.args.chain.now.indexid c.args.chain.now.live.mailbox c.args.asked.now (uids_of (numbered c.args.view.now)) c.loop-s.s-index
-    c.args.shelf.now c.args.self.now (S.mail_reads c.args.shelf.now) (S.mail_reads c.loop-s.shelf) c.loop-s.invariant.reads
+    spares_of S.sees c.args.chain.now.indexid c.args.chain.now.live.mailbox c.args.asked.now (uids_of (numbered c.args.view.now)) c.loop-s.s-index
+    c.args.shelf.now c.args.self.now (S.sees.mail_reads c.args.shelf.now) (S.sees.mail_reads c.loop-s.shelf) c.loop-s.invariant.reads

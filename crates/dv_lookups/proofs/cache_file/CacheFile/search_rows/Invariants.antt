@@ -13,16 +13,16 @@ use Rattle.dv_lookups.proofs.cache_file.CacheFile.search_rows.Given as goal
 abbrev pub invariant-loop-s : goal.invariant-loop-s
 invariant-loop-s g l = record {
   counted : l.number ≡ l.s-index;
-  numbers : g.S.Shelf.tells → IsFileOf (g.S.Shelf.files l.initial.shelf) l.initial.self → HasTrueCache (g.S.Shelf.files l.initial.shelf) l.chain.indexid l.chain.live.mailbox
+  numbers : g.S.Shelf.sees.tells → IsFileOf (g.S.Shelf.sees.files l.initial.shelf) l.initial.self → HasTrueCache (g.S.Shelf.sees.files l.initial.shelf) l.chain.indexid l.chain.live.mailbox
       → (k : Key) → IsSought k l.view l.sought → SearchAsks k l.asked
-      → l.picked.numbers ≡ numbers_found (g.S.Shelf.files l.initial.shelf) l.chain.live.mailbox k l.view l.by_uid (take l.s-index (numbered l.view));
-  damaged : g.S.Shelf.tells → IsFileOf (g.S.Shelf.files l.initial.shelf) l.initial.self → HasTrueCache (g.S.Shelf.files l.initial.shelf) l.chain.indexid l.chain.live.mailbox
-      → l.picked.damaged ≡ damaged_of (g.S.Shelf.files l.initial.shelf) l.chain.live.mailbox (take l.s-index (uids_of (numbered l.view)));
-  file : g.S.Shelf.tells → IsFileOf (g.S.Shelf.files l.initial.shelf) l.initial.self → IsFileOf (g.S.Shelf.files l.initial.shelf) l.self;
+      → l.picked.numbers ≡ numbers_found (g.S.Shelf.sees.files l.initial.shelf) l.chain.live.mailbox k l.view l.by_uid (take l.s-index (numbered l.view));
+  damaged : g.S.Shelf.sees.tells → IsFileOf (g.S.Shelf.sees.files l.initial.shelf) l.initial.self → HasTrueCache (g.S.Shelf.sees.files l.initial.shelf) l.chain.indexid l.chain.live.mailbox
+      → l.picked.damaged ≡ damaged_of (g.S.Shelf.sees.files l.initial.shelf) l.chain.live.mailbox (take l.s-index (uids_of (numbered l.view)));
+  file : g.S.Shelf.sees.tells → IsFileOf (g.S.Shelf.sees.files l.initial.shelf) l.initial.self → IsFileOf (g.S.Shelf.sees.files l.initial.shelf) l.self;
   again : is_read l.initial.self ≡ true → l.self ≡ l.initial.self;
   aside : can_stand l.asked ≡ false → l.self ≡ l.initial.self;
-  looks : g.S.Shelf.tells → OnlyLooks g.S.Shelf.files g.S.Shelf.may_leave g.S.Shelf.moment g.S.Shelf.left_since l.initial.shelf l.shelf;
-  reads : SparesBy (IsNear g.S.Shelf.tells g.S.Shelf.files l.chain.indexid l.chain.live.mailbox l.asked l.initial.shelf l.initial.self)
-      l.chain.live.mailbox (take l.s-index (uids_of (numbered l.view))) (g.S.Shelf.mail_reads l.initial.shelf) (g.S.Shelf.mail_reads l.shelf);
-  faults : g.S.Shelf.fault_count l.shelf ≡ g.S.Shelf.fault_count l.initial.shelf;
+  looks : g.S.Shelf.sees.tells → OnlyLooks g.S.Shelf.sees l.initial.shelf l.shelf;
+  reads : SparesBy (IsNear g.S.Shelf.sees l.chain.indexid l.chain.live.mailbox l.asked l.initial.shelf l.initial.self)
+      l.chain.live.mailbox (take l.s-index (uids_of (numbered l.view))) (g.S.Shelf.sees.mail_reads l.initial.shelf) (g.S.Shelf.sees.mail_reads l.shelf);
+  faults : g.S.Shelf.sees.fault_count l.shelf ≡ g.S.Shelf.sees.fault_count l.initial.shelf;
 }

@@ -19,7 +19,7 @@ row_source-requires g c =
 pub returns-in-Some-clause-found : goal.returns-in-Some-clause-found
 returns-in-Some-clause-found g c = λ told same true_cache.
     let S = g.S.Shelf in
-    let folder = S.files c.args.shelf.now in
+    let folder = S.sees.files c.args.shelf.now in
     let m = c.args.chain.now.live.mailbox in
     let row = c.row.result.now in
     let named : row.uid ≡ c.args.uid = row_named m c.args.uid row (placed_row m c.args.uid c.in-Some.k row (sym c.position.ensures ∙ c.in-Some.is) c.row.ensures) in
@@ -31,12 +31,12 @@ returns-in-Some-clause-economy g c =
     let m = c.args.chain.now.live.mailbox in
     let row = c.row.result.now in
     let named : row.uid ≡ c.args.uid = row_named m c.args.uid row (placed_row m c.args.uid c.in-Some.k row (sym c.position.ensures ∙ c.in-Some.is) c.row.ensures) in
-    subst (λ (u : ℕ). Economy S.mail_reads m u c.args.may_look c.args.self.now c.row_source.new.self c.args.shelf.now c.row_source.new.shelf) named c.row_source.ensures.economy
+    subst (λ (u : ℕ). Economy S.sees m u c.args.may_look c.args.self.now c.row_source.new.self c.args.shelf.now c.row_source.new.shelf) named c.row_source.ensures.economy
 
 pub returns-in-Some-clause-spares : goal.returns-in-Some-clause-spares
 returns-in-Some-clause-spares g c = λ told same looks spared.
     let S = g.S.Shelf in
-    let folder = S.files c.args.shelf.now in
+    let folder = S.sees.files c.args.shelf.now in
     let m = c.args.chain.now.live.mailbox in
     let row = c.row.result.now in
     let named : row.uid ≡ c.args.uid = row_named m c.args.uid row (placed_row m c.args.uid c.in-Some.k row (sym c.position.ensures ∙ c.in-Some.is) c.row.ensures) in
@@ -44,7 +44,7 @@ returns-in-Some-clause-spares g c = λ told same looks spared.
 
 pub returns-in-None-clause-found : goal.returns-in-None-clause-found
 returns-in-None-clause-found g c = λ told same true_cache.
-    let folder = g.S.Shelf.files c.args.shelf.now in
+    let folder = g.S.Shelf.sees.files c.args.shelf.now in
     let m = c.args.chain.now.live.mailbox in
     let lacks : has_uid m c.args.uid ≡ false = sym (has_place m.rows c.args.uid c.position.result c.position.ensures) ∙ ap is_some c.in-None.is in
     subst (λ (o : Option Mail). IsSourceOf o source.Gone) (sym (mail_gone folder c.args.chain.now.indexid m c.args.uid lacks)) tt

@@ -1,5 +1,5 @@
 use Rattle.std.proofs.Common.{◌∙◌, sym}
-use Rattle.dv_shelf.proofs.FolderLemmas.{is_same, same_is}
+use Rattle.dv_shelf.proofs.FolderLemmas.{same_is}
 use Rattle.dv_memory_system.proofs.Shown.{names_differ}
 use Rattle.dv_memory_system.proofs.state.States.renamed.Goals as goal
 

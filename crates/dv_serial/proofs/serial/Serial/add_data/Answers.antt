@@ -17,10 +17,10 @@ returns-clause-found g c =
     let S = g.S.Shelf in
     let store = c.self.inside.store in
     let there = g.met.S.Shelf.leaves_files store.shelf tells in
-    let knows = (known_here S.files S.may_leave log debt store there rest).knows in
+    let knows = (known_here S.sees log debt store there rest).knows in
     elim c.match-read_for.branch [
       | in-Ok w ↦ rw (w.result-is, w.replies-is) (subst (λ (view : View). IsRead g.R.Replies.with c.args.replies.now c.read_for.new.lines log.mail c.args.c.now view store.chain.live.mailbox w.in-Ok.damaged) seen
-          (w.in-Ok.ensures.found tells knows.file knows.is_true log.mail (messages_known S.files S.may_leave log debt store there rest)))
+          (w.in-Ok.ensures.found tells knows.file knows.is_true log.mail (messages_known S.sees log debt store there rest)))
       | in-Err w ↦ rw w.result-is tt
     ])
 
@@ -30,7 +30,7 @@ returns-clause-failed g c =
     let S = g.S.Shelf in
     let store = c.self.inside.store in
     let there = g.met.S.Shelf.leaves_files store.shelf tells in
-    let knows = (known_here S.files S.may_leave log debt store there rest).knows in
+    let knows = (known_here S.sees log debt store there rest).knows in
     elim c.match-read_for.branch [
       | in-Ok w ↦ absurd (done_failed _ (fault.Disk faults) c.match-read_for.result w.result-is disk)
       | in-Err w ↦

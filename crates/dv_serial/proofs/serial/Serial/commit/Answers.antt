@@ -19,14 +19,14 @@ returns-in_err-receipt-clause-commits g c =
     let S = g.S.Shelf in
     let did = c.in_err-receipt.ensures in
     let quiet = did.gives tells reads (play_of clock start attempts).log follows.keeps.debt (c.args.at + 1) follows.keeps.rests in (
-      fails S.files S.may_leave S.moment S.left_since g.C.Clock.upcoming clock start base _ attempts _ follows c.args.at (c.args.at + 1) c.args.c.now refl less small c.requires.line c.requires.write own
+      fails S.sees g.C.Clock.sees clock start base _ attempts _ follows c.args.at (c.args.at + 1) c.args.c.now refl less small c.requires.line c.requires.write own
           c.view.result.now seen c.commit_command.new.self c.in_err-receipt.field-0.0 did.value did.idle (did.looks tells) (did.gives tells reads) (did.clock reads),
-      error_others (List ℕ) c.in_err-receipt.field-0.0 c.args.c.now c.self.inside.store.chain.live.mailbox (S.files c.self.inside.store.shelf) (S.files c.commit_command.new.self.shelf) quiet.others (λ none. (did.looks tells none).same),
+      error_others (List ℕ) c.in_err-receipt.field-0.0 c.args.c.now c.self.inside.store.chain.live.mailbox (S.sees.files c.self.inside.store.shelf) (S.sees.files c.commit_command.new.self.shelf) quiet.others (λ none. (did.looks tells none).same),
     ))
 
 pub returns-in_err-receipt-clause-readings : goal.returns-in_err-receipt-clause-readings
 returns-in_err-receipt-clause-readings g c = rw (← c.self.view_is) (λ reads.
-    let upcoming = g.C.Clock.upcoming in
+    let upcoming = g.C.Clock.sees.upcoming in
     few_taken c.args.c.now c.self.inside.store.owed c.self.inside.store.chain (upcoming c.self.inside.store.clock) (upcoming c.commit_command.new.self.clock) (Err c.in_err-receipt.field-0.0) (c.in_err-receipt.ensures.clock reads))
 
 pub returns-clause-commits : goal.returns-clause-commits
@@ -42,16 +42,15 @@ returns-clause-commits g c =
     let leads = receipt_leads c.args.c.now c.view.result.now c.self.inside.store.owed c.self.inside.store.chain new.chain receipt valid now_valid did.value.ok in
     rw (← c.self.view_is) (λ tells reads clock start base attempts small follows.
     let S = g.S.Shelf in
-    let upcoming = g.C.Clock.upcoming in
     let quiet = did.gives tells reads (play_of clock start attempts).log follows.keeps.debt (c.args.at + 1) follows.keeps.rests in
     elim c.if-not-is_empty.branch [
       | then-not-is_empty w ↦ rw w.self-is ((
-        writes_entry S.files S.may_leave S.moment S.left_since upcoming clock start base _ attempts _ follows c.args.at (c.args.at + 1) c.args.c.now refl less small c.requires.line c.requires.write own
+        writes_entry S.sees g.C.Clock.sees clock start base _ attempts _ follows c.args.at (c.args.at + 1) c.args.c.now refl less small c.requires.line c.requires.write own
             c.view.result.now seen new receipt did.value (did.gives tells reads) (did.clock reads) leads (λ none. not_both c.is_empty.result (c.is_empty.ensures.1 none) w.if-not-is_empty.true) (c.self.inside.groups + 1) refl,
         quiet.others,
       ))
       | else-not-is_empty w ↦ rw w.self-is ((
-        writes_none S.files S.may_leave S.moment S.left_since upcoming clock start base _ attempts _ follows c.args.at (c.args.at + 1) c.args.c.now refl less small c.requires.line c.requires.write own
+        writes_none S.sees g.C.Clock.sees clock start base _ attempts _ follows c.args.at (c.args.at + 1) c.args.c.now refl less small c.requires.line c.requires.write own
             c.view.result.now seen new receipt did.value (did.gives tells reads) (did.clock reads) leads (c.is_empty.ensures.0 w.if-not-is_empty.false) (did.looks tells),
         quiet.others,
       ))
@@ -69,7 +68,7 @@ returns-clause-leads g c =
 
 pub returns-clause-readings : goal.returns-clause-readings
 returns-clause-readings g c = rw (← c.self.view_is) (λ reads.
-    let upcoming = g.C.Clock.upcoming in
+    let upcoming = g.C.Clock.sees.upcoming in
     let few = few_taken c.args.c.now c.self.inside.store.owed c.self.inside.store.chain (upcoming c.self.inside.store.clock) (upcoming c.commit_command.new.self.clock) (Ok c.in_ok-receipt.receipt) (c.in_ok-receipt.ensures.clock reads) in
     elim c.if-not-is_empty.branch [
       | then-not-is_empty w ↦ rw w.self-is few

@@ -23,5 +23,5 @@ returns-in-Some-clause-serves g c =
     ∙ ap (λ (f : Follower). own_refusal f.state c.args.c.now) (sym seat)
     ∙ sym c.in-Some.ensures in
     λ tells reads clock start base attempts follows.
-    seat_refused S.files S.may_leave S.moment S.left_since g.C.Clock.upcoming clock start base attempts (S.fault_count old.store.shelf) old follows at number number_is c.args.c.now less (omega (arith, c.ranges.number.fits)) c.requires.line.command
+    seat_refused S.sees g.C.Clock.sees clock start base attempts (S.sees.fault_count old.store.shelf) old follows at number number_is c.args.c.now less (omega (arith, c.ranges.number.fits)) c.requires.line.command
     g.R.Replies.with c.args.replies.now c.take.new.self c.in-Some.refusal c.take.result own (λ f left. g.met.S.Shelf.only_now old.store.shelf f tells left) c.take.ensures

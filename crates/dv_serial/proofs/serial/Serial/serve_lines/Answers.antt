@@ -35,13 +35,13 @@ loop-seen-init g c =
       groups = omega arith;
       seats = refl;
       later = (omega arith, omega arith);
-      readings = λ clocks. subst (λ (n : ℕ). TakesUpTo (2 * n) (g.C.Clock.upcoming serving.store.clock) (g.C.Clock.upcoming serving.store.clock)) (sym none.0) (takes_none (g.C.Clock.upcoming serving.store.clock));
+      readings = λ clocks. subst (λ (n : ℕ). TakesUpTo (2 * n) (g.C.Clock.sees.upcoming serving.store.clock) (g.C.Clock.sees.upcoming serving.store.clock)) (sym none.0) (takes_none (g.C.Clock.sees.upcoming serving.store.clock));
       runs = λ tells clocks clock start base follows.
-          subst (λ (n : ℕ). RunsTo S.files S.may_leave S.moment S.left_since g.C.Clock.upcoming clock start base all g.O.Sink.tells (g.O.Sink.taken c.args.out.now) serving
-          (S.fault_count serving.store.shelf) n (g.O.Sink.taken c.args.out.now) serving) (sym none.0)
-          (to_none S.files S.may_leave S.moment S.left_since g.C.Clock.upcoming clock start base all g.O.Sink.tells (g.O.Sink.taken c.args.out.now) serving
-          (S.fault_count serving.store.shelf) follows
-          (stays_may S.files S.may_leave clock start _ serving follows.keeps S.moment S.left_since (λ f left. g.met.S.Shelf.only_now serving.store.shelf f tells left)));
+          subst (λ (n : ℕ). RunsTo S.sees g.C.Clock.sees clock start base all g.O.Sink.sees.tells (g.O.Sink.sees.taken c.args.out.now) serving
+          (S.sees.fault_count serving.store.shelf) n (g.O.Sink.sees.taken c.args.out.now) serving) (sym none.0)
+          (to_none S.sees g.C.Clock.sees clock start base all g.O.Sink.sees.tells (g.O.Sink.sees.taken c.args.out.now) serving
+          (S.sees.fault_count serving.store.shelf) follows
+          (stays_may S.sees clock start _ serving follows.keeps (λ f left. g.met.S.Shelf.only_now serving.store.shelf f tells left)));
     }
 
 pub next_turn-requires-clause-sessions : goal.next_turn-requires-clause-sessions
@@ -102,14 +102,14 @@ loop-seen-preserved g c =
       groups = omega (arith, inv.groups, ensured.groups, one.one);
       seats = ensured.seats ∙ inv.seats;
       later = (omega (arith, inv.later.0, ensured.later.0), omega (arith, inv.later.1, ensured.later.1));
-      readings = λ clocks. takes_more (2 * given all left) 2 _ (g.C.Clock.upcoming c.args.self.now.store.clock) (g.C.Clock.upcoming c.loop-seen.self.store.clock) (g.C.Clock.upcoming c.serve_line.new.self.store.clock) (inv.readings clocks) (ensured.readings clocks) (omega (arith, one.one));
+      readings = λ clocks. takes_more (2 * given all left) 2 _ (g.C.Clock.sees.upcoming c.args.self.now.store.clock) (g.C.Clock.sees.upcoming c.loop-seen.self.store.clock) (g.C.Clock.sees.upcoming c.serve_line.new.self.store.clock) (inv.readings clocks) (ensured.readings clocks) (omega (arith, one.one));
       runs = λ tells clocks clock start base follows.
           let so_far = inv.runs tells clocks clock start base follows in
           let told = ensured.runs tells clocks clock start base so_far.answered so_far.follows in
-          subst (λ n. RunsTo S.files S.may_leave S.moment S.left_since g.C.Clock.upcoming clock start base all g.O.Sink.tells (g.O.Sink.taken c.args.out.now) c.args.self.now
-          (S.fault_count c.serve_line.new.self.store.shelf) n (g.O.Sink.taken c.serve_line.new.out) c.serve_line.new.self) (sym one.one)
-          (goes_on S.files S.may_leave S.moment S.left_since g.C.Clock.upcoming clock start base all g.O.Sink.tells (g.O.Sink.taken c.args.out.now) c.args.self.now
-          (S.fault_count c.loop-seen.self.store.shelf) (S.fault_count c.serve_line.new.self.store.shelf) (given all left) c.in_ok-turn.turn.session line (g.O.Sink.taken c.loop-seen.out) (g.O.Sink.taken c.serve_line.new.out)
+          subst (λ n. RunsTo S.sees g.C.Clock.sees clock start base all g.O.Sink.sees.tells (g.O.Sink.sees.taken c.args.out.now) c.args.self.now
+          (S.sees.fault_count c.serve_line.new.self.store.shelf) n (g.O.Sink.sees.taken c.serve_line.new.out) c.serve_line.new.self) (sym one.one)
+          (goes_on S.sees g.C.Clock.sees clock start base all g.O.Sink.sees.tells (g.O.Sink.sees.taken c.args.out.now) c.args.self.now
+          (S.sees.fault_count c.loop-seen.self.store.shelf) (S.sees.fault_count c.serve_line.new.self.store.shelf) (given all left) c.in_ok-turn.turn.session line (g.O.Sink.sees.taken c.loop-seen.out) (g.O.Sink.sees.taken c.serve_line.new.out)
           c.loop-seen.self c.serve_line.new.self next so_far c.serve_line.ensures.later.0 c.in_ok-serve_line.field-0 told);
     }
 
@@ -122,10 +122,10 @@ returns-in_err-line-clause-runs g c = λ tells clocks clock start base follows.
     let left = g.L.Lines.left c.loop-seen.lines in
     let some = some_left left c.in_err-line.ensures.some in
     let one = one_given all left some.1 some.0 c.loop-seen.invariant.left some.2 in
-    of_error (λ r. Runs S.files S.may_leave S.moment S.left_since g.C.Clock.upcoming clock start base (S.fault_count c.loop-seen.self.store.shelf) all r g.O.Sink.tells (g.O.Sink.taken c.args.out.now) (g.O.Sink.taken c.loop-seen.out) c.args.self.now c.loop-seen.self)
+    of_error (λ r. Runs S.sees g.C.Clock.sees clock start base (S.sees.fault_count c.loop-seen.self.store.shelf) all r g.O.Sink.sees.tells (g.O.Sink.sees.taken c.args.out.now) (g.O.Sink.sees.taken c.loop-seen.out) c.args.self.now c.loop-seen.self)
     c.from_residual.result line_end.NoMemory c.from_residual.ensures.0 c.from_residual.ensures.1
-    (to_unbegun S.files S.may_leave S.moment S.left_since g.C.Clock.upcoming clock start base all g.O.Sink.tells (g.O.Sink.taken c.args.out.now) c.args.self.now
-    (S.fault_count c.loop-seen.self.store.shelf) (S.fault_count c.loop-seen.self.store.shelf) (given all left) _ some.0 (g.O.Sink.taken c.loop-seen.out) (g.O.Sink.taken c.loop-seen.out)
+    (to_unbegun S.sees g.C.Clock.sees clock start base all g.O.Sink.sees.tells (g.O.Sink.sees.taken c.args.out.now) c.args.self.now
+    (S.sees.fault_count c.loop-seen.self.store.shelf) (S.sees.fault_count c.loop-seen.self.store.shelf) (given all left) _ some.0 (g.O.Sink.sees.taken c.loop-seen.out) (g.O.Sink.sees.taken c.loop-seen.out)
     c.loop-seen.self c.loop-seen.self (first_given all left some.1 some.0 one) (c.loop-seen.invariant.runs tells clocks clock start base follows) (omega arith))
 
 pub returns-in_err-turn-clause-runs : goal.returns-in_err-turn-clause-runs
@@ -136,10 +136,10 @@ returns-in_err-turn-clause-runs g c = λ tells clocks clock start base follows.
     let after = g.L.Lines.left c.next.new.self in
     let line = named c.in-Some.line in
     let one = one_given all left after line c.loop-seen.invariant.left (is_next left (g.L.Lines.left c.next.new.self) c.in_ok-line.field-0 c.in-Some.line c.in-Some.is c.in_ok-line.ensures.next) in
-    of_error (λ r. Runs S.files S.may_leave S.moment S.left_since g.C.Clock.upcoming clock start base (S.fault_count c.loop-seen.self.store.shelf) all r g.O.Sink.tells (g.O.Sink.taken c.args.out.now) (g.O.Sink.taken c.loop-seen.out) c.args.self.now c.loop-seen.self)
+    of_error (λ r. Runs S.sees g.C.Clock.sees clock start base (S.sees.fault_count c.loop-seen.self.store.shelf) all r g.O.Sink.sees.tells (g.O.Sink.sees.taken c.args.out.now) (g.O.Sink.sees.taken c.loop-seen.out) c.args.self.now c.loop-seen.self)
     c.from_residual-in_err-turn.result line_end.NoMemory c.from_residual-in_err-turn.ensures.0 c.from_residual-in_err-turn.ensures.1
-    (to_unbegun S.files S.may_leave S.moment S.left_since g.C.Clock.upcoming clock start base all g.O.Sink.tells (g.O.Sink.taken c.args.out.now) c.args.self.now
-    (S.fault_count c.loop-seen.self.store.shelf) (S.fault_count c.loop-seen.self.store.shelf) (given all left) _ line (g.O.Sink.taken c.loop-seen.out) (g.O.Sink.taken c.loop-seen.out)
+    (to_unbegun S.sees g.C.Clock.sees clock start base all g.O.Sink.sees.tells (g.O.Sink.sees.taken c.args.out.now) c.args.self.now
+    (S.sees.fault_count c.loop-seen.self.store.shelf) (S.sees.fault_count c.loop-seen.self.store.shelf) (given all left) _ line (g.O.Sink.sees.taken c.loop-seen.out) (g.O.Sink.sees.taken c.loop-seen.out)
     c.loop-seen.self c.loop-seen.self (first_given all left after line one) (c.loop-seen.invariant.runs tells clocks clock start base follows) (omega arith))
 
 -- ---- a line ends it
@@ -157,10 +157,10 @@ returns-in_err-serve_line-clause-runs g c = λ tells clocks clock start base fol
     let next = turn_given all left after line c.in_ok-turn.turn one turn in
     let so_far = inv.runs tells clocks clock start base follows in
     let told = c.in_err-serve_line.ensures.runs tells clocks clock start base so_far.answered so_far.follows in
-    of_error (λ r. Runs S.files S.may_leave S.moment S.left_since g.C.Clock.upcoming clock start base (S.fault_count c.serve_line.new.self.store.shelf) all r g.O.Sink.tells (g.O.Sink.taken c.args.out.now) (g.O.Sink.taken c.serve_line.new.out) c.args.self.now c.serve_line.new.self)
+    of_error (λ r. Runs S.sees g.C.Clock.sees clock start base (S.sees.fault_count c.serve_line.new.self.store.shelf) all r g.O.Sink.sees.tells (g.O.Sink.sees.taken c.args.out.now) (g.O.Sink.sees.taken c.serve_line.new.out) c.args.self.now c.serve_line.new.self)
     c.from_residual-in_err-serve_line.result c.in_err-serve_line.field-0.0 c.from_residual-in_err-serve_line.ensures.0 c.from_residual-in_err-serve_line.ensures.1
-    (stops S.files S.may_leave S.moment S.left_since g.C.Clock.upcoming clock start base all g.O.Sink.tells (g.O.Sink.taken c.args.out.now) c.args.self.now
-    (S.fault_count c.loop-seen.self.store.shelf) (S.fault_count c.serve_line.new.self.store.shelf) (given all left) c.in_ok-turn.turn.session line (g.O.Sink.taken c.loop-seen.out) (g.O.Sink.taken c.serve_line.new.out)
+    (stops S.sees g.C.Clock.sees clock start base all g.O.Sink.sees.tells (g.O.Sink.sees.taken c.args.out.now) c.args.self.now
+    (S.sees.fault_count c.loop-seen.self.store.shelf) (S.sees.fault_count c.serve_line.new.self.store.shelf) (given all left) c.in_ok-turn.turn.session line (g.O.Sink.sees.taken c.loop-seen.out) (g.O.Sink.sees.taken c.serve_line.new.out)
     c.loop-seen.self c.serve_line.new.self next so_far c.serve_line.ensures.later.0 c.in_err-serve_line.field-0.0 told)
 
 pub returns-in_err-serve_line-clause-readings : goal.returns-in_err-serve_line-clause-readings
@@ -168,7 +168,7 @@ returns-in_err-serve_line-clause-readings g c = λ clocks.
     let all = g.L.Lines.left c.args.lines.now in
     let left = g.L.Lines.left c.loop-seen.lines in
     let one = one_given all left (g.L.Lines.left c.next.new.self) (named c.in-Some.line) c.loop-seen.invariant.left (is_next left (g.L.Lines.left c.next.new.self) c.in_ok-line.field-0 c.in-Some.line c.in-Some.is c.in_ok-line.ensures.next) in
-    takes_more (2 * given all left) 2 (2 * length all) (g.C.Clock.upcoming c.args.self.now.store.clock) (g.C.Clock.upcoming c.loop-seen.self.store.clock) (g.C.Clock.upcoming c.serve_line.new.self.store.clock) (c.loop-seen.invariant.readings clocks) (c.serve_line.ensures.readings clocks) (omega (arith, one.less))
+    takes_more (2 * given all left) 2 (2 * length all) (g.C.Clock.sees.upcoming c.args.self.now.store.clock) (g.C.Clock.sees.upcoming c.loop-seen.self.store.clock) (g.C.Clock.sees.upcoming c.serve_line.new.self.store.clock) (c.loop-seen.invariant.readings clocks) (c.serve_line.ensures.readings clocks) (omega (arith, one.less))
 
 -- ---- all are served
 
@@ -178,6 +178,6 @@ returns-clause-runs g c = λ tells clocks clock start base follows.
     let all = g.L.Lines.left c.args.lines.now in
     let left = g.L.Lines.left c.loop-seen.lines in
     let none = ap (λ (ls : List NamedLine). length ls) (is_none left (g.L.Lines.left c.next.new.self) c.in_ok-line.field-0 c.in_default.is c.in_ok-line.ensures.next) in
-    to_done S.files S.may_leave S.moment S.left_since g.C.Clock.upcoming clock start base all g.O.Sink.tells (g.O.Sink.taken c.args.out.now) c.args.self.now
-    (S.fault_count c.loop-seen.self.store.shelf) (given all left) (g.O.Sink.taken c.loop-seen.out) c.loop-seen.self tt
+    to_done S.sees g.C.Clock.sees clock start base all g.O.Sink.sees.tells (g.O.Sink.sees.taken c.args.out.now) c.args.self.now
+    (S.sees.fault_count c.loop-seen.self.store.shelf) (given all left) (g.O.Sink.sees.taken c.loop-seen.out) c.loop-seen.self tt
     (omega (arith, none)) (c.loop-seen.invariant.runs tells clocks clock start base follows)

@@ -17,13 +17,13 @@ invariant-loop-seen g l = record {
   abreast : AreAbreast l.self;
   groups : l.self.groups ≤ l.initial.self.groups + given (g.L.Lines.left l.initial.lines) (g.L.Lines.left l.lines);
   seats : length l.self.seats ≡ length l.initial.self.seats;
-  later : (g.S.Shelf.fault_count l.initial.self.store.shelf ≤ g.S.Shelf.fault_count l.self.store.shelf)
-      × (g.O.Sink.fault_count l.initial.out ≤ g.O.Sink.fault_count l.out);
-  readings : g.C.Clock.tells → TakesUpTo (2 * given (g.L.Lines.left l.initial.lines) (g.L.Lines.left l.lines)) (g.C.Clock.upcoming l.initial.self.store.clock) (g.C.Clock.upcoming l.self.store.clock);
-  runs : g.S.Shelf.tells → g.C.Clock.tells → (clock : ℕ → ℕ) (start : Log) (base : ℕ)
-      → Follows g.S.Shelf.files g.S.Shelf.may_leave g.C.Clock.upcoming clock start base (g.S.Shelf.fault_count l.initial.self.store.shelf) [] l.initial.self
-      → RunsTo g.S.Shelf.files g.S.Shelf.may_leave g.S.Shelf.moment g.S.Shelf.left_since g.C.Clock.upcoming clock start base (g.L.Lines.left l.initial.lines) g.O.Sink.tells (g.O.Sink.taken l.initial.out) l.initial.self
-      (g.S.Shelf.fault_count l.self.store.shelf) (given (g.L.Lines.left l.initial.lines) (g.L.Lines.left l.lines)) (g.O.Sink.taken l.out) l.self;
+  later : (g.S.Shelf.sees.fault_count l.initial.self.store.shelf ≤ g.S.Shelf.sees.fault_count l.self.store.shelf)
+      × (g.O.Sink.sees.fault_count l.initial.out ≤ g.O.Sink.sees.fault_count l.out);
+  readings : g.C.Clock.sees.tells → TakesUpTo (2 * given (g.L.Lines.left l.initial.lines) (g.L.Lines.left l.lines)) (g.C.Clock.sees.upcoming l.initial.self.store.clock) (g.C.Clock.sees.upcoming l.self.store.clock);
+  runs : g.S.Shelf.sees.tells → g.C.Clock.sees.tells → (clock : ℕ → ℕ) (start : Log) (base : ℕ)
+      → Follows g.S.Shelf.sees g.C.Clock.sees clock start base (g.S.Shelf.sees.fault_count l.initial.self.store.shelf) [] l.initial.self
+      → RunsTo g.S.Shelf.sees g.C.Clock.sees clock start base (g.L.Lines.left l.initial.lines) g.O.Sink.sees.tells (g.O.Sink.sees.taken l.initial.out) l.initial.self
+      (g.S.Shelf.sees.fault_count l.self.store.shelf) (given (g.L.Lines.left l.initial.lines) (g.L.Lines.left l.lines)) (g.O.Sink.sees.taken l.out) l.self;
 }
 
 abbrev pub decreases-loop-seen : goal.decreases-loop-seen

@@ -24,7 +24,7 @@ returns-in_err-met-clause-serves g c =
     rw p.1 (record {
       replies = [];
       taken = tt;
-      holds = seat_still S.files S.may_leave S.moment S.left_since g.C.Clock.upcoming clock start base attempts (S.fault_count old.store.shelf) old follows c.args.at (c.args.at + 1) refl c.args.c.now c.requires.at
+      holds = seat_still S.sees g.C.Clock.sees clock start base attempts (S.sees.fault_count old.store.shelf) old follows c.args.at (c.args.at + 1) refl c.args.c.now c.requires.at
           small c.requires.line.command (λ f left. g.met.S.Shelf.only_now old.store.shelf f tells left);
     })
 
@@ -38,13 +38,13 @@ returns-in_err-tell_all-in-Ok-clause-serves g c =
     let told = c.tell_all.new.seats in
     λ tells reads clock start base attempts small follows.
     let both = c.in-Ok.ensures.commits tells reads clock start base attempts small follows in
-    let others = subst (λ (s : Serving g.row.S.Denot g.row.C.Denot). LeavesOthers {A = List ℕ} c.args.c.now old.store.chain.live.mailbox (Ok c.in-Ok.touched) (S.files old.store.shelf) (S.files s.store.shelf)) (sym c.self-in-Ok.view_is) both.1 in
-    let done = subst (λ (s : Serving g.row.S.Denot g.row.C.Denot). IsDone S.files S.may_leave S.moment S.left_since g.C.Clock.upcoming clock start attempts (c.args.at + 1, c.args.c.now) c.in-Ok.touched old s) (sym c.self-in-Ok.view_is)
+    let others = subst (λ (s : Serving g.row.S.Denot g.row.C.Denot). LeavesOthers {A = List ℕ} c.args.c.now old.store.chain.live.mailbox (Ok c.in-Ok.touched) (S.sees.files old.store.shelf) (S.sees.files s.store.shelf)) (sym c.self-in-Ok.view_is) both.1 in
+    let done = subst (λ (s : Serving g.row.S.Denot g.row.C.Denot). IsDone S.sees g.C.Clock.sees clock start attempts (c.args.at + 1, c.args.c.now) c.in-Ok.touched old s) (sym c.self-in-Ok.view_is)
     both.0 in
     rw p.1 (record {
       replies = [];
       taken = tt;
-      holds = seat_untold S.files S.may_leave S.moment S.left_since g.C.Clock.upcoming clock start base attempts (S.fault_count old.store.shelf) old follows c.args.at (c.args.at + 1) refl c.args.c.now c.requires.at
+      holds = seat_untold S.sees g.C.Clock.sees clock start base attempts (S.sees.fault_count old.store.shelf) old follows c.args.at (c.args.at + 1) refl c.args.c.now c.requires.at
           small c.requires.line.command c.requires.write mid c.in-Ok.touched done others (take inside.seats.len (told ++ drop (length told) inside.seats.items));
     })
 
@@ -82,15 +82,15 @@ returns-in_ok-tell_all-in-Ok-clause-serves g c =
     let less = rw (← c.self.view_is) at c.requires.at in
     let seen = c.view.ensures ∙ ap (λ (f : Follower). f.state.view) (get_or_read c.self.inside.seats.items at _ less c.index.ensures new_follower) in
     let met_is = (rw (seen, c.live.ensures) at c.in_ok-met.ensures) ∙ ap (λ (s : Serving g.row.S.Denot g.row.C.Denot). met_of c.args.c.now (seat_at s.seats at).state.view s.store.chain.live.mailbox) c.self.view_is in
-    let later = subst (λ (s : Serving g.row.S.Denot g.row.C.Denot). S.fault_count old.store.shelf ≤ S.fault_count s.store.shelf) c.answer.ensures.seats
-    (subst (λ (s : Serving g.row.S.Denot g.row.C.Denot). S.fault_count old.store.shelf ≤ S.fault_count s.store.shelf) (sym c.self-in-Ok.view_is) c.in-Ok.ensures.cause.later) in
+    let later = subst (λ (s : Serving g.row.S.Denot g.row.C.Denot). S.sees.fault_count old.store.shelf ≤ S.sees.fault_count s.store.shelf) c.answer.ensures.seats
+    (subst (λ (s : Serving g.row.S.Denot g.row.C.Denot). S.sees.fault_count old.store.shelf ≤ S.sees.fault_count s.store.shelf) (sym c.self-in-Ok.view_is) c.in-Ok.ensures.cause.later) in
     λ tells reads clock start base attempts small follows.
     let both = c.in-Ok.ensures.commits tells reads clock start base attempts small follows in
-    let others = subst (λ (s : Serving g.row.S.Denot g.row.C.Denot). LeavesOthers {A = List ℕ} c.args.c.now old.store.chain.live.mailbox (Ok c.in-Ok.touched) (S.files old.store.shelf) (S.files s.store.shelf)) (sym c.self-in-Ok.view_is) both.1 in
-    let done = subst (λ (s : Serving g.row.S.Denot g.row.C.Denot). IsDone S.files S.may_leave S.moment S.left_since g.C.Clock.upcoming clock start attempts (c.args.at + 1, c.args.c.now) c.in-Ok.touched old s) (sym c.self-in-Ok.view_is)
+    let others = subst (λ (s : Serving g.row.S.Denot g.row.C.Denot). LeavesOthers {A = List ℕ} c.args.c.now old.store.chain.live.mailbox (Ok c.in-Ok.touched) (S.sees.files old.store.shelf) (S.sees.files s.store.shelf)) (sym c.self-in-Ok.view_is) both.1 in
+    let done = subst (λ (s : Serving g.row.S.Denot g.row.C.Denot). IsDone S.sees g.C.Clock.sees clock start attempts (c.args.at + 1, c.args.c.now) c.in-Ok.touched old s) (sym c.self-in-Ok.view_is)
     both.0 in
-    seat_wrote S.files S.may_leave S.moment S.left_since g.C.Clock.upcoming clock start base attempts (S.fault_count old.store.shelf) old follows at (c.args.at + 1) refl c.args.c.now c.requires.at
-    small c.requires.line.command c.requires.write mid c.in-Ok.touched done others seats g.R.Replies.with c.args.replies.now c.answer.new.replies (S.fault_count c.answer.new.self.store.shelf) c.answer.new.self c.answer.result c.new-none.result c.in_ok-met.met later has all met_is
+    seat_wrote S.sees g.C.Clock.sees clock start base attempts (S.sees.fault_count old.store.shelf) old follows at (c.args.at + 1) refl c.args.c.now c.requires.at
+    small c.requires.line.command c.requires.write mid c.in-Ok.touched done others seats g.R.Replies.with c.args.replies.now c.answer.new.replies (S.sees.fault_count c.answer.new.self.store.shelf) c.answer.new.self c.answer.result c.new-none.result c.in_ok-met.met later has all met_is
     c.answer.ensures.answer c.answer.ensures.abreast c.answer.ensures.seats c.answer.ensures.err
 
 pub returns-in_ok-tell_all-in-Ok-clause-abreast : goal.returns-in_ok-tell_all-in-Ok-clause-abreast
@@ -125,10 +125,10 @@ returns-in_ok-tell_all-in-Ok-clause-cause g c =
     let seen = c.view.ensures ∙ ap (λ (f : Follower). f.state.view) (get_or_read c.self.inside.seats.items at _ less c.index.ensures new_follower) in
     let met_is = (rw (seen, c.live.ensures) at c.in_ok-met.ensures) ∙ ap (λ (s : Serving g.row.S.Denot g.row.C.Denot). met_of c.args.c.now (seat_at s.seats at).state.view s.store.chain.live.mailbox) c.self.view_is in
     let met_told = met_is ∙ ap (λ (x : SessionState). met_of c.args.c.now x.view old.store.chain.live.mailbox) (sym (has.states at new_follower c.requires.at)) in
-    let later = subst (λ (s : Serving g.row.S.Denot g.row.C.Denot). S.fault_count old.store.shelf ≤ S.fault_count s.store.shelf) c.answer.ensures.seats
-    (subst (λ (s : Serving g.row.S.Denot g.row.C.Denot). S.fault_count old.store.shelf ≤ S.fault_count s.store.shelf) (sym c.self-in-Ok.view_is) c.in-Ok.ensures.cause.later) in
+    let later = subst (λ (s : Serving g.row.S.Denot g.row.C.Denot). S.sees.fault_count old.store.shelf ≤ S.sees.fault_count s.store.shelf) c.answer.ensures.seats
+    (subst (λ (s : Serving g.row.S.Denot g.row.C.Denot). S.sees.fault_count old.store.shelf ≤ S.sees.fault_count s.store.shelf) (sym c.self-in-Ok.view_is) c.in-Ok.ensures.cause.later) in
     let mail : ℕ → Mail = λ uid. Damaged in
-    taken_answer (S.fault_count old.store.shelf) (S.fault_count new.store.shelf) g.R.Replies.with c.args.replies.now c.answer.new.replies c.answer.result (seat_at new.seats at).state mail (seat_at seats at).state c.args.c.now old.store.chain.live.mailbox inside.groups m inside.mark later
+    taken_answer (S.sees.fault_count old.store.shelf) (S.sees.fault_count new.store.shelf) g.R.Replies.with c.args.replies.now c.answer.new.replies c.answer.result (seat_at new.seats at).state mail (seat_at seats at).state c.args.c.now old.store.chain.live.mailbox inside.groups m inside.mark later
     (c.answer.ensures.answer mail old.store.chain.live.mailbox met_told (unread_supplied mail c.args.c.now (seat_at seats at).state m c.new-none.result (writes_unread c.args.c.now c.requires.write)))
 
 pub returns-in-Err-clause-serves : goal.returns-in-Err-clause-serves
@@ -138,11 +138,11 @@ returns-in-Err-clause-serves g c =
     let did = c.in-Err.ensures in
     λ tells reads clock start base attempts small follows.
     let both = did.commits tells reads clock start base attempts small follows in
-    seat_unwritten S.files S.may_leave S.moment S.left_since g.C.Clock.upcoming clock start base attempts (S.fault_count old.store.shelf) old follows c.args.at (c.args.at + 1) refl c.args.c.now c.requires.at
-    small c.requires.line.command c.requires.write c.commit.new.self g.R.Replies.with c.args.replies.now c.take_fault.new.replies (S.fault_count c.commit.new.self.store.shelf) c.in-Err.fault c.take_fault.result both.0 did.cause
+    seat_unwritten S.sees g.C.Clock.sees clock start base attempts (S.sees.fault_count old.store.shelf) old follows c.args.at (c.args.at + 1) refl c.args.c.now c.requires.at
+    small c.requires.line.command c.requires.write c.commit.new.self g.R.Replies.with c.args.replies.now c.take_fault.new.replies (S.sees.fault_count c.commit.new.self.store.shelf) c.in-Err.fault c.take_fault.result both.0 did.cause
     did.seats both.1 c.take_fault.ensures
 
 pub returns-in-Err-clause-cause : goal.returns-in-Err-clause-cause
 returns-in-Err-clause-cause g c =
     let S = g.S.Shelf in
-    taken_fault (S.fault_count c.args.self.now.store.shelf) (S.fault_count c.commit.new.self.store.shelf) g.R.Replies.with c.args.replies.now c.take_fault.new.replies c.take_fault.result c.in-Err.fault c.in-Err.ensures.cause c.take_fault.ensures
+    taken_fault (S.sees.fault_count c.args.self.now.store.shelf) (S.sees.fault_count c.commit.new.self.store.shelf) g.R.Replies.with c.args.replies.now c.take_fault.new.replies c.take_fault.result c.in-Err.fault c.in-Err.ensures.cause c.take_fault.ensures

@@ -27,7 +27,7 @@ returns-in-Ok-Some-clause-value g c = rw (← c.self.view_is) (
     let decides = rw c.in-Ok-Some.field-0-is at c.in-Ok-Some.ensures.decides in
     let is = rw c.in-Ok-Some.field-0-is at c.in-Ok-Some.ensures.steps in
     commits_written c.args.c.now c.args.view.now _ c.make_ready.new.chain c.in-Ok-Some.ensures.chain c.forget.new.cache c.forget.ensures c.in-Ok-Some.plan decides is c.write_plan.new.owed c.write_plan.new.chain c.write_plan.new.shelf c.make_ready.new.clock
-    c.appended_uid-uid.result (g.S.Shelf.fault_count c.write_plan.new.shelf) c.write_plan.result c.appended_uid-uid.ensures c.write_plan.ensures.receipt c.write_plan.ensures.err c.write_plan.ensures.value)
+    c.appended_uid-uid.result (g.S.Shelf.sees.fault_count c.write_plan.new.shelf) c.write_plan.result c.appended_uid-uid.ensures c.write_plan.ensures.receipt c.write_plan.ensures.err c.write_plan.ensures.value)
 
 pub returns-in-Ok-None-clause-value : goal.returns-in-Ok-None-clause-value
 returns-in-Ok-None-clause-value g c = rw (← c.self.view_is, c.idle.ensures) (
@@ -41,7 +41,7 @@ returns-in-Err-clause-value g c = rw (← c.self.view_is)
 pub returns-in-Ok-Some-clause-idle : goal.returns-in-Ok-Some-clause-idle
 returns-in-Ok-Some-clause-idle g c = λ idle.
     let is = rw c.in-Ok-Some.field-0-is at c.in-Ok-Some.ensures.steps in
-    absurd (plan_written c.in-Ok-Some.plan c.appended_uid-uid.result is.some (g.S.Shelf.fault_count c.write_plan.new.shelf) c.write_plan.result c.write_plan.ensures.receipt c.write_plan.ensures.err (idle_unwritten c.write_plan.result idle))
+    absurd (plan_written c.in-Ok-Some.plan c.appended_uid-uid.result is.some (g.S.Shelf.sees.fault_count c.write_plan.new.shelf) c.write_plan.result c.write_plan.ensures.receipt c.write_plan.ensures.err (idle_unwritten c.write_plan.result idle))
 
 pub returns-in-Err-clause-idle : goal.returns-in-Err-clause-idle
 returns-in-Err-clause-idle g c = rw (← c.self.view_is) (λ idle. idle_untouched Plan _ c.in-Err.e c.in-Err.ensures.untouched idle)
@@ -49,50 +49,50 @@ returns-in-Err-clause-idle g c = rw (← c.self.view_is) (λ idle. idle_untouche
 pub returns-in-Ok-Some-clause-looks : goal.returns-in-Ok-Some-clause-looks
 returns-in-Ok-Some-clause-looks g c = λ tells none.
     let is = rw c.in-Ok-Some.field-0-is at c.in-Ok-Some.ensures.steps in
-    absurd (plan_written c.in-Ok-Some.plan c.appended_uid-uid.result is.some (g.S.Shelf.fault_count c.write_plan.new.shelf) c.write_plan.result c.write_plan.ensures.receipt c.write_plan.ensures.err none)
+    absurd (plan_written c.in-Ok-Some.plan c.appended_uid-uid.result is.some (g.S.Shelf.sees.fault_count c.write_plan.new.shelf) c.write_plan.result c.write_plan.ensures.receipt c.write_plan.ensures.err none)
 
 pub returns-in-Ok-Some-clause-gives : goal.returns-in-Ok-Some-clause-gives
 returns-in-Ok-Some-clause-gives g c = rw (← c.self.view_is) (λ tells reads log debt author rest.
     let S = g.S.Shelf in
     let old = c.self.inside in
     let mid = c.make_ready.new in
-    let write : Write = write_of author c.args.c.now c.args.view.now (record { shelf = old.shelf; clock = old.clock; chain = old.chain; owed = old.owed; cache = old.cache }) (g.C.Clock.upcoming old.clock) in
+    let write : Write = write_of author c.args.c.now c.args.view.now (record { shelf = old.shelf; clock = old.clock; chain = old.chain; owed = old.owed; cache = old.cache }) (g.C.Clock.sees.upcoming old.clock) in
     let plan = c.in-Ok-Some.plan in
     let is = rw c.in-Ok-Some.field-0-is at c.in-Ok-Some.ensures.steps in
     let each = rw c.in-Ok-Some.field-0-is at (c.in-Ok-Some.ensures.write tells reads) in
     let made = rw c.in-Ok-Some.field-0-is at (c.in-Ok-Some.ensures.files tells reads) in
     let same = c.in-Ok-Some.ensures.chain in
     let looks = c.in-Ok-Some.ensures.looks tells in
-    let stands = stands_readied S.files S.may_leave S.moment S.left_since log debt write _ rest mid.chain same c.forget.new.cache c.forget.ensures mid.shelf mid.clock looks in
-    let plans = each log author stands.named (stands.keeps (S.files mid.shelf) (g.met.S.Shelf.leaves_files mid.shelf tells)) in
-    quiet_written S.files S.may_leave S.moment S.left_since log debt write _ rest mid.chain same c.forget.new.cache c.forget.ensures mid.shelf mid.clock looks plan c.write_plan.new.owed c.write_plan.new.chain c.write_plan.new.shelf is plans made
-    c.appended_uid-uid.result c.write_plan.result c.write_plan.ensures.receipt (carried_paid c.write_plan.result c.write_plan.ensures.value) (disk_written (S.fault_count c.write_plan.new.shelf) c.write_plan.result c.write_plan.ensures.err)
+    let stands = stands_readied S.sees log debt write _ rest mid.chain same c.forget.new.cache c.forget.ensures mid.shelf mid.clock looks in
+    let plans = each log author stands.named (stands.keeps (S.sees.files mid.shelf) (g.met.S.Shelf.leaves_files mid.shelf tells)) in
+    quiet_written S.sees log debt write _ rest mid.chain same c.forget.new.cache c.forget.ensures mid.shelf mid.clock looks plan c.write_plan.new.owed c.write_plan.new.chain c.write_plan.new.shelf is plans made
+    c.appended_uid-uid.result c.write_plan.result c.write_plan.ensures.receipt (carried_paid c.write_plan.result c.write_plan.ensures.value) (disk_written (S.sees.fault_count c.write_plan.new.shelf) c.write_plan.result c.write_plan.ensures.err)
     (c.write_plan.ensures.gives tells log debt write rest.fits stands plans.is))
 
 pub returns-in-Ok-None-clause-gives : goal.returns-in-Ok-None-clause-gives
 returns-in-Ok-None-clause-gives g c = rw (← c.self.view_is, c.idle.ensures) (λ tells reads log debt author rest.
     let S = g.S.Shelf in
     let decides = rw c.in-Ok-None.field-0-is at c.in-Ok-None.ensures.decides in
-    quiet_idle S.files S.may_leave S.moment S.left_since log debt _ _ rest c.make_ready.new.chain c.in-Ok-None.ensures.chain c.forget.new.cache c.forget.ensures c.make_ready.new.shelf c.make_ready.new.clock (c.in-Ok-None.ensures.looks tells) Plan c.place_of.result c.appended_uid-uid.result decides)
+    quiet_idle S.sees log debt _ _ rest c.make_ready.new.chain c.in-Ok-None.ensures.chain c.forget.new.cache c.forget.ensures c.make_ready.new.shelf c.make_ready.new.clock (c.in-Ok-None.ensures.looks tells) Plan c.place_of.result c.appended_uid-uid.result decides)
 
 pub returns-in-Err-clause-gives : goal.returns-in-Err-clause-gives
 returns-in-Err-clause-gives g c = rw (← c.self.view_is) (λ tells reads log debt author rest.
     let S = g.S.Shelf in
-    quiet_refused S.files S.may_leave S.moment S.left_since log debt _ _ rest c.make_ready.new.chain c.in-Err.ensures.chain c.forget.new.cache c.forget.ensures c.make_ready.new.shelf c.make_ready.new.clock (c.in-Err.ensures.looks tells) c.in-Err.e)
+    quiet_refused S.sees log debt _ _ rest c.make_ready.new.chain c.in-Err.ensures.chain c.forget.new.cache c.forget.ensures c.make_ready.new.shelf c.make_ready.new.clock (c.in-Err.ensures.looks tells) c.in-Err.e)
 
 pub returns-in-Ok-Some-clause-clock : goal.returns-in-Ok-Some-clause-clock
 returns-in-Ok-Some-clause-clock g c = rw (← c.self.view_is) (λ reads.
     let is = rw c.in-Ok-Some.field-0-is at c.in-Ok-Some.ensures.steps in
     let taken = rw c.in-Ok-Some.field-0-is at (c.in-Ok-Some.ensures.clock reads) in
-    let upcoming = g.C.Clock.upcoming in
-    readings_taken c.in-Ok-Some.plan c.appended_uid-uid.result is.some (readings_of c.args.c.now c.self.inside.owed c.self.inside.chain) (g.S.Shelf.fault_count c.write_plan.new.shelf) (upcoming c.self.inside.clock) (upcoming c.make_ready.new.clock) c.write_plan.result c.write_plan.ensures.receipt c.write_plan.ensures.err taken)
+    let upcoming = g.C.Clock.sees.upcoming in
+    readings_taken c.in-Ok-Some.plan c.appended_uid-uid.result is.some (readings_of c.args.c.now c.self.inside.owed c.self.inside.chain) (g.S.Shelf.sees.fault_count c.write_plan.new.shelf) (upcoming c.self.inside.clock) (upcoming c.make_ready.new.clock) c.write_plan.result c.write_plan.ensures.receipt c.write_plan.ensures.err taken)
 
 pub returns-in-Ok-Some-clause-mail_reads : goal.returns-in-Ok-Some-clause-mail_reads
 returns-in-Ok-Some-clause-mail_reads g c = rw (← c.self.view_is) (
     let is = rw c.in-Ok-Some.field-0-is at c.in-Ok-Some.ensures.steps in
     let read = rw c.in-Ok-Some.field-0-is at c.in-Ok-Some.ensures.mail_reads in
     let m = c.self.inside.chain.live.mailbox in
-    let reads = g.S.Shelf.mail_reads in
+    let reads = g.S.Shelf.sees.mail_reads in
     mails_counted c.in-Ok-Some.plan c.appended_uid-uid.result is.some (reads_of c.args.c.now m (changed_uids c.args.c.now c.args.view.now m)) (reads c.self.inside.shelf) (reads c.make_ready.new.shelf) (reads c.write_plan.new.shelf)
     c.write_plan.result c.write_plan.ensures.receipt read c.write_plan.ensures.mail_reads)
 
@@ -105,6 +105,6 @@ returns-in-Err-clause-cause g c = rw (← c.self.view_is) (passed_cause {A = _} 
 
 pub returns-in-Err-clause-clock : goal.returns-in-Err-clause-clock
 returns-in-Err-clause-clock g c =
-    let upcoming = g.C.Clock.upcoming in
-    subst (λ (s : State g.row.S.Denot g.row.C.Denot). g.C.Clock.tells → TakesReadings (readings_of c.args.c.now s.owed s.chain) (upcoming s.clock) (upcoming c.make_ready.new.clock) (Err c.in-Err.e)) c.self.view_is
+    let upcoming = g.C.Clock.sees.upcoming in
+    subst (λ (s : State g.row.S.Denot g.row.C.Denot). g.C.Clock.sees.tells → TakesReadings (readings_of c.args.c.now s.owed s.chain) (upcoming s.clock) (upcoming c.make_ready.new.clock) (Err c.in-Err.e)) c.self.view_is
     (λ reads. readings_passed Plan (readings_of c.args.c.now c.self.inside.owed c.self.inside.chain) (upcoming c.self.inside.clock) (upcoming c.make_ready.new.clock) c.in-Err.e (c.in-Err.ensures.clock reads))

@@ -10,7 +10,7 @@ returns-in-Ok-clause-quiet g c = λ tells clock none settled.
       since = done.since tells settled;
       settled = done.settled tells settled;
       rests = done.rests tells none settled;
-      stands = λ log named keeps. stands_opened S.files S.may_leave log c.in-Ok.chain (S.files c.args.shelf) c.create.new.shelf _ (done.files tells) (done.settled tells settled) (done.rests tells none settled) named keeps;
+      stands = λ log named keeps. stands_opened S.sees log c.in-Ok.chain (S.sees.files c.args.shelf) c.create.new.shelf _ (done.files tells) (done.settled tells settled) (done.rests tells none settled) named keeps;
     })
 
 pub returns-in-Err-clause-quiet : goal.returns-in-Err-clause-quiet

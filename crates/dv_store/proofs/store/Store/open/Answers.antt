@@ -13,7 +13,7 @@ returns-in-Ok-clause-quiet g c = λ tells settled.
       since = done.quiet tells settled;
       settled = done.settled tells settled;
       rests = done.rests tells settled;
-      stands = λ log named keeps. stands_opened S.files S.may_leave log c.in-Ok.chain (S.files c.args.shelf) c.open.new.shelf _ (done.files tells) (done.settled tells settled) (done.rests tells settled) named keeps;
+      stands = λ log named keeps. stands_opened S.sees log c.in-Ok.chain (S.sees.files c.args.shelf) c.open.new.shelf _ (done.files tells) (done.settled tells settled) (done.rests tells settled) named keeps;
     })
 
 pub returns-in-Err-clause-opens : goal.returns-in-Err-clause-opens

@@ -1,0 +1,19 @@
+//! A mailbox folder served to the sessions of a script, or rebuilt, as the program's words ask.
+#![tactic(auto)]
+
+mod ending;
+mod errors;
+mod loading;
+mod opening;
+mod program;
+mod reading;
+mod rebuilding;
+mod running;
+#[cfg(test)]
+mod tests;
+mod top_call;
+mod words;
+
+pub use errors::ErrorOutput;
+pub use program::{obey_read, words_given};
+pub use top_call::{Ran, run};
