@@ -228,11 +228,26 @@ def put(name, kind, alone=False):
     return make
 
 
+def beside_cache(kind):
+    """A folder with a cache file and something else at the index's name."""
+
+    def make(place):
+        put(INDEX, kind, alone=True)(place)
+        shutil.copy(os.path.join(place.mailbox, CACHE), place.file(CACHE))
+
+    return make
+
+
 # ---- cases
 
 
 def failure(n, name=rb"[^:]+", why=rb"[^:].*"):
     return rb"failure %d: %s: %s( \(os error \d+\))?" % (n, name, why)
+
+
+def passed_over(name):
+    """What is told of a name that is no file."""
+    return re.escape(os.fsencode(name)) + rb": what stands there is no regular file .*, so it counts as not there"
 
 
 def refusal(n):
@@ -280,22 +295,24 @@ def run_wanted(name, stays):
     if name == LOG:
         return {"status": 3, "answers": (), "last": b"FAULT 3 NoLog", "errors": None, "is_left": True}
     if name == "u.2":
-        return {"answers": with_answer(1, rb"NO \[CORRUPTION\] UID 2 ")}
-    if stays and name == "u.4":
-        return {"answers": with_answer(2, refusal(1)), "errors": (failure(1, where),)}
+        return {"answers": with_answer(1, rb"NO \[CORRUPTION\] UID 2 "), "errors": (passed_over(name),)}
+    if name == "u.4":
+        # where it can, the new message's file takes its place before the CHECK
+        return {"answers": with_answer(2, refusal(1)), "errors": (failure(1, where), passed_over(name))} if stays else {"answers": DONE}
     if stays and name in (INDEX, CACHE):
-        return {"answers": with_answer(3, refusal(1)), "errors": (failure(1, where),)}
+        return {"answers": with_answer(3, refusal(1)), "errors": (passed_over(name), failure(1, where))}
     if stays and name == TEMPORARY:
         return {
             "answers": (*DONE[:2], refusal(1), refusal(2), *DONE[4:]),
             "errors": (failure(1), failure(2)),
         }
-    return {"answers": DONE}
+    return {"answers": DONE, "errors": () if name == TEMPORARY else (passed_over(name),)}
 
 
 def rebuild_wanted(name, stays):
     if stays and name in (LOG, TEMPORARY):
-        return {"status": 2, "last": b"FAULT 2 DISK 1", "errors": (failure(1),)}
+        told = (passed_over(name),) if name == LOG else ()
+        return {"status": 2, "last": b"FAULT 2 DISK 1", "errors": (*told, failure(1))}
     return {"last": b"END 0 REBUILT kept %d skipped 0" % (2 if name == "u.2" else 3), "errors": None}
 
 
@@ -315,11 +332,22 @@ def irregular_cases():
             wanted = {"status": 2, "last": b"FAULT 2 DISK 1", "errors": (failure(1, where),), "is_left": True}
             yield Case(f"{name} is {kind}, alone: run", make, **wanted)
             yield Case(f"{name} is {kind}, alone: rebuild", make, b"", "rebuild", **wanted)
+        for word in ("run", "rebuild"):
+            yield Case(
+                f"{INDEX} is {kind}, beside a cache file alone: {word}",
+                beside_cache(put_it),
+                word=word,
+                status=2,
+                last=b"FAULT 2 DISK 1",
+                errors=(failure(1, os.fsencode(INDEX)),),
+                is_left=True,
+            )
         yield Case(
             f"u.2 is {kind}: its message is expunged",
             put("u.2", put_it),
             GOING,
             answers=(b"OK ",) * 4,
+            errors=(passed_over("u.2"),),
             behind=stands("u.2"),
         )
 
@@ -419,6 +447,15 @@ def folder_cases():
         behind=is_private,
     )
     yield Case("an empty folder: run", lambda place: os.mkdir(place.box, 0o700), answers=(b"OK ",), behind=is_private)
+    yield Case("a parent that may not be read: run", shut(True), EVERYTHING, answers=DONE, path="shut/box")
+    yield Case(
+        "a folder is made in a parent that may not be read",
+        shut(False),
+        status=2,
+        last=b"FAULT 2 DISK 1",
+        errors=(rb"sdbox: the folder .*shut/box/ is made", failure(1, rb"[^:]*shut/box/\.\.", DENIED)),
+        path="shut/box",
+    )
     for word in ("run", "rebuild"):
         yield Case(f"a folder whose parent is missing: {word}", missing, word=word, path="none/box", **failed)
         for what, kind in KINDS.items():
@@ -454,7 +491,30 @@ def folder_cases():
     yield Case("the folder is swapped for another in a run", copied(lambda place: None), how=swapped, errors=None)
 
 
+def shut(has_box):
+    """A parent that may be entered and written, and not read, with a folder in it or none."""
+
+    def make(place):
+        parent = os.path.join(place.path, "shut")
+        os.mkdir(parent)
+        if has_box:
+            shutil.copytree(place.mailbox, os.path.join(parent, "box"))
+        os.chmod(parent, 0o311)
+
+    return make
+
+
+def link_storage(place):
+    """A link of the other layout's name, to where such files stand."""
+    place.copy()
+    shutil.copy(os.path.join(place.mailbox, LOG), os.path.join(place.outside, "dovecot.map.index.log"))
+    os.symlink(place.outside, place.file("storage"))
+
+
 def layout_cases():
+    for word in ("run", "rebuild"):
+        errors = () if word == "run" else None
+        yield Case(f"storage is a link to a folder outside: {word}", link_storage, word=word, last=b"END 0 .*", errors=errors)
     for name in OTHER_LAYOUT:
         for alone in (True, False):
 
@@ -556,6 +616,15 @@ def damaged(place):
 
 
 def told_cases():
+    yield Case(
+        "rebuild tells what is no file",
+        put("u.12", link_missing),
+        b"",
+        "rebuild",
+        last=b"END 0 REBUILT kept 3 skipped 0",
+        errors=None,
+        how=tells_other,
+    )
     yield Case(
         "a bad line",
         copied(lambda place: None),
@@ -714,6 +783,14 @@ def rebuilt_report(case, place, folder):
     for wanted in (rb"u\.0", rb"u\.2", rb"u\.9", rb"UIDVALIDITY", rb"CHECK", rb"dovecot\.index\.log"):
         if not re.search(wanted, done.stderr):
             raise Differs(f"standard error has no {wanted.decode()}: {done.stderr.decode(errors='replace')!r}")
+    return done
+
+
+def tells_other(case, place, folder):
+    """Standard error is to name what is no file."""
+    done = plainly(case, place, folder)
+    if not any(re.fullmatch(passed_over("u.12"), line) for line in done.stderr.splitlines()):
+        raise Differs(f"standard error doesn't name u.12: {done.stderr.decode(errors='replace')!r}")
     return done
 
 

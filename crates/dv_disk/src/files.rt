@@ -69,7 +69,8 @@ impl<Y: System + Drop> Files<Y> {
     pub(crate) fn new(alloc: Global, system: Y, missing: Missing) -> Files<Y>
         requires trusted { IsTrusted false Y.tells (Y.disk system) }
         requires place_trusted { IsPlaceTrusted false Y.tells (Y.disk system) }
-        ensures { result.system ≡ system }
+        ensures system { result.system ≡ system }
+        ensures missing { result.missing ≡ missing }
     {
         Files {
             system,

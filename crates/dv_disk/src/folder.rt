@@ -28,6 +28,7 @@ impl<Y: System + Drop> Folder<Y> {
         requires trusted { IsTrusted false Y.tells (Y.disk system) }
         requires place_trusted { IsPlaceTrusted false Y.tells (Y.disk system) }
         ensures system { result.files.system ≡ system }
+        ensures missing { result.files.missing ≡ missing }
         ensures faults { result.faults ≡ 0 }
         ensures reads { result.mail_reads ≡ 0 }
     {

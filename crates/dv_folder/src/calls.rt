@@ -1,7 +1,7 @@
 ghost use Rattle.std.specs.Prelude.{◌≡◌, ◌++◌, OnOk, string_bytes};
 ghost use Rattle.dv_folder.specs.Ways.{open_path, part_of, way_of};
 
-use crate::kinds::{Kind, is_file, is_same, kind_of};
+use crate::kinds::{Kind, is_same, kind_of, named};
 use crate::names::{Layout, name_of, push_name};
 use dv_model::{Bytes, List};
 use dv_shelf::{Failed, Name, ShelfFault, is_of_mailbox};
@@ -31,16 +31,28 @@ const IN_USE: &str = "another process has the folder";
 
 const NO_FILE: &str = "what stands there is no regular file of at most 4294967295 bytes";
 
+const NO_FOLDER: &str = "what stands there is no folder";
+
 const OTHER_LAYOUT: &str = "files of a folder of the other kind stand there";
 
 const SWAPPED: &str = "another file took its place";
 
 const NO_WORDS: &str = "memory ran out, or an earlier sync failed";
 
+/// How many names that are no files are told.
+const MOST_TOLD: usize = 100;
+
+/// The folder that the folder stands in, and the one above, as paths from it.
+const PARENT: &str = "..";
+
+const GRANDPARENT: &str = "../..";
+
 /// What a call was on.
 #[derive(Clone, Copy)]
 enum Place {
     Folder,
+    /// A folder above it, by a path from it.
+    Above(&'static str),
     Entry(Entry),
 }
 
@@ -55,9 +67,10 @@ pub(crate) struct Opened {
 #[derive(Drop)]
 struct Listing {
     entries: List<Entry>,
-    has_file: bool,
-    /// A name that is no file.
-    other: Option<Name>,
+    /// A file of a mailbox is one of them.
+    has_mailbox: bool,
+    /// The names that are no files.
+    others: List<Name>,
 }
 
 /// The system's calls on a real folder, one each. Nothing is told of what they do.
@@ -75,8 +88,14 @@ pub(crate) struct Calls {
     /// memory.
     path: String,
     temporary: String,
+    /// The folder was missing, and was made by this value.
+    is_made: bool,
+    /// So was a storage's folder in it.
+    is_part_made: bool,
     /// The folder, open and locked.
     lock: Option<File>,
+    /// The names that are no files were told.
+    has_told: bool,
     /// Why a call failed since the last line was told, and on what.
     reason: Cell<Option<io::Error>>,
     noted: String,
@@ -94,7 +113,9 @@ impl Calls {
         path: &str,
         layout: Layout,
     ) -> Result<Calls, AllocError>
-        ensures { IfOk result (λ calls. string_bytes calls.folder ≡ folder_path layout path.now) }
+        ensures path { IfOk result (λ calls. string_bytes calls.folder
+            ≡ folder_path layout path.now) }
+        ensures layout { IfOk result (λ calls. calls.layout ≡ layout) }
     {
         let mut root = String::from_str(alloc, if path.is_empty() { "." } else { path })?;
         root.push_str("/")?;
@@ -114,7 +135,10 @@ impl Calls {
             entered: None,
             path,
             temporary,
+            is_made: false,
+            is_part_made: false,
             lock: None,
+            has_told: false,
             reason: Cell::new(None),
             noted,
         })
@@ -124,9 +148,11 @@ impl Calls {
     pub(crate) fn tell(&self, number: u64) {
         let noted = self.noted.as_str();
         let folder = self.folder.as_str();
-        let place = if noted.is_empty() { folder } else { noted };
+        // Of the folder itself nothing is noted, and of one above it the way there.
+        let is_folder = noted.is_empty() || noted.starts_with(PARENT);
+        let front = if is_folder { folder } else { "" };
         let _ = match self.reason.take() {
-            Some(error) => eprintln!(self.rt; "failure {number}: {place}: {error}"),
+            Some(error) => eprintln!(self.rt; "failure {number}: {front}{noted}: {error}"),
             None => eprintln!(self.rt; "failure {number}: {folder}: {NO_WORDS}"),
         };
     }
@@ -156,6 +182,7 @@ impl Calls {
         self.noted.clear();
         match place {
             Place::Folder => Ok(()),
+            Place::Above(way) => self.noted.push_str(way),
             Place::Entry(Entry::Temporary) => self.noted.push_str(TEMPORARY),
             Place::Entry(Entry::File(name)) => push_name(&mut self.noted, self.layout, name),
         }
@@ -324,21 +351,16 @@ impl Calls {
     fn entries(&self, alloc: Global, is_whole: bool) -> io::Result<Listing> {
         let mut listing = Listing {
             entries: List::new(alloc),
-            has_file: false,
-            other: None,
+            has_mailbox: false,
+            others: List::new(alloc),
         };
         for entry in fs::read_dir(&self.rt, self.path.as_str())? {
-            match entry {
-                Ok(entry) => {
-                    if let Some(found) = entry_of(self.layout, entry.file_name()) {
-                        listing.add(found, kind_of(entry.metadata())?)?;
-                    }
+            if let Some(entry) = named(entry)? {
+                if let Some(found) = entry_of(self.layout, entry.file_name()) {
+                    listing.add(found, kind_of(entry.metadata())?)?;
                 }
-                // A name that is no UTF-8 is the name of another file.
-                Err(e) if e.kind() == ErrorKind::InvalidFilename => {}
-                Err(e) => return Err(e),
             }
-            if !is_whole && listing.has_mailbox() {
+            if !is_whole && listing.has_mailbox {
                 return Ok(listing);
             }
         }
@@ -353,46 +375,88 @@ impl Calls {
             Layout::Mailbox => Layout::Storage,
             Layout::Storage => Layout::Mailbox,
         };
-        self.path.clear();
-        self.path.push_str(self.root.as_str())?;
-        self.path.push_str(part(other))?;
+        self.set_part(other)?;
         if has_names(self.rt, self.path.as_str(), other)? {
             return Err(io::Error::other(OTHER_LAYOUT));
         }
         Ok(())
     }
 
+    /// Sets the path of the folder with the files of a layout. That of a storage's has no slash at
+    /// its end, so that a look at it follows no link.
+    fn set_part(&mut self, layout: Layout) -> Result<(), AllocError>
+        ensures lock { self.new.lock ≡ self.old.lock }
+    {
+        self.path.clear();
+        self.path.push_str(self.root.as_str())?;
+        self.path.push_str(part_name(layout))
+    }
+
     fn make_folders(&mut self) -> io::Result<()>
         ensures lock { self.new.lock ≡ self.old.lock }
     {
         self.refuse_other()?;
-        make_directory(self.rt, self.root.as_str())?;
+        let is_made = make_directory(self.rt, self.root.as_str())?;
+        self.is_made = self.is_made || is_made;
         if self.layout == Layout::Storage {
-            make_directory(self.rt, self.folder.as_str())?;
+            let is_made = make_directory(self.rt, self.folder.as_str())?;
+            self.is_part_made = self.is_part_made || is_made;
         }
-        Ok(())
+        self.find_part()
     }
 
     fn look_for_folder(&mut self) -> io::Result<()>
         ensures lock { self.new.lock ≡ self.old.lock }
     {
         self.refuse_other()?;
-        fs::metadata(&self.rt, self.folder.as_str())?;
-        Ok(())
+        self.find_part()
     }
 
-    /// Syncs the folder that the folder stands in; a storage stands two folders deep.
-    fn sync_above(&mut self) -> io::Result<()>
+    /// The folder with the files is there: the folder itself may be a link, and a storage's in it
+    /// is none.
+    fn find_part(&mut self) -> io::Result<()>
+        ensures lock { self.new.lock ≡ self.old.lock }
+    {
+        let layout = self.layout;
+        self.set_part(layout)?;
+        let found = fs::symlink_metadata(&self.rt, self.path.as_str())?;
+        if found.is_dir() {
+            Ok(())
+        } else {
+            Err(io::Error::other(NO_FOLDER))
+        }
+    }
+
+    /// Syncs a folder above, by its path from this one. One that may not be opened is passed over
+    /// where what stands in it was there before.
+    fn sync_above(&mut self, above: &'static str, is_made: bool) -> Result<(), Failed>
+        ensures lock { self.new.lock ≡ self.old.lock }
+    {
+        let done = match self.open_above(above) {
+            Ok(folder) => folder.sync_all(),
+            Err(e) if !is_made && e.kind() == ErrorKind::PermissionDenied => Ok(()),
+            Err(e) => Err(e),
+        };
+        self.answer(Place::Above(above), done)
+    }
+
+    fn open_above(&mut self, above: &str) -> io::Result<File>
         ensures lock { self.new.lock ≡ self.old.lock }
     {
         self.set_way()?;
-        self.path.push_str("..")?;
-        sync_directory(self.rt, self.path.as_str())?;
-        if self.layout == Layout::Storage {
-            self.path.push_str("/..")?;
-            sync_directory(self.rt, self.path.as_str())?;
+        self.path.push_str(above)?;
+        File::open(&self.rt, self.path.as_str())
+    }
+
+    /// Tells the names that are no files, once.
+    fn tell_others(&mut self, others: &[Name])
+        ensures lock { self.new.lock ≡ self.old.lock }
+    {
+        if !self.has_told {
+            self.has_told = true;
+            // The room for a name was taken before.
+            let _ = tell_names(self.rt, self.layout, &mut self.path, others);
         }
-        Ok(())
     }
 
     fn sync_here(&self) -> io::Result<()> {
@@ -433,25 +497,19 @@ impl Calls {
 impl Listing {
     fn add(&mut self, entry: Entry, kind: Kind) -> Result<(), AllocError> {
         match (kind, entry) {
-            (Kind::File(_), Entry::File(_)) => {
-                self.has_file = true;
+            (Kind::File(_), Entry::File(name)) => {
+                self.has_mailbox = self.has_mailbox || is_of_mailbox(name);
                 self.entries.push(entry)
             }
             (Kind::File(_), Entry::Temporary) => self.entries.push(entry),
-            (Kind::Other, Entry::File(name)) => {
-                self.other = Some(name);
-                Ok(())
-            }
+            (Kind::Other, Entry::File(name)) => self.others.push(name),
             (_, _) => Ok(()),
         }
     }
 
-    /// Whether one of the entries is a mailbox's.
-    fn has_mailbox(&self) -> bool {
-        self.entries.as_slice().iter().any(|entry| match entry {
-            Entry::File(name) => is_of_mailbox(*name),
-            Entry::Temporary => false,
-        })
+    /// A name that is no file, where there is one.
+    fn other(&self) -> Option<Name> {
+        self.others.as_slice().first().copied()
     }
 }
 
@@ -530,9 +588,12 @@ impl System for Calls {
     fn list(&mut self, alloc: Global) -> Result<List<Entry>, ShelfFault> {
         let done = self.listing(alloc, true);
         let listing = self.look(Place::Folder, done)?;
-        match (listing.has_file, listing.other) {
+        match (listing.has_mailbox, listing.other()) {
             (false, Some(name)) => self.fail_at(name),
-            (_, _) => Ok(listing.entries),
+            (_, _) => {
+                self.tell_others(listing.others.as_slice());
+                Ok(listing.entries)
+            }
         }
     }
 
@@ -549,10 +610,10 @@ impl System for Calls {
         }
         let done = self.listing(alloc, false);
         let listing = self.look(Place::Folder, done)?;
-        if listing.has_mailbox() {
+        if listing.has_mailbox {
             return Ok(true);
         }
-        match other.or(listing.other) {
+        match other.or(listing.other()) {
             Some(name) => self.fail_at(name),
             None => Ok(false),
         }
@@ -569,8 +630,13 @@ impl System for Calls {
     }
 
     fn sync_parent(&mut self) -> Result<(), Failed> {
-        let done = self.sync_above();
-        self.answer(Place::Folder, done)
+        match self.layout {
+            Layout::Mailbox => self.sync_above(PARENT, self.is_made),
+            Layout::Storage => {
+                self.sync_above(PARENT, self.is_part_made)?;
+                self.sync_above(GRANDPARENT, self.is_made)
+            }
+        }
     }
 
     fn sync_folder(&mut self) -> Result<(), Failed> {
@@ -595,6 +661,14 @@ fn part(layout: Layout) -> &'static str
     }
 }
 
+/// The name of that part in the folder; a mailbox's files stand in the folder itself.
+fn part_name(layout: Layout) -> &'static str {
+    match layout {
+        Layout::Mailbox => "",
+        Layout::Storage => "storage",
+    }
+}
+
 /// Adds the path of an open folder in the process file system.
 fn push_open_path(text: &mut String, number: u32) -> Result<(), AllocError>
     ensures { OnOk result (string_bytes text.new ≡ string_bytes text.old ++ open_path number) }
@@ -612,36 +686,54 @@ fn entry_of(layout: Layout, text: &str) -> Option<Entry> {
     Some(Entry::File(name_of(layout, text)?))
 }
 
-/// Whether names of this layout stand in a folder, if it is there.
+/// Whether names of this layout stand in a folder, if it is there and is no link.
 fn has_names(rt: HostRuntime, path: &str, layout: Layout) -> io::Result<bool> {
-    match fs::metadata(&rt, path) {
-        Ok(_) => {}
+    match fs::symlink_metadata(&rt, path) {
+        Ok(found) if found.is_dir() => {}
+        Ok(_) => return Ok(false),
         Err(e) if e.kind() == ErrorKind::NotFound => return Ok(false),
         Err(e) if e.kind() == ErrorKind::NotADirectory => return Ok(false),
         Err(e) => return Err(e),
     }
     for entry in fs::read_dir(&rt, path)? {
-        match entry {
-            Ok(entry) => {
-                if name_of(layout, entry.file_name()).is_some() {
-                    return Ok(true);
-                }
+        if let Some(entry) = named(entry)? {
+            if name_of(layout, entry.file_name()).is_some() {
+                return Ok(true);
             }
-            Err(e) if e.kind() == ErrorKind::InvalidFilename => {}
-            Err(e) => return Err(e),
         }
     }
     Ok(false)
 }
 
-/// Makes a folder where it is missing, and says so.
-fn make_directory(rt: HostRuntime, path: &str) -> io::Result<()> {
+/// Tells names that are no files: the first hundred, and how many more there are.
+fn tell_names(
+    rt: HostRuntime,
+    layout: Layout,
+    text: &mut String,
+    names: &[Name],
+) -> Result<(), AllocError> {
+    let (told, more) = names.split_at(MOST_TOLD.min(names.len()));
+    for name in told {
+        text.clear();
+        push_name(text, layout, *name)?;
+        let name = text.as_str();
+        let _ = eprintln!(rt; "{name}: {NO_FILE}, so it counts as not there");
+    }
+    let count = more.len();
+    if count > 0 {
+        let _ = eprintln!(rt; "more names of what is no such file: {count}");
+    }
+    Ok(())
+}
+
+/// Makes a folder where it is missing, and says so. Gives whether it did.
+fn make_directory(rt: HostRuntime, path: &str) -> io::Result<bool> {
     match DirBuilder::new().mode(0o700).create(&rt, path) {
         Ok(()) => {
             let _ = eprintln!(rt; "sdbox: the folder {path} is made");
-            Ok(())
+            Ok(true)
         }
-        Err(e) if e.kind() == ErrorKind::AlreadyExists => Ok(()),
+        Err(e) if e.kind() == ErrorKind::AlreadyExists => Ok(false),
         Err(e) => Err(e),
     }
 }

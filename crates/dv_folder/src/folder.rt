@@ -1,6 +1,6 @@
 ghost use Rattle.std.specs.Prelude.{◌≡◌, None, IfOk};
 ghost use Rattle.dv_folder.specs.Ways.{folder_path};
-ghost use Rattle.dv_folder.specs.Paths.{path_of};
+ghost use Rattle.dv_folder.specs.Paths.{layout_of, missing_of, path_of};
 
 use crate::calls::Calls;
 use crate::names::Layout;
@@ -30,6 +30,8 @@ impl Folder {
     ) -> Result<Folder, NoMemory>
         ensures faults { IfOk result (λ shelf. shelf.shelf.faults ≡ 0) }
         ensures path { IfOk result (λ shelf. path_of shelf ≡ folder_path layout path.now) }
+        ensures layout { IfOk result (λ shelf. layout_of shelf ≡ layout) }
+        ensures missing { IfOk result (λ shelf. missing_of shelf ≡ missing) }
     {
         let calls = Calls::new(alloc, rt, path, layout)?;
         Ok(Folder {

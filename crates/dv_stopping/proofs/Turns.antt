@@ -1,5 +1,5 @@
 -- What the calls of a shelf that stops do, by what becomes of them.
-use Rattle.std.proofs.Common.{◌≡◌, ◌⊎◌, ◌↔◌, ℕ, List, length, Option, Some, None, Result, Ok, Err, OnErr, refl, sym, subst, inl, inr, ⊎_elim, arith}
+use Rattle.std.proofs.Common.{◌≡◌, ◌⊎◌, ◌↔◌, ℕ, ◌≤◌, List, length, Option, Some, None, Result, Ok, Err, OnErr, refl, sym, subst, inl, inr, ⊎_elim, arith}
 use Rattle.std.specs.declared.snapshot.Snapshot.{Snapshot}
 use Rattle.dv_shelf.specs.declared.shelf.Failed.{Failed}
 use Rattle.dv_shelf.specs.declared.shelf.Name.{Name}
@@ -12,7 +12,7 @@ use Rattle.dv_shelf.proofs.ShelfLemmas.{same_torn}
 use Rattle.dv_stopping.specs.declared.stopping.Stopping.{Stopping}
 use Rattle.dv_stopping.specs.declared.stopping.Turn.{Turn}
 use Rattle.dv_stopping.specs.declared.stopping.Turn.TheVariants.{Passes, Stops, Behind}
-use Rattle.dv_stopping.specs.Stops.{left_by, leavings}
+use Rattle.dv_stopping.specs.Stops.{left_by, leavings, since_by}
 use Rattle.dv_stopping.specs.Turns.{IsMarked, IsKept, WritesAt, Replaces, Turned, Begun}
 use Rattle.dv_stopping.specs.Laws.{CountsNow, OnlyNow}
 
@@ -60,28 +60,60 @@ module _ {S : Type 0} (sees : SeesFolder S) where
     (λ since. since_stop old new stop mark c since),
   )
 
+  -- What the inner shelf might have left since the shelf old, it might have left since an earlier
+  -- moment.
+  since_earlier : CountsNow sees → OnlyNow sees → (old new : S) → sees.tells → Later old new
+      → (t : ℕ) (c : Folder) → t ≤ sees.moment old → sees.left_since new (sees.moment old) c
+      → sees.left_since new t c
+  since_earlier counts only old new tells time t c le since =
+      ⊎_elim (λ is. time.keeps t c le (counts old t c le is))
+      (λ is. let later : sees.moment old ≤ sees.moment new = time.later in counts new t c (omega arith) is)
+      (then_or_now only old new tells time c since)
+
+  -- since an earlier moment it leaves what the inner shelf does
+  stop_since : CountsNow sees → OnlyNow sees → (old new : S) (stop : Option (Snapshot S))
+      → IsMarked stop old → sees.tells → Later old new → (t : ℕ) (c : Folder)
+      → t ≤ sees.moment old → since_by sees stop new t c ↔ sees.left_since new t c
+  stop_since counts only old new None mark tells time t c le = absurd mark
+  stop_since counts only old new (Some before) mark tells time t c le =
+      let later : sees.moment old ≤ sees.moment new = time.later in (
+        (λ left. ⊎_elim
+            (λ past. time.keeps t c le (subst (λ (s : S). sees.left_since s t c) mark past))
+            (λ rest. ⊎_elim (λ is. counts new t c (omega arith) is)
+            (λ since. since_earlier counts only old new tells time t c le
+            (subst (λ (s : S). sees.left_since new (sees.moment s) c) mark since))
+            rest)
+            left),
+        (λ since. ⊎_elim
+            (λ past. inl (subst (λ (s : S). sees.left_since s t c) (sym mark) past))
+            (λ is. inr (inl is))
+            (time.nothing_else t c le since)),
+      )
+
   -- a call was passed on, and then the shelf failed
   pub stopped : CountsNow sees → OnlyNow sees → {R : Type 0} (does : S → S → R → Type 0)
       (fails : Type 0) (old mid new : Stopping S) (turn : Turn) (result answer : R) (post : S)
       → Stops ≡ turn → Begun Stops old mid → mid.inner ≡ old.inner → new.inner ≡ post
-      → new.stop ≡ mid.stop → does mid.inner post answer
+      → new.stop ≡ mid.stop → new.left ≡ mid.left → does mid.inner post answer
       → (sees.tells → Elapses (sees.moment mid.inner) (sees.moment post)
       (sees.left_since mid.inner) (sees.left_since post) (sees.may_leave post))
       → fails → Turned turn sees does fails old new result
-  stopped counts only does fails old mid new turn result answer post is begun same inner stop made time failed =
+  stopped counts only does fails old mid new turn result answer post is begun same inner stop left made time failed =
       let here = subst (λ (s : S). does s new.inner answer) same
       (subst (λ (s : S). does mid.inner s answer) (sym inner) made) in
-      let mark = subst (λ (o : Option (Snapshot S)). IsMarked o old.inner) (sym stop) begun.1 in
+      let mark = subst (λ (o : Option (Snapshot S)). IsMarked o old.inner) (sym stop) begun.1.0 in
       let gone : sees.tells → Elapses (sees.moment old.inner) (sees.moment new.inner) (sees.left_since old.inner) (sees.left_since new.inner) (sees.may_leave new.inner) =
       λ tells. subst (λ (s : S). Elapses (sees.moment s) (sees.moment new.inner) (sees.left_since s) (sees.left_since new.inner) (sees.may_leave new.inner)) same
       (subst (λ (s : S). Elapses (sees.moment mid.inner) (sees.moment s) (sees.left_since mid.inner) (sees.left_since s) (sees.may_leave s)) (sym inner) (time tells)) in
       subst (λ (t : Turn). Turned t sees does fails old new result) is (record {
         goes = begun.0;
         mark = mark;
+        left = subst (λ (n : ℕ). new.left ≡ n) begun.1.1 left;
         failed = failed;
         answer = answer;
         made = here;
         leaves = λ tells c. stop_leaves counts only old.inner new.inner new.stop mark tells (gone tells) c;
+        since = λ tells t c le. stop_since counts only old.inner new.inner new.stop mark tells (gone tells) t c le;
       })
 
   -- before the stop a crash may leave what it may of the inner shelf

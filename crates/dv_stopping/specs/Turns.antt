@@ -1,5 +1,5 @@
 -- What becomes of the calls of a shelf that stops.
-use Rattle.std.specs.Prelude.{◌≡◌, ◌↔◌, ℕ, ◌+◌, List, length, nat_eq, cond, Option, Some, None, Result, OnOk, OnErr, IfOk, IsErrOf}
+use Rattle.std.specs.Prelude.{◌≡◌, ◌↔◌, ℕ, ◌+◌, ◌≤◌, List, length, nat_eq, cond, Option, Some, None, Result, OnOk, OnErr, IfOk, IsErrOf}
 use Rattle.std.specs.declared.snapshot.Snapshot.{Snapshot}
 use Rattle.dv_shelf.specs.declared.shelf.Failed.{Failed}
 use Rattle.dv_shelf.specs.declared.shelf.Name.{Name}
@@ -12,7 +12,7 @@ use Rattle.dv_shelf.specs.Sees.{SeesFolder}
 use Rattle.dv_stopping.specs.declared.stopping.Stopping.{Stopping}
 use Rattle.dv_stopping.specs.declared.stopping.Turn.{Turn}
 use Rattle.dv_stopping.specs.declared.stopping.Turn.TheVariants.{Passes, Stops, Behind}
-use Rattle.dv_stopping.specs.Stops.{leavings}
+use Rattle.dv_stopping.specs.Stops.{leavings, leavings_since}
 
 -- what becomes of the next call
 abbrev pub turn_by : {S : Type 0} → Option (Snapshot S) → ℕ → Turn
@@ -87,16 +87,20 @@ pub record Passed {S R : Type 0} (does : S → S → R → Type 0) (old new : St
   pub made : does old.inner new.inner result
 
 -- A call is passed on, but fails whatever the inner shelf answers. From then on a crash may leave
--- just what it might have left of the inner shelf at some moment since before the call.
+-- just what it might have left of the inner shelf at some moment since before the call; and what it
+-- might have left since an earlier moment is what it might have of the inner shelf.
 pub record StopsIn {S R : Type 0} (sees : SeesFolder S) (does : S → S → R → Type 0)
     (fails : Type 0) (old new : Stopping S) : Type 0 where
   pub goes : old.stop ≡ None
   pub mark : IsMarked new.stop old.inner
+  pub left : new.left ≡ old.left
   pub failed : fails
   pub answer : R
   pub made : does old.inner new.inner answer
   pub leaves : sees.tells → (c : Folder)
       → leavings sees new c ↔ sees.left_since new.inner (sees.moment old.inner) c
+  pub since : sees.tells → (t : ℕ) (c : Folder) → t ≤ sees.moment old.inner
+      → leavings_since sees new t c ↔ sees.left_since new.inner t c
 
 -- a call behind the stop fails, and only the counts move
 pub record IsBehind {S : Type 0} (fails : Type 0) (old new : Stopping S) : Type 0 where
@@ -115,5 +119,6 @@ Turned Behind sees does fails old new result = IsBehind fails old new
 -- a call begins: whether it is passed on is settled
 abbrev pub Begun : {S : Type 0} → Turn → Stopping S → Stopping S → Type 0
 Begun Passes old new = (old.stop ≡ None) × ((new.stop ≡ None) × (old.left ≡ new.left + 1))
-Begun Stops old new = (old.stop ≡ None) × IsMarked new.stop old.inner
+Begun Stops old new =
+    (old.stop ≡ None) × (IsMarked new.stop old.inner × (new.left ≡ old.left))
 Begun Behind old new = (new.stop ≡ old.stop) × (new.left ≡ old.left)

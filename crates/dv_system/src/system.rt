@@ -94,8 +94,8 @@ pub trait System {
             (left_since self.old) (left_since self.new) (LeftBy (disk self.new)) };
 
     /// Opens a new empty file; it may fail where one is there (POSIX `open()`: `O_CREAT` and
-    /// `O_EXCL`, which follow no link). Its entry is durable only behind a sync of the folder (Linux
-    /// `fsync(2)`).
+    /// `O_EXCL`, which follow no link). Its entry is durable only behind a sync of the folder
+    /// (Linux `fsync(2)`).
     fn create(&mut self, entry: Entry) -> Result<Self::File, Failed>
         // An empty file stands there. After a failure it may, or not.
         ensures ok { tells → locked self.old ≡ true →
@@ -248,7 +248,7 @@ pub trait System {
             Elapses (moment self.old) (moment self.new)
             (left_since self.old) (left_since self.new) (LeftBy (disk self.new)) };
 
-    /// Finds the folder, and fails where it is missing (POSIX `stat()`, and its error `ENOENT`).
+    /// Finds the folder, and fails where it is missing (POSIX `lstat()`, and its error `ENOENT`).
     fn find_folder(&mut self) -> Result<(), Failed>
         ensures there { tells → OnOk result (is_missing (disk self.old).place ≡ false) }
         // Nothing is made.
@@ -269,7 +269,8 @@ pub trait System {
         ensures time { tells → Elapses (moment self.old) (moment self.new)
             (left_since self.old) (left_since self.new) (LeftBy (disk self.new)) };
 
-    /// Makes the folder itself durable, by a sync of its parent (Linux `fsync(2)`).
+    /// Makes the folder itself durable, by a sync of its parent (Linux `fsync(2)`). A folder that
+    /// this value found is taken to be durable where its parent may not be read.
     fn sync_parent(&mut self) -> Result<(), Failed>
         ensures ok { tells → OnOk result (disk self.new ≡ with_place firm_place (disk self.old)) }
         ensures err { tells → OnErr result (IsUnchangedOr (disk self.old)

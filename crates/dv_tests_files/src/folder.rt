@@ -29,8 +29,8 @@ enum Step {
     Folder(&'static str),
     /// A file is put into the folder.
     Put(&'static str, &'static str),
-    /// A link that leads to another file of the folder.
-    Link(&'static str),
+    /// A link, and where it leads.
+    Link(&'static str, &'static str),
     /// A file that is one byte too long.
     Long(&'static str),
     SetMode(&'static str, u32),
@@ -101,7 +101,7 @@ fn is_outside(rt: HostRuntime, path: &str, step: Step) -> bool {
     match step {
         Step::Folder(_) => fs::create_dir(&rt, path).is_ok(),
         Step::Put(_, text) => put(rt, path, text),
-        Step::Link(_) => symlink(&rt, "outside", path).is_ok(),
+        Step::Link(_, target) => symlink(&rt, target, path).is_ok(),
         Step::Long(_) => make_long(rt, path),
         Step::SetMode(_, mode) => set_mode(rt, path, mode),
         Step::Mode(_, mode) => has_mode(rt, path, mode),
@@ -116,7 +116,7 @@ fn file_of(step: Step) -> &'static str {
     match step {
         Step::Folder(file) => file,
         Step::Put(file, _) => file,
-        Step::Link(file) => file,
+        Step::Link(file, _) => file,
         Step::Long(file) => file,
         Step::SetMode(file, _) => file,
         Step::Mode(file, _) => file,
@@ -263,8 +263,8 @@ const NO_FILE: [Step; 11] = [
     Step::Folder(""),
     Step::Folder("dovecot.index"),
     Step::Put("outside", "outside"),
-    Step::Link("dovecot.index.log"),
-    Step::Link("dovecot.tmp"),
+    Step::Link("dovecot.index.log", "outside"),
+    Step::Link("dovecot.tmp", "outside"),
     Step::Long("u.5"),
     Step::Has(None),
     Step::Faults(1),
@@ -279,12 +279,31 @@ fn where_no_name_is_a_file_the_first_look_fails(rt: HostRuntime) -> Result<(), F
     Ok(())
 }
 
+// A cache file makes no mailbox: beside one alone a name that is no file fails each look.
+const CACHE_ALONE: [Step; 9] = [
+    Step::Folder(""),
+    Step::Put("dovecot.index.cache", "cache"),
+    Step::Has(Some(false)),
+    Step::Lists(Some(1)),
+    Step::Folder("dovecot.index"),
+    Step::Has(None),
+    Step::Lists(None),
+    Step::Faults(2),
+    Step::Counts("", 2),
+];
+
+#[test]
+fn beside_a_cache_file_alone_both_looks_fail(rt: HostRuntime) -> Result<(), Fail> {
+    assert!(rt; all_hold(rt, "cache_alone", &CACHE_ALONE)?);
+    Ok(())
+}
+
 const IRREGULAR: [Step; 30] = [
     Step::Folder(""),
     Step::Folder("dovecot.index"),
     Step::Put("outside", "outside"),
-    Step::Link("dovecot.index.log"),
-    Step::Link("dovecot.tmp"),
+    Step::Link("dovecot.index.log", "outside"),
+    Step::Link("dovecot.tmp", "outside"),
     Step::Long("u.5"),
     Step::Put("u.3", "mail"),
     Step::Has(Some(true)),
@@ -336,8 +355,64 @@ fn denied_is_not_missing(rt: HostRuntime) -> Result<(), Fail> {
     Ok(())
 }
 
-const STORAGE: [Step; 8] = [
+const WRITTEN: [Step; 4] = [
     Step::Has(Some(false)),
+    Step::Replaces(Name::Log, b"log", true),
+    Step::Reads(Name::Log, Some(b"log")),
+    Step::Faults(0),
+];
+
+const UNSYNCED: [Step; 4] = [
+    Step::Has(Some(false)),
+    Step::Replaces(Name::Log, b"log", false),
+    Step::Reads(Name::Log, None),
+    Step::Faults(1),
+];
+
+/// Whether the steps hold of a folder of this name in another one.
+fn hold_in(rt: HostRuntime, parent: &str, name: &str, steps: &[Step]) -> Result<bool, AllocError> {
+    let path = at(rt, parent, name)?;
+    let count = count_held(rt, path.as_str(), Layout::Mailbox, Missing::Make, steps);
+    Ok(count == steps.len())
+}
+
+// A parent that may be entered and written, and not read, can't be synced: what is made there isn't
+// durable, and what was there is taken to be. To root nothing is denied.
+#[test]
+fn a_parent_may_be_one_that_may_not_be_read(rt: HostRuntime) -> Result<(), Fail> {
+    let path = scratch(rt, "parent")?;
+    let parent = path.as_str();
+    fs::create_dir(&rt, parent)?;
+    fs::create_dir(&rt, at(rt, parent, "there")?.as_str())?;
+    assert!(rt; set_mode(rt, parent, 0o311));
+    let is_denied = File::open(&rt, parent).is_err();
+    let made: &[Step] = if is_denied { &UNSYNCED } else { &WRITTEN };
+    let is_there_written = hold_in(rt, parent, "there", &WRITTEN)?;
+    let is_made_refused = hold_in(rt, parent, "made", made)?;
+    assert!(rt; set_mode(rt, parent, 0o700));
+    fs::remove_dir_all(&rt, parent)?;
+    assert!(rt; is_there_written);
+    assert!(rt; is_made_refused);
+    Ok(())
+}
+
+const HERE: [Step; 4] = [
+    Step::Replaces(Name::Mail(1), b"mail", true),
+    Step::Reads(Name::Mail(1), Some(b"mail")),
+    Step::Removes(Name::Mail(1)),
+    Step::Faults(0),
+];
+
+#[test]
+fn the_working_folder_is_written(rt: HostRuntime) -> Result<(), Fail> {
+    let count = count_held(rt, ".", Layout::Mailbox, Missing::Make, &HERE);
+    assert_eq!(rt; count, 4);
+    Ok(())
+}
+
+const STORAGE: [Step; 9] = [
+    Step::Has(Some(false)),
+    Step::Mode("storage", 0o700),
     Step::Replaces(Name::Log, b"log", true),
     Step::Replaces(Name::Mail(3), b"", true),
     Step::Counts("", 1),
@@ -356,7 +431,7 @@ fn a_folder_of_the_other_layout_is_refused(rt: HostRuntime) -> Result<(), Fail> 
     let make = Missing::Make;
     assert_eq!(rt;
         count_held(rt, path.as_str(), Layout::Storage, make, &STORAGE),
-        8
+        9
     );
     assert_eq!(rt;
         count_held(rt, path.as_str(), Layout::Mailbox, make, &REFUSED),
@@ -370,6 +445,36 @@ fn a_folder_of_the_other_layout_is_refused(rt: HostRuntime) -> Result<(), Fail> 
         3
     );
     fs::remove_dir_all(&rt, path.as_str())?;
+    Ok(())
+}
+
+// A link that has the name of a storage's folder isn't followed: it is no folder, and no file that
+// stands where it leads is one of the other layout.
+const LINKED: [Step; 6] = [
+    Step::Folder(""),
+    Step::Folder("elsewhere"),
+    Step::Link("storage", "elsewhere"),
+    Step::Has(None),
+    Step::Faults(1),
+    Step::Counts("elsewhere", 0),
+];
+
+const BESIDE_LINK: [Step; 5] = [
+    Step::Put("elsewhere/dovecot.map.index.log", "log"),
+    Step::Has(Some(false)),
+    Step::Replaces(Name::Log, b"log", true),
+    Step::Counts("elsewhere", 1),
+    Step::Faults(0),
+];
+
+#[test]
+fn a_link_of_the_name_storage_is_not_followed(rt: HostRuntime) -> Result<(), Fail> {
+    let path = scratch(rt, "linked")?;
+    let folder = path.as_str();
+    let linked = count_held(rt, folder, Layout::Storage, Missing::Make, &LINKED);
+    let beside = count_held(rt, folder, Layout::Mailbox, Missing::Make, &BESIDE_LINK);
+    fs::remove_dir_all(&rt, folder)?;
+    assert_eq!(rt; (linked, beside), (6, 5));
     Ok(())
 }
 

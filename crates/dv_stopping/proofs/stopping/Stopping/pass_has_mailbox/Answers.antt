@@ -11,7 +11,7 @@ returns-in-Stops-clause-turn g c =
     let laws = g.met.S.Shelf in
     let begun = c.in-Stops.ensures in
     stopped S.sees laws.counts_now laws.only_now (Looks S.sees (λ files has. MatchBool has (IsNew files → ⊥) (IsNew files)) (λ reads. reads)) _ c.args.self.now c.begin.new.self c.fail_look.new.self _ c.fail_look.result c.has_mailbox.result c.has_mailbox.new.self
-    begun.turn begun.begun begun.inner (ap (λ s. s.inner) c.fail_look.ensures.others) (ap (λ s. s.stop) c.fail_look.ensures.others)
+    begun.turn begun.begun begun.inner (ap (λ s. s.inner) c.fail_look.ensures.others) (ap (λ s. s.stop) c.fail_look.ensures.others) (ap (λ s. s.left) c.fail_look.ensures.others)
     (record {
       here = c.has_mailbox.ensures.found;
       kept = λ tells. record {

@@ -10,7 +10,7 @@ returns-in-Stops-clause-turn g c =
     let laws = g.met.S.Shelf in
     let begun = c.in-Stops.ensures in
     stopped S.sees laws.counts_now laws.only_now (Looks S.sees (λ files bytes. bytes ≡ files c.args.name) (λ reads. counted reads (mail_reads_of c.args.name))) _ c.args.self.now c.begin.new.self c.fail_look.new.self _ c.fail_look.result c.read.result c.read.new.self
-    begun.turn begun.begun begun.inner (ap (λ s. s.inner) c.fail_look.ensures.others) (ap (λ s. s.stop) c.fail_look.ensures.others)
+    begun.turn begun.begun begun.inner (ap (λ s. s.inner) c.fail_look.ensures.others) (ap (λ s. s.stop) c.fail_look.ensures.others) (ap (λ s. s.left) c.fail_look.ensures.others)
     (record {
       here = c.read.ensures.found;
       kept = λ tells. record {

@@ -9,7 +9,7 @@ returns-in-Stops-clause-turn g c =
     let laws = g.met.S.Shelf in
     let begun = c.in-Stops.ensures in
     stopped S.sees laws.counts_now laws.only_now (Syncs S.sees c.args.name) _ c.args.self.now c.begin.new.self c.fail.new.self _ c.fail.result c.sync.result c.sync.new.self
-    begun.turn begun.begun begun.inner (ap (λ s. s.inner) c.fail.ensures.others) (ap (λ s. s.stop) c.fail.ensures.others)
+    begun.turn begun.begun begun.inner (ap (λ s. s.inner) c.fail.ensures.others) (ap (λ s. s.stop) c.fail.ensures.others) (ap (λ s. s.left) c.fail.ensures.others)
     (record {
       durable = c.sync.ensures.durable;
       kept = λ tells. record {
