@@ -11,7 +11,7 @@ use Rattle.dv_model.specs.Journals.{AreByteValues, IsEntry}
 use Rattle.dv_model.specs.Spelling.{IsRecord, group_text}
 use Rattle.dv_formats.specs.Feeds.{entry_words, feed_text, group_words}
 use Rattle.dv_feeding.proofs.Entries.{bytes_at, texts_whole}
-use Rattle.dv_front.specs.Feeds.{IsFeed}
+use Rattle.dv_feed.specs.Feeds.{IsFeed}
 use Rattle.dv_feed.specs.Publishing.{IsGroupText, IsGroupWords}
 use Rattle.dv_feed.proofs.Words.{bytes_of_words}
 

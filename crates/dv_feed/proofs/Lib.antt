@@ -3,4 +3,5 @@ pub mod Put
 pub mod TakenWords
 pub mod Decoding
 pub mod Grouping
+pub mod Marks
 pub mod Instances

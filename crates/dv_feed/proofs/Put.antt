@@ -1,15 +1,16 @@
 -- A group's words are put one after another.
-use Rattle.std.proofs.Common.{◌≡◌, ℕ, ◌+◌, ◌*◌, ◌/◌, ◌≤◌, List, [], ◌∷◌, ◌++◌, length, take, drop, refl, sym, ap, subst, ◌∙◌, append_assoc, arith, length-append}
+use Rattle.std.proofs.Common.{◌≡◌, ℕ, ◌+◌, ◌*◌, ◌/◌, List, [], ◌∷◌, ◌++◌, length, take, drop, sym, ap, ◌∙◌, append_assoc, append-nil, arith, length-append}
 use Rattle.std.specs.Int.{w32, from_le_bytes}
 use Rattle.std.proofs.lemmas.List.{take_all}
-use Rattle.dv_model.specs.declared.types.Group.{Group}
 use Rattle.dv_model.specs.Spelling.{group_text}
 use Rattle.dv_formats.specs.Feeds.{entry_words, words_of}
 use Rattle.dv_feeding.proofs.Words.{length-words_of}
-use Rattle.dv_front.specs.Ends.{PenView, with_published, with_word}
-use Rattle.dv_front.specs.Feeds.{IsFeed}
-use Rattle.dv_feed.specs.Publishing.{IsWritten, with_group, with_words}
-use Rattle.dv_feed.proofs.Words.{entry_is, feed_more, words_of_snoc}
+use Rattle.dv_front.specs.Ends.{PenView, published, with_note, with_word}
+use Rattle.dv_front.specs.Notes.{text_of}
+use Rattle.dv_front.specs.declared.notes.Note.{Note}
+use Rattle.dv_front.proofs.NoteLemmas.{text_append}
+use Rattle.dv_feed.specs.Publishing.{with_entry, with_words}
+use Rattle.dv_feed.proofs.Words.{entry_is, words_of_snoc}
 
 -- so many words of a text were put
 pub words_long : (pen p : PenView) (k : ℕ) (text : List ℕ) → p ≡ with_words pen (words_of k text) → length p.put ≡ length pen.put + k
@@ -42,14 +43,16 @@ group_long pen all author text is =
 pub all_put : (pen all : PenView) (author n : ℕ) (text : List ℕ) → all ≡ with_words pen (text_words author text) → n ≡ length pen.put + 2 + length text / 4 → take n all.put ≡ pen.put ++ text_words author text
 all_put pen all author n text is long = take_all n all.put (omega (arith, long, group_long pen all author text is)) ∙ ap (λ (q : PenView). q.put) is
 
-pub group_is_feed : (pen all : PenView) (author n : ℕ) (text : List ℕ) → all ≡ with_words pen (text_words author text) → n ≡ length pen.put + 2 + length text / 4 → IsFeed pen.put → IsWritten author text
-    → IsFeed (take n all.put)
-group_is_feed pen all author n text is long feed written = subst IsFeed (sym (all_put pen all author n text is long)) (feed_more author text pen.put feed written)
+-- with the entry's words behind those that are published, the first words are those of one entry more
+pub group_text_is : (pen all : PenView) (n : ℕ) (text : List ℕ) (note : Note) → all ≡ with_words pen (text_words note.entry.author text) → n ≡ length pen.put + 2 + length text / 4 → pen.put ≡ published pen → group_text note.entry.group ≡ text
+    → take n all.put ≡ text_of (pen.notes ++ note ∷ [])
+group_text_is pen all n text note is long same of =
+    all_put pen all note.entry.author n text is long
+    ∙ ap (λ ws. pen.put ++ ws) (entry_is note.entry.author note.entry.group text of)
+    ∙ ap (λ ws. ws ++ entry_words note.entry) same
+    ∙ ap (λ ws. text_of pen.notes ++ ws) (sym (append-nil (entry_words note.entry)))
+    ∙ sym (text_append pen.notes (note ∷ []))
 
-pub group_published : (pen all after : PenView) (author n : ℕ) (text : List ℕ) → all ≡ with_words pen (text_words author text) → n ≡ length pen.put + 2 + length text / 4 → after ≡ with_published all n
-    → (group : Group) → group_text group ≡ text → after ≡ with_group pen (entry_words record { author = author; group = group })
-group_published pen all after author n text is long published group of =
-    let words = entry_is author group text of in
-    let put : all ≡ with_words pen (entry_words record { author = author; group = group }) = is ∙ ap (λ ws. with_words pen ws) words in
-    let front : take n all.put ≡ pen.put ++ entry_words record { author = author; group = group } = all_put pen all author n text is long ∙ ap (λ ws. pen.put ++ ws) words in
-    published ∙ (λ i. record (put i) { published = front i })
+pub group_published : (pen all after : PenView) (text : List ℕ) (note : Note) → all ≡ with_words pen (text_words note.entry.author text) → after ≡ with_note all note → group_text note.entry.group ≡ text → after ≡ with_entry pen note
+group_published pen all after text note is noted of =
+    noted ∙ ap (λ (q : PenView). with_note q note) (is ∙ ap (λ ws. with_words pen ws) (entry_is note.entry.author note.entry.group text of))

@@ -1,21 +1,15 @@
 -- The words of a text.
-use Rattle.std.proofs.Common.{◌≡◌, ℕ, zero, suc, ◌+◌, ◌*◌, ◌/◌, ◌%◌, ◌≤◌, List, [], ◌∷◌, ◌++◌, length, take, drop, refl, sym, ap, subst, ◌∙◌, append_assoc, arith, length-append, add-one}
-use Rattle.std.specs.Prelude.{flat_map, All}
+use Rattle.std.proofs.Common.{◌≡◌, ℕ, zero, suc, ◌+◌, ◌*◌, ◌/◌, List, [], ◌∷◌, ◌++◌, length, take, drop, refl, sym, ap, ◌∙◌, arith, add-one}
+use Rattle.std.specs.Prelude.{flat_map}
 use Rattle.std.specs.Int.{w32, from_le_bytes, to_le_bytes}
-use Rattle.std.proofs.lemmas.List.{append-nil, drop-drop, length-drop, length-take-le, nil_from_length, take-append-drop, take_all}
+use Rattle.std.proofs.lemmas.List.{drop-drop, length-drop, length-take-le, nil_from_length, take-append-drop}
 use Rattle.std.proofs.lemmas.List.Concat.{flat_map-cons}
-use Rattle.std.proofs.lemmas.List.Elements.{All-append, All-cons, All-nil}
 use Rattle.std.proofs.lemmas.Nat.{le_bytes_4}
-use Rattle.dv_model.specs.declared.types.Entry.{Entry}
 use Rattle.dv_model.specs.declared.types.Group.{Group}
-use Rattle.dv_model.specs.Journals.{IsEntry}
 use Rattle.dv_model.specs.Spelling.{group_text}
-use Rattle.dv_formats.specs.Feeds.{entry_words, feed_text, group_words, words_of}
+use Rattle.dv_formats.specs.Feeds.{entry_words, group_words, words_of}
 use Rattle.dv_records.proofs.Loop.{IsBytes, IsBytes-drop, IsBytes-take}
-use Rattle.dv_feeding.proofs.Feeds.{feed_extends}
 use Rattle.dv_feeding.proofs.Words.{length-words_of}
-use Rattle.dv_front.specs.Feeds.{IsFeed}
-use Rattle.dv_feed.specs.Publishing.{IsWritten}
 
 more_words : (k : ℕ) (b : List ℕ) → words_of (suc k) b ≡ words_of k b ++ from_le_bytes w32 (take 4 (drop (k * 4) b)) ∷ []
 more_words zero b = refl
@@ -43,14 +37,3 @@ entry_is author g text is =
     let words : words_of (length text / 4) text ≡ group_words g = ap (λ t. words_of (length t / 4) t) (sym is) in
     let count : length text / 4 ≡ length (group_words g) = sym (length-words_of (length text / 4) text) ∙ ap length words in
     (λ i. author ∷ count i ∷ words i)
-
--- feed text with an entry more is feed text
-pub feed_more : (author : ℕ) (text words : List ℕ) → IsFeed words → IsWritten author text → IsFeed (words ++ author ∷ length text / 4 ∷ words_of (length text / 4) text)
-feed_more author text words feed w =
-    let e : Entry = record { author = author; group = w.group } in
-    let one : feed_text (e ∷ []) ≡ entry_words e = flat_map-cons entry_words e [] ∙ append-nil (entry_words e) in
-    record {
-      entries = feed.entries ++ e ∷ [];
-      are = All-append IsEntry feed.entries (e ∷ []) feed.are (All-cons IsEntry e [] w.entry (All-nil IsEntry));
-      text = feed_extends feed.entries (e ∷ []) ∙ (λ i. feed.text i ++ (one ∙ sym (entry_is author w.group text w.is)) i);
-    }

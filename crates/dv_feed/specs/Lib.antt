@@ -1,2 +1,5 @@
+pub mod Appends
+pub mod Feeds
+pub mod Marking
 pub mod Publishing
 pub mod Taking

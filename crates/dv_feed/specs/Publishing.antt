@@ -1,24 +1,19 @@
 -- What is published of a group.
-use Rattle.std.specs.Prelude.{◌≡◌, ℕ, List, ◌++◌, All}
+use Rattle.std.specs.Prelude.{◌≡◌, ℕ, List, [], ◌∷◌, ◌++◌, All}
 use Rattle.dv_model.specs.declared.types.Group.{Group}
-use Rattle.dv_model.specs.Journals.{AreByteValues, IsEntry}
+use Rattle.dv_model.specs.Journals.{AreByteValues}
 use Rattle.dv_model.specs.Spelling.{IsRecord, group_text}
-use Rattle.dv_formats.specs.Feeds.{group_words}
+use Rattle.dv_formats.specs.Feeds.{entry_words, group_words}
 use Rattle.dv_front.specs.Ends.{PenView}
-
--- the text is the written spelling of a group that isn't empty
-pub record IsWritten (author : ℕ) (text : List ℕ) : Type 0 where
-  pub group : Group
-  pub entry : IsEntry record { author = author; group = group }
-  pub is : group_text group ≡ text
+use Rattle.dv_front.specs.declared.notes.Note.{Note}
 
 -- these words were put, and are not published
 abbrev pub with_words : PenView → List ℕ → PenView
 with_words pen words = record pen { put = pen.put ++ words }
 
--- these words were put, and all are published
-abbrev pub with_group : PenView → List ℕ → PenView
-with_group pen words = record pen { put = pen.put ++ words; published = pen.put ++ words }
+-- the words of this entry were put, and it is published
+abbrev pub with_entry : PenView → Note → PenView
+with_entry pen note = record pen { put = pen.put ++ entry_words note.entry; notes = pen.notes ++ note ∷ [] }
 
 -- the text of some records
 pub record IsGroupText (text : List ℕ) : Type 0 where

@@ -3,7 +3,7 @@ ghost use Rattle.dv_model.specs.declared.types.Group.{Group};
 ghost use Rattle.dv_model.specs.Journals.{AreByteValues, IsEntry};
 ghost use Rattle.dv_model.specs.Spelling.{IsRecord, group_text};
 ghost use Rattle.dv_formats.specs.Feeds.{feed_text, group_words};
-ghost use Rattle.dv_front.specs.Feeds.{IsFeed};
+ghost use Rattle.dv_feed.specs.Feeds.{IsFeed};
 ghost use Rattle.dv_feed.specs.Publishing.{IsGroupText, IsGroupWords};
 
 use dv_model::{Entry, Group, List, NoMemory};

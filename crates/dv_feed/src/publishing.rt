@@ -1,28 +1,31 @@
-ghost use Rattle.std.specs.Prelude.{◌≡◌, ◌+◌, ◌/◌, ◌^◌, ◌<◌, ◌≤◌, false, length};
-ghost use Rattle.dv_model.specs.declared.types.Group.{Group};
+ghost use Rattle.std.specs.Prelude.{◌≡◌, ◌+◌, ◌++◌, ◌∷◌, [], ◌/◌, ◌^◌, ◌<◌, ◌≤◌, false, length};
 ghost use Rattle.dv_model.specs.Spelling.{group_text};
-ghost use Rattle.dv_formats.specs.Feeds.{entry_words, words_of};
-ghost use Rattle.dv_feed.specs.Publishing.{IsWritten, with_group, with_words};
+ghost use Rattle.dv_formats.specs.Feeds.{words_of};
+ghost use Rattle.dv_front.specs.Ends.{published};
+ghost use Rattle.dv_front.specs.Notes.{AreGood};
+ghost use Rattle.dv_feed.specs.Publishing.{with_entry, with_words};
 
-use dv_front::{Pen, publish, put_word, words_put};
+use dv_front::{NamesNote, Pen, publish, put_word, words_put};
 use dv_num::u32_at;
 
 /// Puts a group's words, which are the author, the number of words that follow and the text of its
-/// records, four bytes to a word, and publishes them by one store. Takes no memory.
-pub fn publish_group(pen: &mut Pen, author: u32, text: &[u8])
-    requires group { IsWritten author text.now }
+/// records, four bytes to a word, and publishes them by one store. The caller names the entry, with
+/// the message of the APPEND that wrote it. Takes no memory.
+pub fn publish_group<J: NamesNote>(pen: &mut Pen, author: u32, text: &[u8])
+    requires author { J.note.entry.author ≡ author }
+    requires text { group_text J.note.entry.group ≡ text.now }
+    requires good { AreGood pen.old.generation (pen.old.notes ++ J.note ∷ []) }
     requires room { length pen.old.put + 2 + length text.now / 4 ≤ pen.old.generation.room }
     requires open { pen.old.sealed ≡ false }
-    requires all { pen.old.put ≡ pen.old.published }
-    ensures { (group : Group) → group_text group ≡ text.now
-        → pen.new ≡ with_group pen.old (entry_words record { author = author; group = group }) }
+    requires all { pen.old.put ≡ published pen.old }
+    ensures { pen.new ≡ with_entry pen.old J.note }
 {
     let at = words_put(pen);
     let count = (text.len() / 4) as u32;
     put_word(pen, at + 1, author);
     put_word(pen, at + 2, count);
     put_text(pen, at + 2, text, count);
-    publish(pen, at + 2 + count);
+    publish::<J>(pen, at + 2 + count);
 }
 
 // Puts the words of a text behind those that were put.

@@ -1,4 +1,5 @@
-pub mod Feeds
+pub mod Notes
+pub mod Lists
 pub mod Ends
 pub mod Rule
 pub mod Steps

@@ -1,9 +1,11 @@
 //! The words that sessions share: one pen puts and publishes them, and any number of passes read
-//! what is published, without a lock. A roll names the tables of such words, one for each
+//! what is published, without a lock. They are the words of the log's entries, and contracts know
+//! which entries, with which messages. A roll names the tables of such words, one for each
 //! generation.
 #![tactic(auto)]
 
 mod listings;
+mod notes;
 mod pass;
 mod pen;
 mod roll;
@@ -12,13 +14,12 @@ mod rule;
 mod sends;
 
 pub use listings::{Leaf, Roll};
-pub use pass::{FrontWord, Pass, agree, join, load_front, load_word, split, words_taken};
-pub use pen::{Pen, new_front, publish, put_word, seal, show, words_left, words_put};
-pub use roll::{agree_leaves, enter, extend, leaf, new_roll, post};
-pub use roll_rule::{
-    Listing, NamesItem, NamesStart, RollItem, RollView, Start, StartMessage, TableName,
-};
-pub use rule::{Generation, Knowledge, SeatView};
+pub use notes::{Generation, NamesNote, Note, Origin, Post};
+pub use pass::{FrontWord, Pass, agree, join, load_front, load_word, skip_to, split, words_taken};
+pub use pen::{Pen, new_front, next_front, publish, put_word, seal, show, words_left, words_put};
+pub use roll::{agree_leaves, enter, extend, leaf, new_roll};
+pub use roll_rule::{NamesTable, RollView, TableName};
+pub use rule::{Knowledge, SeatView};
 
 #[cfg(test)]
 mod tests;

@@ -7,8 +7,8 @@ use std::sync::Arc;
 /// A table of one word, the number of items.
 pub(crate) type Count = Table<u8, RollView, (), RollRule, Global>;
 
-/// The one end that appends to a list, which contracts alone see: the tables of all generations in
-/// order, and the appended messages between them.
+/// The one end that appends to a list, which contracts alone see: the tables of all generations, in
+/// their order.
 #[derive(Drop)]
 pub struct Roll {
     pub(crate) table: Arc<Count, Global>,
@@ -25,8 +25,7 @@ impl Model for Roll {
 
     ghost view = { λ r. record {
       table = r.seat.table_id;
-      start = r.seat.me.0.own.start;
-      items = r.seat.me.0.own.items;
+      items = r.seat.me.0.own;
     } };
 
     ghost invariant = { λ r.
@@ -34,10 +33,9 @@ impl Model for Roll {
         × (r.seat.table_id.words ≡ 1)
         × (r.seat.me.1 ≡ [])
         × (r.seat.me.0.live ≡ true)
-        × (r.seat.me.0.begun ≡ true)
         × (r.seat.me.0.rolls ≡ true)
         × (r.seat.me.0.told ≡ r.seat.me.0.own)
-        × (r.count ≡ length r.seat.me.0.own.items) };
+        × (r.count ≡ length r.seat.me.0.own) };
 }
 
 /// An end that knows the first items of a roll.
@@ -56,8 +54,7 @@ impl Model for Leaf {
 
     ghost view = { λ l. record {
       table = l.seat.table_id;
-      start = l.seat.me.0.own.start;
-      items = l.seat.me.0.own.items;
+      items = l.seat.me.0.own;
     } };
 
     ghost invariant = { λ l.
@@ -65,7 +62,6 @@ impl Model for Leaf {
         × (l.seat.table_id.words ≡ 1)
         × (l.seat.me.1 ≡ [])
         × (l.seat.me.0.live ≡ true)
-        × (l.seat.me.0.begun ≡ true)
         × (l.seat.me.0.rolls ≡ false)
         × (l.seat.me.0.told ≡ l.seat.me.0.own) };
 }

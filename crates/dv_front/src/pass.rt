@@ -1,9 +1,9 @@
 ghost use Rattle.std.specs.Prelude.{◌≡◌, ◌⊎◌, ◌-◌, ◌≤◌, true, length, slice_get, IfOk, Some};
 ghost use mathlib.Core.List.{IsPrefix};
-ghost use Rattle.dv_front.specs.Ends.{joined, loaded, second_of, word_loaded};
-ghost use Rattle.dv_front.specs.Feeds.{IsFeed};
+ghost use Rattle.dv_front.specs.Ends.{joined, known, loaded, second_of, with_taken, word_loaded};
+ghost use Rattle.dv_front.specs.Notes.{AreGood};
 
-use crate::rule::{Beginning, Compares, Learns, LoadsFront, LoadsWord, Notes, Rule, SeatView};
+use crate::rule::{Beginning, Compares, Learns, LoadsFront, LoadsWord, Rule, SeatView, Sharing};
 use atomic_table::{Seat, Table};
 use dv_model::NoMemory;
 use std::alloc::Global;
@@ -23,8 +23,8 @@ pub struct FrontWord {
     pub sealed: bool,
 }
 
-/// An end of a table that loads its words. Contracts see which words it knows, and how many of
-/// them it has taken.
+/// An end of a table that loads its words. Contracts see the notes whose words it knows, and how
+/// many of these words it has taken.
 #[derive(Drop)]
 pub struct Pass {
     pub(crate) table: Arc<Words, Global>,
@@ -36,14 +36,14 @@ impl Model for Pass {
     ghost use Rattle.std.specs.Prelude.{◌≡◌, ◌+◌, ◌≤◌, [], true, false, length};
     ghost use Rattle.std.specs.Arc.{arc_value};
     ghost use Rattle.dv_front.specs.Ends.{PassView};
-    ghost use Rattle.dv_front.specs.Feeds.{IsFeed};
+    ghost use Rattle.dv_front.specs.Notes.{text_of};
 
     ghost Value = { PassView };
 
     ghost view = { λ p. record {
       table = p.seat.table_id;
       generation = p.seat.me.0.own.generation;
-      known = p.seat.me.0.own.words;
+      notes = p.seat.me.0.own.notes;
       taken = p.taken;
       sealed = p.seat.me.0.own.sealed;
       loads = p.seat.me.0.loads;
@@ -56,19 +56,20 @@ impl Model for Pass {
         × (p.seat.me.0.pen ≡ false)
         × (p.seat.me.0.told ≡ p.seat.me.0.own)
         × (p.seat.me.0.own.generation.room + 1 ≡ p.seat.table_id.words)
-        × (length p.seat.me.0.own.words ≤ p.seat.me.0.own.generation.room)
-        × (p.taken ≤ length p.seat.me.0.own.words) };
+        × (length (text_of p.seat.me.0.own.notes) ≤ p.seat.me.0.own.generation.room)
+        × (p.taken ≤ length (text_of p.seat.me.0.own.notes)) };
 }
 
-/// Loads the number of published words, which is never less than the pass knew. The words that it
-/// knows then are feed text.
+/// Loads the number of published words, which is never less than the pass knew. The notes that it
+/// knows then are good: from the start of the log, each entry applies behind those before it.
 pub fn load_front(p: &mut Pass) -> FrontWord
-    ensures front { (result.words ≡ length p.new.known) × (result.sealed ≡ p.new.sealed) }
-    ensures begins { IsPrefix p.old.known p.new.known }
-    ensures feed { IsFeed p.new.known }
+    ensures front { (result.words ≡ length (known p.new)) × (result.sealed ≡ p.new.sealed) }
+    ensures begins { IsPrefix p.old.notes p.new.notes }
+    ensures text { IsPrefix (known p.old) (known p.new) }
+    ensures good { AreGood p.new.generation p.new.notes }
     // Behind the seal nothing is published.
-    ensures last { p.old.sealed ≡ true → (p.new.sealed ≡ true) × (p.new.known ≡ p.old.known) }
-    ensures pass { p.new ≡ loaded p.old p.new.known p.new.sealed }
+    ensures last { p.old.sealed ≡ true → (p.new.sealed ≡ true) × (p.new.notes ≡ p.old.notes) }
+    ensures pass { p.new ≡ loaded p.old p.new.notes p.new.sealed }
 {
     let word = p.table.shared.load::<LoadsFront>(&mut p.seat, 0);
     if word < SEAL {
@@ -86,15 +87,15 @@ pub fn load_front(p: &mut Pass) -> FrontWord
 
 /// How many words the pass has taken, of those that it knows.
 pub fn words_taken(p: &Pass) -> u32
-    ensures { (result ≡ p.now.taken) × (result ≤ length p.now.known) }
+    ensures { (result ≡ p.now.taken) × (result ≤ length (known p.now)) }
 {
     p.taken
 }
 
 /// Loads the word at a place, counted from 1. It is taken where it is the next.
 pub fn load_word(p: &mut Pass, at: u32) -> u32
-    requires { (1 ≤ at) × (at ≤ length p.old.known) }
-    ensures word { slice_get p.old.known (at - 1) ≡ Some result }
+    requires { (1 ≤ at) × (at ≤ length (known p.old)) }
+    ensures word { slice_get (known p.old) (at - 1) ≡ Some result }
     ensures pass { p.new ≡ word_loaded p.old at }
 {
     let word = p.table.shared.load::<LoadsWord>(&mut p.seat, at as usize);
@@ -104,13 +105,21 @@ pub fn load_word(p: &mut Pass, at: u32) -> u32
     word as u32
 }
 
+/// Counts all words up to a place, counted from 1, as taken without loading them.
+pub fn skip_to(p: &mut Pass, at: u32)
+    requires { (p.old.taken ≤ at) × (at ≤ length (known p.old)) }
+    ensures { p.new ≡ with_taken p.old at }
+{
+    p.taken = at;
+}
+
 /// A second pass that knows as much and has taken as much. After `NoMemory` the pass is as before.
 pub fn split(p: &mut Pass) -> Result<Pass, NoMemory>
     ensures second { IfOk result (λ second. second ≡ second_of p.old) }
     ensures pass { p.new ≡ p.old }
 {
     let table = Arc::try_clone(&p.table)?;
-    let seat = p.table.shared.split_seat::<Notes>(&mut p.seat);
+    let seat = p.table.shared.split_seat::<Sharing>(&mut p.seat);
     Ok(Pass {
         table,
         seat,
@@ -118,12 +127,13 @@ pub fn split(p: &mut Pass) -> Result<Pass, NoMemory>
     })
 }
 
-/// Then the pass knows and has taken what either has: the longer list, which begins with both.
+/// Then the pass knows and has taken what either has: the longer list of notes, which begins with
+/// both.
 pub fn join(p: &mut Pass, other: Pass)
     requires { other.table ≡ p.old.table }
     ensures pass { p.new ≡ joined p.old other }
-    ensures begins { IsPrefix p.old.known p.new.known × IsPrefix other.known p.new.known }
-    ensures feed { IsFeed p.new.known }
+    ensures begins { IsPrefix p.old.notes p.new.notes × IsPrefix other.notes p.new.notes }
+    ensures good { AreGood p.new.generation p.new.notes }
     ensures one { other.generation ≡ p.old.generation }
 {
     let Pass {
@@ -131,19 +141,19 @@ pub fn join(p: &mut Pass, other: Pass)
         seat,
         taken,
     } = other;
-    p.table.shared.join_seat::<Notes>(&mut p.seat, seat);
+    p.table.shared.join_seat::<Sharing>(&mut p.seat, seat);
     p.table.shared.load::<Learns>(&mut p.seat, 0);
     p.taken = p.taken.max(taken);
 }
 
-/// Of what two passes of one table know, one list begins the other.
+/// Of the notes that two passes of one table know, one list begins the other.
 pub fn agree(a: &mut Pass, b: &mut Pass)
     requires { b.old.table ≡ a.old.table }
-    ensures either { IsPrefix a.old.known b.old.known ⊎ IsPrefix b.old.known a.old.known }
+    ensures either { IsPrefix a.old.notes b.old.notes ⊎ IsPrefix b.old.notes a.old.notes }
     ensures one { b.old.generation ≡ a.old.generation }
     ensures same { (a.new ≡ a.old) × (b.new ≡ b.old) }
 {
-    let note = b.table.shared.split_seat::<Notes>(&mut b.seat);
-    a.table.shared.join_seat::<Notes>(&mut a.seat, note);
+    let second = b.table.shared.split_seat::<Sharing>(&mut b.seat);
+    a.table.shared.join_seat::<Sharing>(&mut a.seat, second);
     a.table.shared.load::<Compares>(&mut a.seat, 0);
 }

@@ -1,24 +1,14 @@
-use atomic_table::{Join, Play, Split, TableRule};
-use dv_model::{Entry, List};
+use crate::notes::{Generation, NamesNote, Note};
+use atomic_table::{Join, Play, Seat, Split, TableRule};
+use dv_model::{Mailbox, Mark};
 use std::collections::LinkedList;
+use std::marker::PhantomData;
 use std::snapshot::Snapshot;
-
-/// What a table is told when it is made, and what each seat of it knows. No value of it is made.
-pub struct Generation {
-    /// The number of data words.
-    pub room: u64,
-    /// The number of the generation, from 1.
-    pub number: u64,
-    /// The entries before those of its words.
-    pub base: LinkedList<Entry>,
-    /// The folder's count of failures when all began.
-    pub start_count: u64,
-}
 
 /// What a seat knows of the published words. No value of it is made.
 pub struct Knowledge {
     pub generation: Generation,
-    pub words: LinkedList<u64>,
+    pub notes: LinkedList<Note>,
     pub sealed: bool,
 }
 
@@ -37,13 +27,22 @@ pub struct SeatView {
     pub told: Knowledge,
 }
 
+/// What comes before a generation: the start of the log, or the pen's seat of the one before.
+#[derive(Drop)]
+pub enum Before {
+    First {
+        mailbox: Snapshot<Mailbox>,
+        mark: Mark,
+        start_count: u64,
+    },
+    Next(Snapshot<Seat<u8, SeatView>>),
+}
+
 /// What a generation is told when its table is made.
 #[derive(Drop)]
 pub struct Beginning {
     pub room: u64,
-    pub number: u64,
-    pub base: Snapshot<List<Entry>>,
-    pub start_count: u64,
+    pub before: Before,
 }
 
 pub struct Rule;
@@ -103,12 +102,14 @@ impl Play<u8, SeatView> for Puts {
 }
 
 /// A store of the number of published words.
-pub struct Publishes;
+pub struct Publishes<J> {
+    of: PhantomData<J>,
+}
 
-impl Play<u8, SeatView> for Publishes {
+impl<J: NamesNote> Play<u8, SeatView> for Publishes<J> {
     ghost use Rattle.dv_front.specs.Steps.{Published};
 
-    ghost then = { Published };
+    ghost then = { Published J.note };
 }
 
 /// A store of the seal.
@@ -121,17 +122,17 @@ impl Play<u8, SeatView> for Seals {
 }
 
 /// A second view that knows as much, and a view that takes in another.
-pub struct Notes;
+pub struct Sharing;
 
-impl Split<SeatView> for Notes {
-    ghost use Rattle.dv_front.specs.Steps.{note_of};
+impl Split<SeatView> for Sharing {
+    ghost use Rattle.dv_front.specs.Steps.{pass_of};
 
     ghost left = { λ v. v };
 
-    ghost right = { note_of };
+    ghost right = { pass_of };
 }
 
-impl Join<SeatView> for Notes {
+impl Join<SeatView> for Sharing {
     ghost use Rattle.dv_front.specs.Steps.{hearing, spent_view};
 
     ghost both = { hearing };

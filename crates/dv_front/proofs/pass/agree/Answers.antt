@@ -1,9 +1,9 @@
 use Rattle.std.proofs.Common.{rules}
-use Rattle.dv_front.proofs.Steps.{notes, joins, compares}
+use Rattle.dv_front.proofs.Steps.{shares, joins, compares}
 use Rattle.dv_front.proofs.pass.agree.Goals as goal
 
-pub split_seat-note-requires : goal.split_seat-note-requires
-split_seat-note-requires c = (search rules, search rules, notes _ _ _ (search rules))
+pub split_seat-second-requires : goal.split_seat-second-requires
+split_seat-second-requires c = (search rules, search rules, shares _ _ _ (search rules))
 
 pub join_seat-requires : goal.join_seat-requires
 join_seat-requires c = (search rules, search rules, search rules, search rules, joins _ _ _ _ _ (search rules) (search rules))

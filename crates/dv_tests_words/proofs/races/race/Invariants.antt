@@ -1,0 +1,11 @@
+use Rattle.dv_naming.specs.Starts.{no_log}
+use Rattle.dv_tests_words.proofs.races.race.Given as goal
+
+abbrev pub ghosts-race_named : goal.ghosts-race_named
+ghosts-race_named g a = record {
+  roll = a.names.roll.table;
+  start = record no_log { start = a.mailbox.now; start_mark = record { file_seq = 1; offset = 40 } };
+  moment = 0;
+  count = 0;
+  honest = Unit {0};
+}
