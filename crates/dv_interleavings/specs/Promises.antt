@@ -93,13 +93,17 @@ keeps_numbers (Hears r) = true
 
 -- from any moment on each message number keeps its UID until an EXPUNGE is heard or a SELECT begins
 -- (RFC 3501, section 7.4.1)
-abbrev pub NumbersStay : Session → Type 0
-NumbersStay session = (before between behind : List Heard)
-    → flat_map heard_of session.answers ≡ before ++ between ++ behind
+abbrev pub KeepsNumbers : List (Command × List Reply) → Type 0
+KeepsNumbers answers = (before between behind : List Heard)
+    → flat_map heard_of answers ≡ before ++ between ++ behind
     → list_all keeps_numbers between ≡ true
     → (k : ℕ) (row : Known) → slice_get (all_known before) k ≡ Some row → row.uid ≢ 0
     → (after : Known)
     × (slice_get (all_known (before ++ between)) k ≡ Some after) × (after.uid ≡ row.uid)
+
+-- for a session's client
+abbrev pub NumbersStay : Session → Type 0
+NumbersStay session = KeepsNumbers session.answers
 
 -- ---- the world
 

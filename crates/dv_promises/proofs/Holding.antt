@@ -24,12 +24,12 @@ use Rattle.dv_promises.proofs.Transcripts.{is_spoken, pair_of}
 -- ---- a Full step shows the mailbox
 
 -- the view has the mailbox's rows as they are
-record SawAll (log : Log) (x : State) : Type 0 where
-  mailbox : Mailbox
-  is : at log x.told ≡ Some mailbox
-  view : x.view ≡ record { rows = map shown mailbox.rows; next_uid = mailbox.next_uid }
+pub record SawAll (log : Log) (x : State) : Type 0 where
+  pub mailbox : Mailbox
+  pub is : at log x.told ≡ Some mailbox
+  pub view : x.view ≡ record { rows = map shown mailbox.rows; next_uid = mailbox.next_uid }
 
-saw_turn : (log : Log) (s : ℕ) (t : Turn) → IsToldTurn log s t → step_of t.command ≡ Full → SawAll log t.after
+pub saw_turn : (log : Log) (s : ℕ) (t : Turn) → IsToldTurn log s t → step_of t.command ≡ Full → SawAll log t.after
 saw_turn log s t is full =
     let told = is.told in
     let old : View = view_before t.command t.before.view in
@@ -72,7 +72,7 @@ saw_all log published pending s session live full = by_end (from_end live.story.
         let end : session.state ≡ t.after = leads_last (begins_at live.story.start) front t session.state (subst (λ turns. LeadsTo (begins_at live.story.start) turns session.state) is live.story.leads) in
         subst (SawAll log) (sym end) (saw_turn log s t told step)
 
-equal_views : (log : Log) (x y : State) → SawAll log x → SawAll log y → x.told ≡ y.told → x.view ≡ y.view
+pub equal_views : (log : Log) (x y : State) → SawAll log x → SawAll log y → x.told ≡ y.told → x.view ≡ y.view
 equal_views log x y one other same =
     let mailbox : one.mailbox ≡ other.mailbox = same_Some one.mailbox other.mailbox (sym one.is ∙ ap (at log) same ∙ other.is) in
     one.view ∙ ap (λ (m : Mailbox). record { rows = map shown m.rows; next_uid = m.next_uid }) mailbox ∙ sym other.view

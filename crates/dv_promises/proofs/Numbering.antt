@@ -34,7 +34,7 @@ use Rattle.dv_promises.proofs.Hearing.{StandsAt, data_known, ending_heard, named
 abbrev pub KeepsUids : List Known → List Known → Type 0
 KeepsUids rows later = (k : ℕ) (row : Known) → slice_get rows k ≡ Some row → row.uid ≢ 0 → (after : Known) × (slice_get later k ≡ Some after) × (after.uid ≡ row.uid)
 
-keeps_itself : (rows : List Known) → KeepsUids rows rows
+pub keeps_itself : (rows : List Known) → KeepsUids rows rows
 keeps_itself rows k row is some = (row, is, refl)
 
 keeps_on : (rows between later : List Known) → KeepsUids rows between → KeepsUids between later → KeepsUids rows later

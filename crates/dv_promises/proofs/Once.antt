@@ -25,7 +25,7 @@ tells_more log base author t is = by_answer is.answered
     by_answer (inr (inr told)) =
         let place : t.behind ≡ t.after.told = ap (λ (a : Answer). a.next.told) told.is in let low = told.seen.0 in record { up = omega arith; own = λ wrote. omega arith }
 
-all_pairs_cons : (R : Turn → Turn → Type 0) (t : Turn) (turns : List Turn) → All (R t) turns → AllPairs R turns → AllPairs R (t ∷ turns)
+pub all_pairs_cons : (R : Turn → Turn → Type 0) (t : Turn) (turns : List Turn) → All (R t) turns → AllPairs R turns → AllPairs R (t ∷ turns)
 all_pairs_cons R t turns first rest zero zero d less h = absurd (omega (arith, less))
 all_pairs_cons R t turns first rest zero (suc j) d less h = first j d (omega (arith, h))
 all_pairs_cons R t turns first rest (suc i) zero d less h = absurd (omega (arith, less))

@@ -18,14 +18,14 @@ use Rattle.dv_promises.proofs.Numbering.{AreSteady, Steady, answer_steady, known
 use Rattle.dv_promises.proofs.Transcripts.{pair_of}
 
 -- what comes of a command that isn't SELECT
-heard_other : (c : Command) (replies : List Reply) → is_select c ≡ false → heard_of (c, replies) ≡ map Hears replies
+pub heard_other : (c : Command) (replies : List Reply) → is_select c ≡ false → heard_of (c, replies) ≡ map Hears replies
 heard_other command.Select replies other = absurd cc
 heard_other c replies other = refl
 
 -- an answer keeps the numbers, and behind it the client has the view
-record KeepsOn (log : Log) (client : List Known) (c : Command) (a : Answer) : Type 0 where
-  steady : AreSteady client (heard_of (c, a.replies))
-  known : Knows log a.next (fold knows client (heard_of (c, a.replies)))
+pub record KeepsOn (log : Log) (client : List Known) (c : Command) (a : Answer) : Type 0 where
+  pub steady : AreSteady client (heard_of (c, a.replies))
+  pub known : Knows log a.next (fold knows client (heard_of (c, a.replies)))
 
 module _ (log : Log) (sound : IsSound log) (s : ℕ) where
   module _ (t : Turn) (client : List Known) (told : IsToldTurn log s t) (known : KnowsSelected log sound t.before client) where
@@ -64,7 +64,7 @@ module _ (log : Log) (sound : IsSound log) (s : ℕ) where
               (other_knows log sound log.mail t.before before m t.behind (mark_of log t.behind) told.told.is_there c client other told.told.seen.0 has);
         }
 
-    turn_keeps : KeepsOn log client t.command (record { replies = t.replies; next = t.after })
+    pub turn_keeps : KeepsOn log client t.command (record { replies = t.replies; next = t.after })
     turn_keeps = subst (KeepsOn log client t.command) told.told.is (by_command t.command (is_select t.command) refl told.told.allowed)
       where
         by_command : (c : Command) (b : Bool) → is_select c ≡ b → refused_at log t.met t.before c told.told.before ≡ None

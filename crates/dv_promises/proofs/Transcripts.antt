@@ -56,7 +56,7 @@ speaks_of log s start turns state answers more there each leads is = record {
 }
 
 -- a command that wrote an entry is a write
-is_a_write : (log : Log) (s met q : ℕ) (v : View) (c : Command) (m : Mailbox) → HasWritten log s met q v c m → is_write c ≡ true
+pub is_a_write : (log : Log) (s met q : ℕ) (v : View) (c : Command) (m : Mailbox) → HasWritten log s met q v c m → is_write c ≡ true
 is_a_write log s met q v c m has = by_test (is_write c) refl
   where
     by_test : (b : Bool) → is_write c ≡ b → is_write c ≡ true

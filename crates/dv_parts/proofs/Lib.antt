@@ -1,0 +1,4 @@
+pub mod Naming
+pub mod Parting
+pub mod Interleaving
+pub mod Texts

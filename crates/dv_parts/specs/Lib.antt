@@ -1,0 +1,3 @@
+pub mod Parts
+pub mod Interleaving
+pub mod Texts
