@@ -58,7 +58,7 @@ has_left false es fs items kept spare appended n room before blank many rooms sa
 
 -- ---- touched UIDs
 
-made_touched : (live : Held) (w : Way) (after : Mailbox) (uid : ℕ) → Makes live w after → Contains (touched_of w) uid ↔ IsTouched live.mailbox after uid
+pub made_touched : (live : Held) (w : Way) (after : Mailbox) (uid : ℕ) → Makes live w after → Contains (touched_of w) uid ↔ IsTouched live.mailbox after uid
 made_touched live (way.Share made) after uid makes = makes.touched uid
 made_touched live (way.Records light) after uid makes = makes.touched uid
 

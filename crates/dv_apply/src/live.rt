@@ -9,7 +9,7 @@ ghost use Rattle.dv_rows.specs.Kept.{flag_count};
 ghost use Rattle.dv_apply.specs.Answers.{OnBadAppend};
 ghost use Rattle.dv_apply.specs.Bodies.{Refused, TakesNone, refused_row, spare_after};
 ghost use Rattle.dv_apply.specs.Preparing.{IsPrepared, IsRefused, Makes, appended_by};
-ghost use Rattle.dv_apply.specs.States.{shown_in};
+ghost use Rattle.dv_apply.specs.States.{Held, shown_in};
 ghost use Rattle.dv_apply.specs.declared.fault.ApplyFault.TheVariants as fault;
 
 use crate::appends;
@@ -60,6 +60,16 @@ impl Model for Prepared {
     ghost Value = { Ready };
 
     ghost view = { λ p. p.way };
+}
+
+impl Prepared {
+    /// The UIDs of which a session is to be told once it is shown. Takes no memory.
+    pub fn touched(&self) -> &Touched
+        ensures { (live : Held) (after : Mailbox) → Makes live self.now after → (uid : ℕ) →
+            Contains result.now uid ↔ IsTouched live.mailbox after uid }
+    {
+        self.way.touched()
+    }
 }
 
 impl Live {

@@ -1,5 +1,5 @@
 //! What a thread may carry.
-use crate::Live;
+use crate::{Live, Prepared};
 
 fn is_send<T: Send>() {}
 
@@ -11,4 +11,12 @@ fn live_is_send() {
 
 fn live_is_sync() {
     is_sync::<Live>();
+}
+
+fn prepared_is_send() {
+    is_send::<Prepared>();
+}
+
+fn prepared_is_sync() {
+    is_sync::<Prepared>();
 }

@@ -12,6 +12,7 @@ mod looks;
 mod memory;
 mod reading;
 mod searching;
+mod sends;
 mod singles;
 mod source;
 

@@ -1,46 +1,52 @@
 -- The plan that is made of what was read and of the group.
-use Rattle.std.proofs.Common.{◌≡◌, ℕ, ◌+◌, ◌≤◌, List, length, Option, Some, true, is_some, refl, sym, ◌∙◌, ap, subst}
+use Rattle.std.proofs.Common.{◌≡◌, ℕ, ◌+◌, ◌≤◌, Bool, false, List, length, Option, Some, None, true, is_some, refl, sym, ◌∙◌, ap, subst}
 use Rattle.std.specs.Prelude.{IfSome}
 use Rattle.dv_model.specs.declared.types.Command.{Command}
 use Rattle.dv_model.specs.declared.types.Command.TheVariants as command
 use Rattle.dv_model.specs.declared.types.Group.{Group}
 use Rattle.dv_model.specs.declared.types.Mailbox.{Mailbox}
 use Rattle.dv_model.specs.Effects.{applied}
-use Rattle.dv_model.specs.Journals.{HasResets}
+use Rattle.dv_model.specs.Journals.{HasResets, IsEntry}
 use Rattle.dv_model.specs.Mailboxes.{IsValid}
 use Rattle.dv_model.specs.Sessions.{IsCommand, group_of, is_append}
 use Rattle.dv_model.specs.Spelling.{group_text}
 use Rattle.dv_model.specs.Views.{View}
 use Rattle.dv_shelf.specs.Folders.{Folder}
 use Rattle.dv_logfile.specs.Layout.{longest_log}
+use Rattle.dv_validity.proofs.Entries.{group_is_entry}
 use Rattle.dv_view.specs.Orders.{IsOrdered}
 use Rattle.dv_apply.specs.States.{Held}
 use Rattle.dv_chain.specs.declared.chain.Chain.{Chain}
 use Rattle.dv_groups.specs.Changes.{changed_uids, expunged_uids, guid_rows}
 use Rattle.dv_groups.specs.Groups.{HasSizes}
-use Rattle.dv_keeping.specs.Keeping.{Keeps}
+use Rattle.dv_writing.specs.Keeping.{Keeps}
 use Rattle.dv_mails.specs.Reading.{guid_at}
 use Rattle.dv_rotation.specs.declared.texts.Turn.{Turn}
-use Rattle.dv_rotation.specs.Texts.{ClosesLog, place_of}
-use Rattle.dv_writes.specs.declared.steps.Files.{Files}
-use Rattle.dv_writes.specs.Steps.{AreSteps}
-use Rattle.dv_writes.specs.Ways.{ready}
-use Rattle.dv_writes.specs.Writes.{AreFilesOf}
+use Rattle.dv_rotation.specs.Texts.{ClosesLog, next_log, place_of}
+use Rattle.dv_writing.specs.declared.steps.Files.{Files}
+use Rattle.dv_writing.specs.Steps.{AreSteps}
+use Rattle.dv_writing.specs.Ways.{ready}
+use Rattle.dv_writing.specs.Writes.{AreFilesOf}
 use Rattle.dv_plans.specs.declared.before.Before.{Before}
 use Rattle.dv_plans.specs.declared.groups.Written.{Written}
 use Rattle.dv_plans.specs.declared.plan.Plan.{Plan}
 use Rattle.dv_plans.specs.declared.times.Times.{Times}
 use Rattle.dv_plans.specs.Befores.{IsBefore, IsRead}
-use Rattle.dv_plans.specs.Begins.{turns}
+use Rattle.dv_plans.specs.Begins.{AtReading, IsMadeAt, turns}
 use Rattle.dv_plans.specs.Files.{AreFilesMade, IsAppended}
 use Rattle.dv_plans.specs.Groups.{IsGroupReady}
 use Rattle.dv_plans.specs.Guids.{guid_from, removed_of}
 use Rattle.dv_plans.specs.Overs.{IsWrittenOver}
 use Rattle.dv_plans.specs.Plans.{IsPlanOf, PlansEach}
 use Rattle.dv_plans.proofs.Naming.{guids_found, log_guids}
-use Rattle.dv_plans.proofs.Passed.{Passes, passes, same_size}
+use Rattle.dv_plans.proofs.Passed.{Passes, passes, same_size, uid_left}
 use Rattle.dv_plans.proofs.Planned.{due_same, files_of_log, files_same, rows_are}
 use Rattle.dv_plans.proofs.Readied.{group_ready, pending_ready, room_left}
+
+-- a time that counts for an append alone is that of some reading, the clock's where it tells
+pub dated_at : (tells : Type 0) (appends : Bool) (received known : ℕ) → (tells → appends ≡ true → received ≡ known) → AtReading tells known (λ at. appends ≡ true → received ≡ at)
+dated_at tells true received known same = record { at = received; clock = λ reads. same reads refl; is = λ append. refl }
+dated_at tells false received known same = record { at = known; clock = λ reads. refl; is = λ append. absurd cc }
 
 -- the time when a message came counts for an append alone
 pub files_at : (c : Command) (chain : Chain) (received other : ℕ) (folder : Folder) (steps : Files) → (is_append c ≡ true → received ≡ other) → AreFilesMade chain received folder c steps → AreFilesMade chain other folder c steps
@@ -54,6 +60,12 @@ read_at c uids chain received other folder before same read = record {
   closes = read.closes;
   files = files_at c chain received other folder before.files same read.files;
 }
+
+-- a rotation's log is made at the reading that was taken for it
+pub turned_at : (chain : Chain) (time : Option ℕ) (made : Option Turn) (reading : ℕ) → IsMadeAt chain time made → is_some made ≡ is_some time → IfSome time (λ now. now ≡ reading) → IfSome made (λ turn. turn.new ≡ next_log chain reading)
+turned_at chain time None reading is same at = tt
+turned_at chain None (Some turn) reading is same at = absurd cc
+turned_at chain (Some now) (Some turn) reading is same at = is ∙ ap (next_log chain) at
 
 module _ (c : Command) (view : View) (chain : Chain) (uids : List ℕ) (owed : Option Turn) (times : Times) (before : Before) (good : IsCommand c) (ordered : IsOrdered view) (valid : IsValid chain.live.mailbox)
     (resets : HasResets chain.live.mailbox) (changed : uids ≡ changed_uids c view chain.live.mailbox) (over : IsWrittenOver c view chain) (due : is_some times.turn ≡ turns owed chain)
@@ -104,6 +116,9 @@ module _ (c : Command) (view : View) (chain : Chain) (uids : List ℕ) (owed : O
     steps = steps_are;
     turn = is.turn ∙ due;
     some = made.some;
+    entry = λ author number. subst (λ (g : Group). IsEntry (record { author = author; group = g })) (sym group_is)
+        (group_is_entry c view m guid author good valid resets (guids_found before.guids is.guids.guids) number (uid_left c m (place_of chain) (length (group_text written.group)) valid passed)
+        (subst (λ (g : Group). 1 ≤ length g.records) group_is made.some));
     after = made.after;
     gives = made.gives;
     pending = pending_ready owed before.turn next written made room;

@@ -25,17 +25,17 @@ use Rattle.dv_apply.specs.States.{Held}
 use Rattle.dv_chain.specs.declared.chain.Chain.{Chain}
 use Rattle.dv_groups.specs.Changes.{changed_uids, expunged_uids, guid_rows}
 use Rattle.dv_groups.specs.Groups.{HasSizes}
-use Rattle.dv_keeping.specs.Keeping.{Keeps}
+use Rattle.dv_writing.specs.Keeping.{Keeps}
 use Rattle.dv_mails.specs.Reading.{mail_at}
 use Rattle.dv_mails.specs.Writing.{IsFileOf}
-use Rattle.dv_phases.specs.Removals.{IsFree}
+use Rattle.dv_writing.specs.Removals.{IsFree}
 use Rattle.dv_rotation.specs.declared.texts.Turn.{Turn}
 use Rattle.dv_rotation.specs.Texts.{IsSnapshotOf, IsTurnOf, next_log, place_of}
-use Rattle.dv_writes.specs.declared.steps.Files.{Files}
-use Rattle.dv_writes.specs.declared.steps.Files.TheVariants as files
-use Rattle.dv_writes.specs.Steps.{AreFilesFor}
-use Rattle.dv_writes.specs.Ways.{IsDue, ready}
-use Rattle.dv_writes.specs.Writes.{AreFilesOf, IsRenewalOf}
+use Rattle.dv_writing.specs.declared.steps.Files.{Files}
+use Rattle.dv_writing.specs.declared.steps.Files.TheVariants as files
+use Rattle.dv_writing.specs.Steps.{AreFilesFor}
+use Rattle.dv_writing.specs.Ways.{IsDue, ready}
+use Rattle.dv_writing.specs.Writes.{AreFilesOf, IsRenewalOf}
 use Rattle.dv_plans.specs.Begins.{beginning}
 use Rattle.dv_plans.specs.Files.{AreFilesMade, IsCheckOf, new_file}
 use Rattle.dv_plans.specs.Groups.{AreFound}

@@ -12,11 +12,11 @@ use Rattle.dv_chain.specs.declared.chain.Chain.{Chain}
 use Rattle.dv_chain.specs.Rest.{IsPending}
 use Rattle.dv_apply.specs.Preparing.{Makes}
 use Rattle.dv_apply.specs.States.{Held}
-use Rattle.dv_commits.specs.Commits.{IsReady}
+use Rattle.dv_writing.specs.Commits.{IsReady}
 use Rattle.dv_rotation.specs.declared.texts.Turn.{Turn}
-use Rattle.dv_keeping.specs.Repairing.{IsOwing}
+use Rattle.dv_writing.specs.Repairing.{IsOwing}
 use Rattle.dv_rotation.specs.Texts.{IsTurnOf, place_of}
-use Rattle.dv_writes.specs.Ways.{IsDue, ready}
+use Rattle.dv_writing.specs.Ways.{IsDue, ready}
 use Rattle.dv_plans.specs.declared.groups.Written.{Written}
 use Rattle.dv_plans.specs.Begins.{beginning, turns}
 use Rattle.dv_plans.specs.Groups.{IsGroupReady}

@@ -8,10 +8,11 @@ use Rattle.dv_chain.specs.declared.chain.Chain.{Chain}
 use Rattle.dv_mails.specs.Reading.{guid_rows}
 use Rattle.dv_rotation.specs.declared.texts.Turn.{Turn}
 use Rattle.dv_rotation.specs.Texts.{ClosesLog}
-use Rattle.dv_writes.specs.Steps.{AreFilesFor}
-use Rattle.dv_writes.specs.Ways.{IsDue, ready}
+use Rattle.dv_writing.specs.Steps.{AreFilesFor}
+use Rattle.dv_writing.specs.Ways.{IsDue, ready}
 use Rattle.dv_plans.specs.declared.before.Before.{Before}
 use Rattle.dv_plans.specs.declared.times.Times.{Times}
+use Rattle.dv_plans.specs.Begins.{IsMadeAt}
 use Rattle.dv_plans.specs.Files.{AreFilesMade}
 use Rattle.dv_plans.specs.Guids.{AreGuidsOf, removed_of}
 
@@ -31,6 +32,7 @@ pub record IsBefore (c : Command) (uids : List ℕ) (owed : Option Turn) (chain 
   pub guids : AreGuidsOf (removed_of c uids) before.guids
   pub turn : is_some before.turn ≡ is_some times.turn
   pub due : IsDue owed chain before.turn
+  pub made : IsMadeAt chain times.turn before.turn
   pub files : AreFilesFor (ready owed before.turn chain) before.files
 
 -- all of it is read of a folder

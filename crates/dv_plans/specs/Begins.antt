@@ -1,5 +1,5 @@
 -- Where a group begins, and which readings of the clock come before it.
-use Rattle.std.specs.Prelude.{◌≡◌, ◌⊎◌, ◌+◌, ◌&&◌, ℕ, Bool, true, false, Option, Some, is_none, Result, Ok, Err}
+use Rattle.std.specs.Prelude.{◌≡◌, ◌⊎◌, ◌+◌, ◌&&◌, ℕ, Bool, true, false, Option, Some, IfSome, is_none, Result, Ok, Err}
 use Rattle.dv_model.specs.declared.types.Command.{Command}
 use Rattle.dv_model.specs.declared.types.Mark.{Mark}
 use Rattle.dv_model.specs.Journals.{is_rotation_due}
@@ -8,7 +8,7 @@ use Rattle.dv_shelf.specs.Clocks.{behind}
 use Rattle.dv_chain.specs.declared.chain.Chain.{Chain}
 use Rattle.dv_chain.specs.Rest.{next_mark}
 use Rattle.dv_rotation.specs.declared.texts.Turn.{Turn}
-use Rattle.dv_rotation.specs.Texts.{place_of}
+use Rattle.dv_rotation.specs.Texts.{next_log, place_of}
 use Rattle.dv_plans.specs.declared.fault.StoreFault.{StoreFault}
 use Rattle.dv_plans.specs.declared.fault.StoreFault.TheVariants as fault
 
@@ -33,6 +33,17 @@ readings_of c owed chain = count_of (turns owed chain) + count_of (is_append c)
 -- that for a message, by the readings to come
 abbrev pub received_at : Bool → (ℕ → ℕ) → ℕ
 received_at turns upcoming = upcoming (count_of turns)
+
+-- there is a reading, which is this one where the clock tells, with which this holds
+pub record AtReading (tells : Type 0) (reading : ℕ) (Holds : ℕ → Type 0) : Type 0 where
+  pub at : ℕ
+  pub clock : tells → at ≡ reading
+  pub is : Holds at
+
+-- the new log of a rotation is made at the time that was read for it
+abbrev pub IsMadeAt : Chain → Option ℕ → Option Turn → Type 0
+IsMadeAt chain time made =
+    IfSome made (λ turn. IfSome time (λ now. turn.new ≡ next_log chain now))
 
 -- so many readings are behind, where a group is made ready, or a file couldn't be read for it; else
 -- none or as many

@@ -12,10 +12,10 @@ use Rattle.dv_chain.specs.declared.chain.Chain.{Chain}
 use Rattle.dv_lookups.specs.Checks.{IsCacheText}
 use Rattle.dv_mails.specs.Reading.{mail_at}
 use Rattle.dv_mails.specs.Writing.{IsFileOf}
-use Rattle.dv_phases.specs.Removals.{AreUnlisted}
-use Rattle.dv_writes.specs.declared.steps.Files.{Files}
-use Rattle.dv_writes.specs.declared.steps.Files.TheVariants as files
-use Rattle.dv_writes.specs.declared.steps.Renewal.{Renewal}
+use Rattle.dv_writing.specs.Removals.{AreUnlisted}
+use Rattle.dv_writing.specs.declared.steps.Files.{Files}
+use Rattle.dv_writing.specs.declared.steps.Files.TheVariants as files
+use Rattle.dv_writing.specs.declared.steps.Renewal.{Renewal}
 
 -- ---- an appended message
 

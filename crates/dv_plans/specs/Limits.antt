@@ -20,6 +20,13 @@ Decides limit group (Err (fault.TooLong bytes)) = limit ≡ Some (reply.TooLong 
 Decides limit group (Err (fault.Disk faults)) = IsWritten limit group
 Decides limit group (Err fault.NoMemory) = ⊤
 
+-- A limit is answered exactly where it is met first, but where memory runs out.
+abbrev pub MeetsLimit : {A : Type 0} → Option Reply → Result A StoreFault → Type 0
+MeetsLimit limit (Err fault.UidsUsedUp) = limit ≡ Some reply.UidsUsedUp
+MeetsLimit limit (Err (fault.TooLong bytes)) = limit ≡ Some (reply.TooLong bytes)
+MeetsLimit limit (Err fault.NoMemory) = ⊤
+MeetsLimit limit r = limit ≡ None
+
 -- a limit is met, or the group has no record
 abbrev pub WhereDecided : {A : Type 0} → Result (Option A) StoreFault → Type 0 → Type 0
 WhereDecided (Ok None) P = P

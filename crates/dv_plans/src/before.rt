@@ -2,7 +2,7 @@
 
 ghost use Rattle.std.specs.Prelude.{◌≡◌, IfOk, is_some, length};
 ghost use Rattle.dv_chain.specs.Openings.{HasBounds, OnlyLooks};
-ghost use Rattle.dv_keeping.specs.Repairing.{IsOwing};
+ghost use Rattle.dv_writing.specs.Repairing.{IsOwing};
 ghost use Rattle.dv_mails.specs.Writing.{IsFileOf};
 ghost use Rattle.dv_rotation.specs.Leavings.{HasFaultCause};
 ghost use Rattle.dv_plans.specs.Befores.{HasFewRows, IsBefore, IsRead, reads_of};
@@ -20,7 +20,7 @@ use dv_mails::mail_text;
 use dv_model::{Bytes, Command, GuidRow, List, NoMemory};
 use dv_rotation::{ChainFault, Turn};
 use dv_shelf::Shelf;
-use dv_writes::Files;
+use dv_writing::Files;
 use std::alloc::Global;
 
 /// What is read and made before a group.

@@ -13,6 +13,7 @@ mod making;
 mod places;
 mod plan;
 mod renewals;
+mod sends;
 mod times;
 mod turns;
 

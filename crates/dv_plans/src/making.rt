@@ -3,18 +3,17 @@
 ghost use Rattle.std.specs.Prelude.{◌≡◌};
 ghost use Rattle.dv_model.specs.Sessions.{IsCommand};
 ghost use Rattle.dv_chain.specs.Openings.{OnlyLooks};
-ghost use Rattle.dv_commits.specs.Opening.{AreEqual};
+ghost use Rattle.dv_writing.specs.Opening.{AreEqual};
 ghost use Rattle.dv_groups.specs.Changes.{changed_uids};
 ghost use Rattle.dv_groups.specs.Groups.{HasFewKeywords};
-ghost use Rattle.dv_keeping.specs.Repairing.{IsOwing};
+ghost use Rattle.dv_writing.specs.Repairing.{IsOwing};
 ghost use Rattle.dv_plans.specs.Befores.{reads_of};
-ghost use Rattle.dv_plans.specs.Begins.{TakesReadings, readings_of, received_at, turns};
+ghost use Rattle.dv_plans.specs.Begins.{AtReading, TakesReadings, readings_of, received_at, turns};
 ghost use Rattle.dv_plans.specs.Counts.{CountsPlanned};
 ghost use Rattle.dv_plans.specs.Faults.{HasStoreCause};
-ghost use Rattle.dv_plans.specs.Files.{AreFilesMade};
 ghost use Rattle.dv_plans.specs.Limits.{WhereDecided};
 ghost use Rattle.dv_plans.specs.Overs.{DecidesOver};
-ghost use Rattle.dv_plans.specs.Plans.{IsPlanOf, OnPlan, PlansEach};
+ghost use Rattle.dv_plans.specs.Plans.{IsPlanOf, OnPlan, PlansAt, TurnsAt};
 
 use crate::StoreFault;
 use crate::changes::find_changes;
@@ -55,19 +54,18 @@ pub fn make_ready<S: Shelf, C: Clock>(
         ((shelf.new ≡ shelf.old) × (clock.new ≡ clock.old)) }
     // The group, its text and the steps, over any shelf; what they are by the folder and the time.
     ensures steps { OnPlan result (IsPlanOf c.now view.now owed.now chain.new) }
-    ensures write { S.sees.tells → C.sees.tells → OnPlan result
-        (PlansEach c.now view.now owed.now
+    ensures write { S.sees.tells → OnPlan result (λ plan. AtReading C.sees.tells
         (received_at (turns owed.now chain.old) (C.sees.upcoming clock.old))
-        chain.new (S.sees.files shelf.new)) }
-    ensures files { S.sees.tells → C.sees.tells → OnPlan result (λ plan. AreFilesMade chain.old
-        (received_at (turns owed.now chain.old) (C.sees.upcoming clock.old))
-        (S.sees.files shelf.old) c.now plan.steps.files) }
+        (PlansAt c.now view.now owed.now chain.old chain.new (S.sees.files shelf.old)
+        (S.sees.files shelf.new) plan)) }
     // Nothing is changed.
     ensures looks { S.sees.tells →
         OnlyLooks S.sees shelf.old shelf.new }
-    // The readings of the clock; each of these message files is read once; a fault has its cause.
+    // The readings of the clock, of which the first is that of a rotation; each of these message
+    // files is read once; a fault has its cause.
     ensures clock { C.sees.tells → TakesReadings (readings_of c.now owed.now chain.old)
-        (C.sees.upcoming clock.old) (C.sees.upcoming clock.new) result }
+        (C.sees.upcoming clock.old) (C.sees.upcoming clock.new) result
+        × OnPlan result (TurnsAt chain.old (C.sees.upcoming clock.old 0)) }
     ensures mail_reads { CountsPlanned
         (reads_of c.now chain.old.live.mailbox
         (changed_uids c.now view.now chain.old.live.mailbox))

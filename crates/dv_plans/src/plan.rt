@@ -4,16 +4,15 @@ ghost use Rattle.std.specs.Prelude.{◌≡◌, IfOk};
 ghost use Rattle.dv_model.specs.Sessions.{IsCommand};
 ghost use Rattle.dv_shelf.specs.Clocks.{behind};
 ghost use Rattle.dv_chain.specs.Openings.{OnlyLooks};
-ghost use Rattle.dv_commits.specs.Opening.{AreEqual};
+ghost use Rattle.dv_writing.specs.Opening.{AreEqual};
 ghost use Rattle.dv_groups.specs.Changes.{changed_uids};
-ghost use Rattle.dv_keeping.specs.Repairing.{IsOwing};
+ghost use Rattle.dv_writing.specs.Repairing.{IsOwing};
 ghost use Rattle.dv_rotation.specs.Leavings.{HasFaultCause};
 ghost use Rattle.dv_plans.specs.Befores.{reads_of};
-ghost use Rattle.dv_plans.specs.Begins.{readings_of, received_at, turns};
+ghost use Rattle.dv_plans.specs.Begins.{AtReading, readings_of, received_at, turns};
 ghost use Rattle.dv_plans.specs.Counts.{CountsMails};
-ghost use Rattle.dv_plans.specs.Files.{AreFilesMade};
 ghost use Rattle.dv_plans.specs.Overs.{IsWrittenOver};
-ghost use Rattle.dv_plans.specs.Plans.{IsPlanOf, PlansEach};
+ghost use Rattle.dv_plans.specs.Plans.{IsPlanOf, PlansAt, TurnsAt};
 
 use crate::before::read_before;
 use crate::bounds::have_bounds;
@@ -25,7 +24,7 @@ use dv_responses::is_append;
 use dv_rotation::{ChainFault, Turn};
 use dv_shelf::{Clock, Shelf};
 use dv_view::View;
-use dv_writes::Steps;
+use dv_writing::Steps;
 use std::alloc::Global;
 
 /// What a command writes, made ready.
@@ -59,19 +58,18 @@ pub fn make_plan<S: Shelf, C: Clock>(
     ensures chain { AreEqual chain.new chain.old }
     // The group, its text and the steps, over any shelf; what they are by the folder and the time.
     ensures steps { IfOk result (IsPlanOf c.now view.now owed.now chain.new) }
-    ensures write { S.sees.tells → C.sees.tells → IfOk result
-        (PlansEach c.now view.now owed.now
+    ensures write { S.sees.tells → IfOk result (λ plan. AtReading C.sees.tells
         (received_at (turns owed.now chain.old) (C.sees.upcoming clock.old))
-        chain.new (S.sees.files shelf.new)) }
-    ensures files { S.sees.tells → C.sees.tells → IfOk result (λ plan. AreFilesMade chain.old
-        (received_at (turns owed.now chain.old) (C.sees.upcoming clock.old))
-        (S.sees.files shelf.old) c.now plan.steps.files) }
+        (PlansAt c.now view.now owed.now chain.old chain.new (S.sees.files shelf.old)
+        (S.sees.files shelf.new) plan)) }
     // Nothing is changed.
     ensures looks { S.sees.tells →
         OnlyLooks S.sees shelf.old shelf.new }
-    // The readings of the clock; each of these message files is read once; a fault has its cause.
-    ensures clock { C.sees.tells → C.sees.upcoming clock.new
-        ≡ behind (C.sees.upcoming clock.old) (readings_of c.now owed.now chain.old) }
+    // The readings of the clock, of which the first is that of a rotation; each of these message
+    // files is read once; a fault has its cause.
+    ensures clock { C.sees.tells → (C.sees.upcoming clock.new
+        ≡ behind (C.sees.upcoming clock.old) (readings_of c.now owed.now chain.old))
+        × IfOk result (TurnsAt chain.old (C.sees.upcoming clock.old 0)) }
     ensures mail_reads { CountsMails (reads_of c.now chain.old.live.mailbox uids.now)
         (S.sees.mail_reads shelf.old) (S.sees.mail_reads shelf.new) result }
     ensures cause { HasFaultCause (S.sees.fault_count shelf.old) (S.sees.fault_count shelf.new)

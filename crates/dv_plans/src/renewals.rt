@@ -2,8 +2,8 @@
 
 ghost use Rattle.std.specs.Prelude.{◌≡◌, ◌≤◌, All, IfOk, List as Listed, is_some, length, ℕ};
 ghost use Rattle.dv_chain.specs.Openings.{OnlyLooks};
-ghost use Rattle.dv_keeping.specs.Repairing.{IsOwing};
-ghost use Rattle.dv_phases.specs.Removals.{IsFree};
+ghost use Rattle.dv_writing.specs.Repairing.{IsOwing};
+ghost use Rattle.dv_writing.specs.Removals.{IsFree};
 ghost use Rattle.dv_rotation.specs.Leavings.{HasFaultCause};
 ghost use Rattle.dv_plans.specs.Befores.{IsBefore, IsRead};
 ghost use Rattle.dv_plans.specs.Begins.{turns};
@@ -20,10 +20,9 @@ use dv_chain::Chain;
 use dv_groups::next_cache_number;
 use dv_lookups::cache_of_messages;
 use dv_model::{Bytes, Command, List};
-use dv_phases::unlisted;
 use dv_rotation::{ChainFault, Turn, snapshot_at};
 use dv_shelf::Shelf;
-use dv_writes::{Files, Renewal};
+use dv_writing::{Files, Renewal, unlisted};
 use std::alloc::Global;
 
 /// The UIDs of the message files that no row has, rising, of those that were given out. Lists the

@@ -1,14 +1,14 @@
 //! The readings of the clock that a write takes.
 
-ghost use Rattle.std.specs.Prelude.{◌≡◌, ◌+◌, is_some, true};
+ghost use Rattle.std.specs.Prelude.{◌≡◌, ◌+◌, IfSome, is_some, true};
 ghost use Rattle.dv_shelf.specs.Clocks.{behind};
 ghost use Rattle.dv_plans.specs.Begins as begins;
 ghost use Rattle.dv_plans.specs.Begins.{count_of, received_at};
 
 use dv_chain::Chain;
-use dv_keeping::is_due;
 use dv_rotation::Turn;
 use dv_shelf::Clock;
+use dv_writing::is_due;
 
 /// The readings of the clock that a write takes, in seconds since 1970.
 #[derive(Clone, Copy)]
@@ -29,6 +29,7 @@ pub fn is_turn_due(chain: &Chain, owed: &Option<Turn>) -> bool
 /// One reading for a new log file.
 fn turn_time<C: Clock>(clock: &mut C, turns: bool) -> Option<u32>
     ensures turn { is_some result ≡ turns }
+    ensures time { C.sees.tells → IfSome result (λ now. now ≡ C.sees.upcoming clock.old 0) }
     ensures clock { C.sees.tells →
         C.sees.upcoming clock.new ≡ behind (C.sees.upcoming clock.old) (count_of turns) }
 {
@@ -53,6 +54,8 @@ fn message_time<C: Clock>(clock: &mut C, appends: bool) -> u32
 /// Reads the clock once where the log is rotated, and then once where a message is appended.
 pub fn read_times<C: Clock>(clock: &mut C, turns: bool, appends: bool) -> Times
     ensures turn { is_some result.turn ≡ turns }
+    ensures time { C.sees.tells →
+        IfSome result.turn (λ now. now ≡ C.sees.upcoming clock.old 0) }
     ensures received { C.sees.tells → appends ≡ true →
         result.received ≡ received_at turns (C.sees.upcoming clock.old) }
     ensures clock { C.sees.tells → C.sees.upcoming clock.new

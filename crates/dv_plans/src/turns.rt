@@ -4,6 +4,7 @@ ghost use Rattle.std.specs.Prelude.{◌≡◌, ◌<◌, ◌≤◌, IfOk, IfSome,
 ghost use Rattle.dv_chain.specs.Openings.{OnlyLooks};
 ghost use Rattle.dv_rotation.specs.Leavings.{HasFaultCause};
 ghost use Rattle.dv_rotation.specs.Texts.{ClosesLog, IsTurnOf};
+ghost use Rattle.dv_plans.specs.Begins.{IsMadeAt};
 ghost use Rattle.dv_plans.specs.Counts.{CountsReads};
 
 use dv_chain::Chain;
@@ -24,6 +25,7 @@ pub fn turn_at<S: Shelf>(
     // The texts.
     ensures is { IfOk result (λ made. (is_some made ≡ is_some time)
         × IfSome made (IsTurnOf chain.now)) }
+    ensures new { IfOk result (IsMadeAt chain.now time) }
     ensures closes { S.sees.tells → IfOk result (λ made. IfSome made
         (λ turn. ClosesLog chain.now turn (S.sees.files shelf.old))) }
     // Nothing is changed.

@@ -53,7 +53,7 @@ module _ (chain : Chain) (turn : Turn) (is : IsTurnOf chain turn) (room : chain.
         size = refl;
         wide = record {
           size = lit< tt;
-          numbers = (fits.named.1, omega (arith, room), is.small);
+          numbers = (fits.named.1, omega (arith, room), omega (arith, is.small));
           previous = fits.place;
           modseq = omega (arith, is.index.valid.highest.1);
         };

@@ -7,6 +7,7 @@ use Rattle.dv_shelf.specs.Folders.{Folder, contents}
 use Rattle.dv_logfile.specs.declared.header.LogHeader.{LogHeader}
 use Rattle.dv_logfile.specs.Layout.{closing, log_text}
 use Rattle.dv_formats.specs.Snapshots.{IsSnapshot}
+use Rattle.dv_openings.specs.Rebuilds.{stamp_of}
 use Rattle.dv_chain.specs.declared.chain.Chain.{Chain}
 use Rattle.dv_rotation.specs.declared.texts.Turn.{Turn}
 
@@ -22,8 +23,8 @@ IsSnapshotOf chain text = IsSnapshot 2 chain.live.mailbox chain.indexid (place_o
 abbrev pub closed_at : ℕ → List ℕ → List ℕ
 closed_at end log = take end log ++ replicate (end - length log) 0 ++ closing
 
--- The header of the file behind the chain's: it names the chain's file and its end, and begins
--- with the mailbox's highest modification sequence.
+-- The header of the file behind the chain's, which is made at this reading of the clock: it names
+-- the chain's file and its end, and begins with the mailbox's highest modification sequence.
 abbrev pub next_header : Chain → ℕ → LogHeader
 next_header chain now = record {
   major_version = 1;
@@ -33,7 +34,7 @@ next_header chain now = record {
   file_seq = chain.log.file_seq + 1;
   prev_file_seq = chain.log.file_seq;
   prev_file_offset = chain.log.end;
-  create_stamp = now;
+  create_stamp = stamp_of now;
   initial_modseq = chain.live.mailbox.highest;
   compat_flags = 1;
 }

@@ -43,7 +43,7 @@ fn closed(log: Bytes, end: u32) -> Result<Bytes, ChainFault>
     Ok(List::from_vec(bytes))
 }
 
-/// The file behind the chain's, without a record.
+/// The file behind the chain's, without a record. Its stamp is the time, in which 0 counts as 1.
 fn next_file(alloc: Global, chain: &Chain, now: u32) -> Result<Bytes, ChainFault>
     requires { chain.now.log.file_seq < 4294967295 }
     ensures text { IfOk result (λ text. text ≡ next_log chain.now now) }
@@ -57,7 +57,7 @@ fn next_file(alloc: Global, chain: &Chain, now: u32) -> Result<Bytes, ChainFault
         file_seq: chain.log.file_seq + 1,
         prev_file_seq: chain.log.file_seq,
         prev_file_offset: chain.log.end,
-        create_stamp: now,
+        create_stamp: now.max(1),
         initial_modseq: chain.live.highest(),
         compat_flags: 1,
     };
@@ -65,9 +65,9 @@ fn next_file(alloc: Global, chain: &Chain, now: u32) -> Result<Bytes, ChainFault
 }
 
 /// The three texts of a rotation of a chain's log, whose new file is made at `now`, in seconds
-/// since 1970: the snapshot, the old log closed at its end, and the new log. Reads the log once and
-/// writes nothing. A log that is missing or shorter than the chain's end counts as filled up with
-/// zero bytes.
+/// since 1970 (0 counts as 1): the snapshot, the old log closed at its end, and the new log. Reads
+/// the log once and writes nothing. A log that is missing or shorter than the chain's end counts as
+/// filled up with zero bytes.
 pub fn turn<S: Shelf>(
     alloc: Global,
     chain: &Chain,

@@ -1,13 +1,13 @@
 -- What the folder gives behind a command's write, and at any moment of it.
-use Rattle.std.proofs.Common.{◌≡◌, inl, inr, ⊎_elim, ℕ, ◌<◌, ◌≤◌, List, [], ◌++◌, length, is_some, true, Contains, Option, Some, None, Result, Ok, Err, refl, sym, ◌∙◌, ap, subst, arith}
-use Rattle.std.specs.Prelude.{IfErr, IfOk, IsSome, OnOk}
+use Rattle.std.proofs.Common.{◌≡◌, ◌⊎◌, inl, inr, ⊎_elim, ℕ, ◌<◌, ◌≤◌, Bool, List, [], ◌++◌, length, take, is_some, true, false, Contains, Option, Some, None, Result, Ok, Err, refl, sym, ◌∙◌, ap, subst, arith}
+use Rattle.std.specs.Prelude.{IfErr, IfOk, IfSome, IsSome, OnOk}
 use Rattle.dv_model.specs.declared.types.Command.{Command}
 use Rattle.dv_model.specs.declared.types.Command.TheVariants as command
 use Rattle.dv_model.specs.declared.types.Group.{Group}
 use Rattle.dv_model.specs.declared.types.Mailbox.{Mailbox}
 use Rattle.dv_model.specs.declared.types.Mark.{Mark}
 use Rattle.dv_model.specs.declared.types.Record.{Record}
-use Rattle.dv_model.specs.Journals.{Log}
+use Rattle.dv_model.specs.Journals.{Log, header_size}
 use Rattle.dv_model.specs.Spelling.{group_text}
 use Rattle.dv_model.specs.Views.{View}
 use Rattle.dv_shelf.specs.declared.shelf.Name.{Name}
@@ -15,38 +15,40 @@ use Rattle.dv_shelf.specs.declared.shelf.Name.TheVariants as name
 use Rattle.dv_shelf.specs.Crashes.{LeavesOnly}
 use Rattle.dv_shelf.specs.Folders.{Folder}
 use Rattle.dv_shelf.proofs.Moments.{joined, weaker}
+use Rattle.dv_logfile.specs.declared.commit.LogFile.{LogFile}
 use Rattle.dv_logfile.specs.Layout.{closing}
 use Rattle.dv_dbox.specs.Mails.{no_guid}
 use Rattle.dv_chain.specs.declared.chain.Chain.{Chain}
 use Rattle.dv_chain.specs.Openings.{OnlyLooks}
 use Rattle.dv_chain.specs.Rest.{next_mark}
-use Rattle.dv_commits.specs.Opening.{AreEqual, mark_behind}
+use Rattle.dv_writing.specs.declared.committing.Committed.{Committed}
+use Rattle.dv_writing.specs.Opening.{AreEqual, mark_behind}
 use Rattle.dv_rotation.specs.declared.texts.Turn.{Turn}
-use Rattle.dv_rotation.specs.Texts.{place_of}
-use Rattle.dv_keeping.specs.Debts.{Debt, Fits, Last, MayGive, Nothing, Pending, Stands}
-use Rattle.dv_keeping.specs.Keeping.{Gives}
-use Rattle.dv_keeping.proofs.Resting.{rests_give}
+use Rattle.dv_rotation.specs.Texts.{next_log, place_of}
+use Rattle.dv_writing.specs.Debts.{Debt, Fits, Last, MayGive, Nothing, Pending, Stands}
+use Rattle.dv_writing.specs.Keeping.{Gives}
+use Rattle.dv_writing.proofs.Resting.{rests_give}
 use Rattle.dv_lookups.specs.declared.cache_file.CacheFile.{CacheFile}
 use Rattle.dv_lookups.specs.declared.cache_file.CacheFile.TheVariants as cache
 use Rattle.dv_lookups.specs.Kept.{IsFileOf}
-use Rattle.dv_phases.specs.Removals.{IsFree}
+use Rattle.dv_writing.specs.Removals.{IsFree}
 use Rattle.dv_plans.specs.declared.fault.StoreFault.{StoreFault}
 use Rattle.dv_plans.specs.declared.plan.Plan.{Plan}
-use Rattle.dv_plans.specs.Begins.{turns}
+use Rattle.dv_plans.specs.Begins.{AtReading, turns}
 use Rattle.dv_plans.specs.Files.{AreFilesMade, IsCheckOf}
 use Rattle.dv_plans.specs.Overs.{DecidesOver, group_over}
-use Rattle.dv_plans.specs.Plans.{IsPlanOf, PlansWrite}
-use Rattle.dv_writes.specs.declared.steps.Files.{Files}
-use Rattle.dv_writes.specs.declared.steps.Files.TheVariants as kind
-use Rattle.dv_writes.specs.declared.steps.Steps.{Steps}
-use Rattle.dv_writes.specs.Steps.{AreFilesFor, HoldsFiles, IsNamed, IsOfLog}
-use Rattle.dv_writes.specs.Ways.{IsDue, ready}
-use Rattle.dv_writes.specs.Writes.{AreFilesOf, IsAfter, IsLeftByWrite, MayGiveWrite, MayOweGate, Write, WritesStore, group_by, log_with}
-use Rattle.dv_writes.proofs.Left.{last_of}
-use Rattle.dv_writes.proofs.Ready.{paid_place}
+use Rattle.dv_plans.specs.Plans.{IsPlanOf, PlansWrite, TurnsAt}
+use Rattle.dv_writing.specs.declared.steps.Files.{Files}
+use Rattle.dv_writing.specs.declared.steps.Files.TheVariants as kind
+use Rattle.dv_writing.specs.declared.steps.Steps.{Steps}
+use Rattle.dv_writing.specs.Steps.{AreFilesFor, HoldsFiles, IsNamed}
+use Rattle.dv_writing.specs.Ways.{HasTurned, IsDue, IsOfLog, held, ready}
+use Rattle.dv_writing.specs.Writes.{AreFilesOf, CarriesOut, IsAfter, IsLeftByWrite, MayGiveWrite, MayOweGate, Write, WritesStore, group_by, log_with}
+use Rattle.dv_writing.proofs.Left.{last_of}
+use Rattle.dv_writing.proofs.Ready.{paid_place}
 use Rattle.dv_store.specs.declared.receipt.Receipt.{Receipt}
-use Rattle.dv_store.specs.Carried.{HasPlan}
-use Rattle.dv_store.specs.Commits.{Checks, CommitsQuietly, HasChecked, IsLeftAt, IsUnwritten, MayGiveCommit, MayWrite, cache_behind, end_with, idle_receipt, text_by}
+use Rattle.dv_store.specs.Carried.{HasPlan, carried}
+use Rattle.dv_store.specs.Commits.{Checks, CommitsQuietly, HasChecked, IsLeftAt, IsUnwritten, MayChange, MayGiveCommit, MayWrite, Rotates, cache_behind, end_with, idle_receipt, text_by}
 use Rattle.dv_store.specs.Rest.{IsAtRest}
 use Rattle.dv_store.specs.States.{State}
 use Rattle.dv_store.proofs.Equal.{equal_path, stands_equal}
@@ -57,10 +59,10 @@ use Rattle.dv_shelf.specs.Sees.{SeesFolder}
 -- ---- a plan that was carried out
 
 module _ {S : Type 0} {sees : SeesFolder S} {log : Log} {debt : Debt} {write : Write} {owed left : Option Turn} {text : List ℕ} {steps : Steps} {chain next : Chain} {old new : S} where
-  pub stored_done : {T U E F : Type 0} (x : T) (y : U) → WritesStore sees log debt write owed left text steps chain next {T = T} {E = E} (Ok x) old new → WritesStore sees log debt write owed left text steps chain next {T = U} {E = F} (Ok y) old new
+  pub stored_done : {T U E F : Type 0} (x : T) (y : U) → WritesStore sees log debt write text steps (held old chain owed) (held new next left) {T = T} {E = E} (Ok x) → WritesStore sees log debt write text steps (held old chain owed) (held new next left) {T = U} {E = F} (Ok y)
   stored_done x y stores = record { ok = stores.ok; err = tt; any_moment = stores.any_moment; written = record { ok = stores.written.ok; others = stores.written.others } }
 
-  pub stored_failed : {T U E F : Type 0} (e : E) (f : F) → WritesStore sees log debt write owed left text steps chain next {T = T} {E = E} (Err e) old new → WritesStore sees log debt write owed left text steps chain next {T = U} {E = F} (Err f) old new
+  pub stored_failed : {T U E F : Type 0} (e : E) (f : F) → WritesStore sees log debt write text steps (held old chain owed) (held new next left) {T = T} {E = E} (Err e) → WritesStore sees log debt write text steps (held old chain owed) (held new next left) {T = U} {E = F} (Err f)
   stored_failed e f stores = record { ok = tt; err = stores.err; any_moment = stores.any_moment; written = record { ok = tt; others = stores.written.others } }
 
 -- ---- what a folder gives, over a chain that is equal but for spare rows
@@ -111,12 +113,12 @@ file_behind log received m (command.UidRemove _) steps file d e are keeps is = f
 module _ (owed turn : Option Turn) (chain before : Chain) (same : AreEqual chain before) (due : IsDue owed chain turn) (made : is_some turn ≡ turns owed chain) where
   -- what it leaves
   check_left : (steps : Files) (old mid new : Folder) → mid ≡ old → IsCheckOf before old steps → AreFilesFor (ready owed turn chain) steps → HoldsFiles chain.live.mailbox steps new
-      → ((n : Name) → (IsNamed chain.live.mailbox steps n → ⊥) → (IsOfLog n → ⊥) → new n ≡ mid n) → HasChecked owed before old new
+      → ((n : Name) → (IsNamed chain.live.mailbox steps n → ⊥) → (IsOfLog turn n → ⊥) → new n ≡ mid n) → HasChecked owed before old new
   check_left steps old mid new looked is for holds others =
       by_renewal (subst (AreFilesFor (ready owed turn chain)) is.is for) (subst (λ (k : Files). HoldsFiles chain.live.mailbox k new) is.is holds)
-      (subst (λ (k : Files). (n : Name) → (IsNamed chain.live.mailbox k n → ⊥) → (IsOfLog n → ⊥) → new n ≡ mid n) is.is others)
+      (subst (λ (k : Files). (n : Name) → (IsNamed chain.live.mailbox k n → ⊥) → (IsOfLog turn n → ⊥) → new n ≡ mid n) is.is others)
     where
-      by_renewal : AreFilesFor (ready owed turn chain) (kind.Check is.renewal) → HoldsFiles chain.live.mailbox (kind.Check is.renewal) new → ((n : Name) → (IsNamed chain.live.mailbox (kind.Check is.renewal) n → ⊥) → (IsOfLog n → ⊥) → new n ≡ mid n) → HasChecked owed before old new
+      by_renewal : AreFilesFor (ready owed turn chain) (kind.Check is.renewal) → HoldsFiles chain.live.mailbox (kind.Check is.renewal) new → ((n : Name) → (IsNamed chain.live.mailbox (kind.Check is.renewal) n → ⊥) → (IsOfLog turn n → ⊥) → new n ≡ mid n) → HasChecked owed before old new
       by_renewal are has stay = record {
         gone = λ uid given free. gone_uid uid given free (old (name.Mail uid)) refl;
         index = is.renewal.index;
@@ -136,7 +138,7 @@ module _ (owed turn : Option Turn) (chain before : Chain) (same : AreEqual chain
 
   -- so it is behind any command
   checked : (received : ℕ) (steps : Files) (old mid new : Folder) (c : Command) → mid ≡ old → AreFilesMade before received old c steps → AreFilesFor (ready owed turn chain) steps → HoldsFiles chain.live.mailbox steps new
-      → ((n : Name) → (IsNamed chain.live.mailbox steps n → ⊥) → (IsOfLog n → ⊥) → new n ≡ mid n) → Checks c owed before old new
+      → ((n : Name) → (IsNamed chain.live.mailbox steps n → ⊥) → (IsOfLog turn n → ⊥) → new n ≡ mid n) → Checks c owed before old new
   checked received steps old mid new command.Select looked files_made for holds others = tt
   checked received steps old mid new command.Noop looked files_made for holds others = tt
   checked received steps old mid new command.Check looked files_made for holds others = check_left steps old mid new looked files_made for holds others
@@ -161,36 +163,96 @@ idle_checks (command.UidRemove _) view owed chain old new guid none = tt
 
 -- ---- the other files
 
-of_log : (c : Command) (m : Mailbox) (n : Name) → IsOfLog n → MayWrite c m n
-of_log c m (name.Mail uid) of = absurd of
-of_log c m name.Cache of = absurd of
-of_log c m name.Index of = tt
-of_log c m name.Log of = tt
-of_log c m name.Log2 of = tt
+of_log : (c : Command) (m : Mailbox) (turn : Option Turn) (turning : Bool) (n : Name) → (IsSome turn → turning ≡ true) → IsOfLog turn n → MayChange c m turning n
+of_log c m turn turning (name.Mail uid) due of = absurd of
+of_log c m turn turning name.Cache due of = absurd of
+of_log c m turn turning name.Index due of = inr (due of)
+of_log c m turn turning name.Log due of = tt
+of_log c m turn turning name.Log2 due of = due of
 
-none_named : (c : Command) (m : Mailbox) (steps : Files) (n : Name) → steps ≡ kind.Nothing → IsNamed m steps n → MayWrite c m n
-none_named c m steps n is named = absurd (subst (λ (k : Files). IsNamed m k n → ⊥) (sym is) (λ none. none) named)
+none_named : (c : Command) (m : Mailbox) (turning : Bool) (steps : Files) (n : Name) → steps ≡ kind.Nothing → IsNamed m steps n → MayChange c m turning n
+none_named c m turning steps n is named = absurd (subst (λ (k : Files). IsNamed m k n → ⊥) (sym is) (λ none. none) named)
 
-check_named : (chain : Chain) (folder : Folder) (steps : Files) (is : IsCheckOf chain folder steps) (n : Name) → IsNamed chain.live.mailbox (kind.Check is.renewal) n → MayWrite command.Check chain.live.mailbox n
-check_named chain folder steps is (name.Mail uid) named = let unlisted = (is.gone.are.are uid).0 named in (unlisted.given, unlisted.free)
-check_named chain folder steps is name.Cache named = tt
-check_named chain folder steps is name.Index named = tt
-check_named chain folder steps is name.Log named = tt
-check_named chain folder steps is name.Log2 named = tt
+check_named : (chain : Chain) (turning : Bool) (folder : Folder) (steps : Files) (is : IsCheckOf chain folder steps) (n : Name) → IsNamed chain.live.mailbox (kind.Check is.renewal) n → MayChange command.Check chain.live.mailbox turning n
+check_named chain turning folder steps is (name.Mail uid) named = let unlisted = (is.gone.are.are uid).0 named in (unlisted.given, unlisted.free)
+check_named chain turning folder steps is name.Cache named = tt
+check_named chain turning folder steps is name.Index named = inl tt
+check_named chain turning folder steps is name.Log named = tt
+check_named chain turning folder steps is name.Log2 named = absurd named
 
--- the files that a command's steps name
-all_named : (chain : Chain) (received : ℕ) (folder : Folder) (c : Command) (steps : Files) → AreFilesMade chain received folder c steps → (n : Name) → IsNamed chain.live.mailbox steps n → MayWrite c chain.live.mailbox n
-all_named chain received folder command.Select steps made n named = none_named command.Select chain.live.mailbox steps n made named
-all_named chain received folder command.Noop steps made n named = none_named command.Noop chain.live.mailbox steps n made named
-all_named chain received folder command.Check steps made n named = check_named chain folder steps made n (subst (λ (k : Files). IsNamed chain.live.mailbox k n) made.is named)
-all_named chain received folder command.Expunge steps made n named = none_named command.Expunge chain.live.mailbox steps n made named
-all_named chain received folder (command.Append flags keywords message) steps made n named =
-    let same : n ≡ name.Mail chain.live.mailbox.next_uid = subst (λ (k : Files). IsNamed chain.live.mailbox k n) made.is named in
-    subst (λ (k : Name). MayWrite (command.Append flags keywords message) chain.live.mailbox k) (sym same) refl
-all_named chain received folder (command.Fetch a b d) steps made n named = none_named (command.Fetch a b d) chain.live.mailbox steps n made named
-all_named chain received folder (command.Store a b d e f h) steps made n named = none_named (command.Store a b d e f h) chain.live.mailbox steps n made named
-all_named chain received folder (command.Search a b) steps made n named = none_named (command.Search a b) chain.live.mailbox steps n made named
-all_named chain received folder (command.UidRemove a) steps made n named = none_named (command.UidRemove a) chain.live.mailbox steps n made named
+module _ (chain : Chain) (turning : Bool) (received : ℕ) (folder : Folder) where
+  -- the files that a command's steps name
+  all_named : (c : Command) (steps : Files) → AreFilesMade chain received folder c steps → (n : Name) → IsNamed chain.live.mailbox steps n → MayChange c chain.live.mailbox turning n
+  all_named command.Select steps made n named = none_named command.Select chain.live.mailbox turning steps n made named
+  all_named command.Noop steps made n named = none_named command.Noop chain.live.mailbox turning steps n made named
+  all_named command.Check steps made n named = check_named chain turning folder steps made n (subst (λ (k : Files). IsNamed chain.live.mailbox k n) made.is named)
+  all_named command.Expunge steps made n named = none_named command.Expunge chain.live.mailbox turning steps n made named
+  all_named (command.Append flags keywords message) steps made n named =
+      let same : n ≡ name.Mail chain.live.mailbox.next_uid = subst (λ (k : Files). IsNamed chain.live.mailbox k n) made.is named in
+      subst (λ (k : Name). MayChange (command.Append flags keywords message) chain.live.mailbox turning k) (sym same) refl
+  all_named (command.Fetch a b d) steps made n named = none_named (command.Fetch a b d) chain.live.mailbox turning steps n made named
+  all_named (command.Store a b d e f h) steps made n named = none_named (command.Store a b d e f h) chain.live.mailbox turning steps n made named
+  all_named (command.Search a b) steps made n named = none_named (command.Search a b) chain.live.mailbox turning steps n made named
+  all_named (command.UidRemove a) steps made n named = none_named (command.UidRemove a) chain.live.mailbox turning steps n made named
+
+-- so it is, whether or not a rotation is due
+may_write : (c : Command) (m : Mailbox) (turning : Bool) (n : Name) → MayChange c m turning n → MayWrite c m n
+may_write c m turning (name.Mail uid) may = may
+may_write c m turning name.Cache may = may
+may_write c m turning n may = tt
+
+pub others_may : {S C : Type 0} {sees : SeesFolder S} {log : Log} {debt : Debt} {write : Write} {old new : State S C} {result : Result Receipt StoreFault} → CommitsQuietly sees log debt write old new result
+    → (n : Name) → (MayWrite write.command old.chain.live.mailbox n → ⊥) → sees.files new.shelf n ≡ sees.files old.shelf n
+others_may {write = write} {old = old} quiet n unwritten = quiet.others n (λ may. unwritten (may_write write.command old.chain.live.mailbox (turns old.owed old.chain) n may))
+
+-- ---- a clock that tells
+
+pub told_at : {tells : Type 0} {reading : ℕ} {Holds : ℕ → Type 0} → AtReading tells reading Holds → tells → Holds reading
+told_at {Holds = Holds} dated reads = subst Holds (dated.clock reads) dated.is
+
+-- ---- a log that was rotated
+
+-- where a rotation is due no other is owed
+none_owed : (owed : Option Turn) (chain : Chain) → turns owed chain ≡ true → owed ≡ None
+none_owed None chain due = refl
+none_owed (Some turn) chain due = absurd cc
+
+-- a turn that is owed behind a write is that of the rotation that was due
+owed_turn : {E : Type 0} (owed left : Option Turn) (text : List ℕ) (steps : Steps) (chain next : Chain) (result : Result Committed E) → owed ≡ None → CarriesOut owed left text steps chain next result → (left ≡ None) ⊎ (left ≡ steps.turn)
+owed_turn owed left text steps chain next (Ok done) none value = inl value.paid.1
+owed_turn owed left text steps chain next (Err e) none value =
+    ⊎_elim (⊎_elim (λ same. inl (same.1 ∙ none)) (λ paid. paid.2)) (λ begins. inl begins.1) value.place
+
+module _ (reading : ℕ) (before chain : Chain) (same : AreEqual chain before) where
+  -- the file is the one from before
+  pub rotates_not : {S C : Type 0} (store new : State S C) (folder : Folder) → store.chain ≡ before → new.chain.log.file_seq ≡ chain.log.file_seq → turns store.owed store.chain ≡ true → new.owed ≡ store.owed → Rotates reading store new folder
+  rotates_not store new folder is stays due owed = record {
+    log = λ other. absurd (other (stays ∙ ap (λ (l : LogFile). l.file_seq) same.log ∙ ap (λ (k : Chain). k.log.file_seq) (sym is)));
+    owed = subst (λ (o : Option Turn). IfSome o (λ turn. turn.new ≡ next_log store.chain reading)) (sym (owed ∙ none_owed store.owed store.chain due)) tt;
+  }
+
+  -- a plan was carried out
+  pub rotates_written : {S C : Type 0} (store new : State S C) (plan : Plan) (folder : Folder) (result : Result Receipt StoreFault) → store.chain ≡ before → turns store.owed store.chain ≡ true
+      → CarriesOut store.owed new.owed plan.text plan.steps chain new.chain (carried result) → is_some plan.steps.turn ≡ turns store.owed chain → TurnsAt before reading plan → HasTurned plan.steps.turn chain new.chain folder → Rotates reading store new folder
+  rotates_written store new plan folder result is due value made at turned = by_turn plan.steps.turn refl (sym made') at turned
+    where
+      made' : turns store.owed store.chain ≡ is_some plan.steps.turn
+      made' = ap (turns store.owed) is ∙ sym (turns_same chain before same store.owed) ∙ sym made
+
+      new_log : (t : Turn) → t.new ≡ next_log before reading → t.new ≡ next_log store.chain reading
+      new_log t at = at ∙ ap (λ (k : Chain). next_log k reading) (sym is)
+
+      seq : chain.log.file_seq ≡ store.chain.log.file_seq
+      seq = ap (λ (l : LogFile). l.file_seq) same.log ∙ ap (λ (k : Chain). k.log.file_seq) (sym is)
+
+      by_turn : (o : Option Turn) → plan.steps.turn ≡ o → is_some plan.steps.turn ≡ turns store.owed store.chain → IfSome o (λ t. t.new ≡ next_log before reading) → HasTurned o chain new.chain folder → Rotates reading store new folder
+      by_turn None none some at turned = absurd (let no : false ≡ true = sym (ap (λ (o : Option Turn). is_some o) none) ∙ some ∙ due in cc)
+      by_turn (Some t) has some at turned = record {
+        log = λ other. turned (λ stays. other (stays ∙ seq)) ∙ ap (take header_size) (new_log t at);
+        owed = ⊎_elim (λ none. subst (λ (o : Option Turn). IfSome o (λ turn. turn.new ≡ next_log store.chain reading)) (sym none) tt)
+            (λ one. subst (λ (o : Option Turn). IfSome o (λ turn. turn.new ≡ next_log store.chain reading)) (sym (one ∙ has)) (new_log t at))
+            (owed_turn store.owed new.owed plan.text plan.steps chain new.chain (carried result) (none_owed store.owed store.chain due) value);
+      }
 
 -- ---- the store
 
@@ -204,7 +266,7 @@ module _ {S C : Type 0} (sees : SeesFolder S) (log : Log) (debt : Debt) (write :
 
   -- with what was made ready
   abbrev readied : State S C
-  readied = record { shelf = shelf; clock = clock; chain = chain; owed = store.owed; cache = file }
+  readied = record { shelf = shelf; clock = clock; chain = chain; owed = store.owed; cache = file; mark = store.mark }
 
   pub stands_readied : Stands sees log debt chain shelf
   stands_readied = stands_equal sees log debt chain store.chain shelf same (stands_seen sees log debt store.chain store.shelf shelf looks rest.stands)
@@ -247,12 +309,12 @@ module _ {S C : Type 0} (sees : SeesFolder S) (log : Log) (debt : Debt) (write :
   }
 
   module _ (plan : Plan) (left : Option Turn) (next : Chain) (new : S) (is_plan : IsPlanOf write.command write.view store.owed chain plan) (plans : PlansWrite log write store.owed chain (sees.files shelf) plan)
-      (made : AreFilesMade store.chain write.received (sees.files store.shelf) write.command plan.steps.files) where
+      (made : AreFilesMade store.chain write.received (sees.files store.shelf) write.command plan.steps.files) (at : Mark) where
     abbrev behind_all : State S C
-    behind_all = record { shelf = new; clock = clock; chain = next; owed = left; cache = file }
+    behind_all = record { shelf = new; clock = clock; chain = next; owed = left; cache = file; mark = at }
 
     abbrev Stores : Result Receipt StoreFault → Type 0
-    Stores result = WritesStore sees log debt write store.owed left plan.text plan.steps chain next result shelf new
+    Stores result = WritesStore sees log debt write plan.text plan.steps (held shelf chain store.owed) (held new next left) result
 
     abbrev turn : Option Turn
     turn = plan.steps.turn
@@ -290,14 +352,14 @@ module _ {S C : Type 0} (sees : SeesFolder S) (log : Log) (debt : Debt) (write :
         subst (IsFileOf (sees.files new)) (sym forgot) (file_behind log write.received chain.live.mailbox write.command plan.steps.files store.cache (sees.files store.shelf) (sees.files new) plans.is.files
         (λ unnamed. stores.written.others name.Cache unnamed (λ of. of) ∙ cache_same) rest.cache)
 
-    others_stored : (result : Result Receipt StoreFault) → Stores result → (n : Name) → (MayWrite write.command m n → ⊥) → sees.files new n ≡ sees.files store.shelf n
-    others_stored result stores n unwritten =
-        stores.written.others n
-        (λ named. unwritten (all_named store.chain write.received (sees.files store.shelf) write.command plan.steps.files made n (subst (λ (k : Mailbox). IsNamed k plan.steps.files n) same.mailbox named)))
-        (λ of. unwritten (of_log write.command m n of)) ∙ ap (λ (f : Folder). f n) looks.same
-
     turns_is : IsSome turn → turns store.owed store.chain ≡ true
     turns_is some = sym (turns_same chain store.chain same store.owed) ∙ sym is_plan.turn ∙ some
+
+    others_stored : (result : Result Receipt StoreFault) → Stores result → (n : Name) → (MayChange write.command m (turns store.owed store.chain) n → ⊥) → sees.files new n ≡ sees.files store.shelf n
+    others_stored result stores n unwritten =
+        stores.written.others n
+        (λ named. unwritten (all_named store.chain (turns store.owed store.chain) write.received (sees.files store.shelf) write.command plan.steps.files made n (subst (λ (k : Mailbox). IsNamed k plan.steps.files n) same.mailbox named)))
+        (λ of. unwritten (of_log write.command m turn (turns store.owed store.chain) n turns_is of)) ∙ ap (λ (f : Folder). f n) looks.same
 
     left_at : (now : Debt) → IsLeftByWrite log debt write store.owed left plan.text plan.steps chain next now → IsLeftAt log debt write store behind_all now
     left_at now =

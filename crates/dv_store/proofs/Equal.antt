@@ -7,11 +7,11 @@ use Rattle.dv_chain.specs.declared.chain.Chain.{Chain}
 use Rattle.dv_chain.specs.Openings.{HasBounds}
 use Rattle.dv_chain.specs.Rest.{Holds, IsPending, IsResting, Owed, Owes, Rests, StandsOn}
 use Rattle.dv_chain.specs.Rest as rest
-use Rattle.dv_commits.specs.Opening.{AreEqual}
+use Rattle.dv_writing.specs.Opening.{AreEqual}
 use Rattle.dv_rotation.specs.declared.texts.Turn.{Turn}
 use Rattle.dv_rotation.specs.Texts.{IsTurnOf}
-use Rattle.dv_keeping.specs.Debts.{Debt, Stands, owed_of}
-use Rattle.dv_keeping.specs.Repairing.{IsOwing}
+use Rattle.dv_writing.specs.Debts.{Debt, Stands, owed_of}
+use Rattle.dv_writing.specs.Repairing.{IsOwing}
 use Rattle.dv_shelf.specs.Sees.{SeesFolder}
 
 -- with other spare rows and hidden names

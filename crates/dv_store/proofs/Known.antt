@@ -9,8 +9,8 @@ use Rattle.dv_model.specs.Sessions.{has_uid}
 use Rattle.dv_shelf.specs.Folders.{Folder}
 use Rattle.dv_openings.specs.TrueCaches.{HasTrueCache}
 use Rattle.dv_mails.specs.Reading.{mail_at}
-use Rattle.dv_keeping.specs.Debts.{Debt}
-use Rattle.dv_keeping.specs.Keeping.{Keeps}
+use Rattle.dv_writing.specs.Debts.{Debt}
+use Rattle.dv_writing.specs.Keeping.{Keeps}
 use Rattle.dv_lookups.specs.Founds.{mail_of}
 use Rattle.dv_store.specs.Rest.{IsAtRest, RestKnows, log_mail}
 use Rattle.dv_store.specs.States.{State}

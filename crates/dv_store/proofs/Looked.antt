@@ -7,7 +7,7 @@ use Rattle.dv_shelf.specs.declared.shelf.ShelfFault.TheVariants as shelf_fault
 use Rattle.dv_shelf.specs.Folders.{Folder}
 use Rattle.dv_chain.specs.declared.chain.Chain.{Chain}
 use Rattle.dv_chain.specs.Openings.{OnlyLooks}
-use Rattle.dv_keeping.specs.Debts.{Debt, Stands}
+use Rattle.dv_writing.specs.Debts.{Debt, Stands}
 use Rattle.dv_lookups.specs.declared.cache_file.CacheFile.{CacheFile}
 use Rattle.dv_lookups.specs.declared.cache_file.CacheFile.TheVariants as cache
 use Rattle.dv_lookups.specs.Kept.{IsFileOf}

@@ -7,9 +7,9 @@ use Rattle.dv_shelf.specs.Folders.{Folder, with_file}
 use Rattle.dv_chain.specs.declared.chain.Chain.{Chain}
 use Rattle.dv_chain.specs.Rest.{Rests}
 use Rattle.dv_chain.specs.Rest as rest
-use Rattle.dv_keeping.specs.Debts.{Nothing, Stands}
-use Rattle.dv_keeping.specs.Keeping.{Keeps}
-use Rattle.dv_keeping.proofs.Kept.{KeepsMessages, beside_file, kept_same, of_log, same_messages}
+use Rattle.dv_writing.specs.Debts.{Nothing, Stands}
+use Rattle.dv_writing.specs.Keeping.{Keeps}
+use Rattle.dv_writing.proofs.Kept.{KeepsMessages, beside_file, kept_same, of_log, same_messages}
 use Rattle.dv_shelf.specs.Sees.{SeesFolder}
 
 -- where only the log was replaced, what was kept still is

@@ -7,12 +7,12 @@ use Rattle.dv_shelf.specs.Folders.{Folder}
 use Rattle.dv_shelf.proofs.Moments.{joined, weaker}
 use Rattle.dv_chain.specs.declared.chain.Chain.{Chain}
 use Rattle.dv_rotation.specs.declared.texts.Turn.{Turn}
-use Rattle.dv_keeping.specs.Debts.{Debt, Fits, Last, MayGive, Nothing, Pending}
-use Rattle.dv_keeping.specs.Repairing.{IsOwing, Repairs, RepairsQuietly}
-use Rattle.dv_keeping.proofs.Resting.{rests_give}
-use Rattle.dv_phases.specs.Quiet.{IsQuiet}
-use Rattle.dv_writes.specs.Ways.{KeepsMails, repaired}
-use Rattle.dv_writes.proofs.Ready.{repaired_is}
+use Rattle.dv_writing.specs.Debts.{Debt, Fits, Last, MayGive, Nothing, Pending}
+use Rattle.dv_writing.specs.Repairing.{IsOwing, Repairs, RepairsQuietly}
+use Rattle.dv_writing.proofs.Resting.{rests_give}
+use Rattle.dv_writing.specs.Quiet.{IsQuiet}
+use Rattle.dv_writing.specs.Ways.{KeepsMails, repaired}
+use Rattle.dv_writing.proofs.Ready.{repaired_is}
 use Rattle.dv_store.specs.Paying.{PaysDebts, PaysQuietly}
 use Rattle.dv_store.specs.Rest.{IsAtRest}
 use Rattle.dv_store.specs.States.{State}
@@ -43,17 +43,17 @@ pays_nothing sees log debt store e only rest = record {
 
 module _ {S C : Type 0} (store : State S C) (left : Option Turn) (mid : Chain) where
   abbrev behind : S → State S C
-  behind shelf = record { shelf = shelf; clock = store.clock; chain = mid; owed = left; cache = store.cache }
+  behind shelf = record { shelf = shelf; clock = store.clock; chain = mid; owed = left; cache = store.cache; mark = store.mark }
 
   -- the repair failed, or what comes behind it did, or neither
   pub debts_stay : {T U E F : Type 0} (e : E) (f : F) (new : S) → Repairs store.owed left store.chain mid {T = T} {E = E} (Err e) → PaysDebts store (behind new) {T = U} {E = F} (Err f)
-  debts_stay e f new repairs = record { ok = tt; err = inl repairs.failed; clock = refl; cache = refl }
+  debts_stay e f new repairs = record { ok = tt; err = inl repairs.failed; clock = refl; cache = refl; mark = refl }
 
   pub debts_paid : {T U E F : Type 0} (x : T) (f : F) (new : S) → IsOwing store.chain store.owed → Repairs store.owed left store.chain mid {T = T} {E = E} (Ok x) → PaysDebts store (behind new) {T = U} {E = F} (Err f)
-  debts_paid x f new owing repairs = record { ok = tt; err = inr (repaired_is x store.owed left store.chain mid owing repairs, repairs.paid.1); clock = refl; cache = refl }
+  debts_paid x f new owing repairs = record { ok = tt; err = inr (repaired_is x store.owed left store.chain mid owing repairs, repairs.paid.1); clock = refl; cache = refl; mark = refl }
 
   pub debts_done : {T U E F : Type 0} (x : T) (y : U) (new : S) → IsOwing store.chain store.owed → Repairs store.owed left store.chain mid {T = T} {E = E} (Ok x) → PaysDebts store (behind new) {T = U} {E = F} (Ok y)
-  debts_done x y new owing repairs = record { ok = (repaired_is x store.owed left store.chain mid owing repairs, repairs.paid.1); err = tt; clock = refl; cache = refl }
+  debts_done x y new owing repairs = record { ok = (repaired_is x store.owed left store.chain mid owing repairs, repairs.paid.1); err = tt; clock = refl; cache = refl; mark = refl }
 
   module _ (sees : SeesFolder S) (log : Log) (debt : Debt) (rest : IsAtRest sees log debt store) (between : S) (mails : KeepsMails (sees.files store.shelf) (sees.files between)) where
     pub pays_failed : {T U E F : Type 0} (e : E) (f : F) → Repairs store.owed left store.chain mid {T = T} {E = E} (Err e) → RepairsQuietly sees log debt store.chain mid {T = T} {E = E} (Err e) store.shelf between → PaysQuietly sees log debt store (behind between) {T = U} {E = F} (Err f)

@@ -10,12 +10,12 @@ use Rattle.dv_formats.specs.Snapshots.{IsSnapshot}
 use Rattle.dv_apply.specs.States.{Held}
 use Rattle.dv_chain.specs.declared.chain.Chain.{Chain}
 use Rattle.dv_chain.specs.Rest.{next_mark}
-use Rattle.dv_commits.specs.Opening.{AreEqual, mark_behind}
+use Rattle.dv_writing.specs.Opening.{AreEqual, mark_behind}
 use Rattle.dv_rotation.specs.declared.texts.Turn.{Turn}
 use Rattle.dv_rotation.specs.Texts.{IsSnapshotOf, place_of}
 use Rattle.dv_plans.specs.Begins.{beginning, turns}
 use Rattle.dv_plans.proofs.Readied.{ready_indexid, ready_live, ready_place}
-use Rattle.dv_writes.specs.Ways.{IsDue, ready}
+use Rattle.dv_writing.specs.Ways.{IsDue, ready}
 use Rattle.dv_store.specs.Commits.{begin_of, behind_text, end_with}
 use Rattle.dv_store.proofs.Equal.{equal_path}
 

@@ -12,7 +12,7 @@ use Rattle.dv_model.specs.declared.types.Record.{Record}
 use Rattle.dv_model.specs.declared.types.Reply.{Reply}
 use Rattle.dv_model.specs.Effects.{applied}
 use Rattle.dv_model.specs.Fresh.{shown_of}
-use Rattle.dv_model.specs.Journals.{IsGuid}
+use Rattle.dv_model.specs.Journals.{IsEntry, IsGuid}
 use Rattle.dv_model.specs.Sessions.{group_of}
 use Rattle.dv_model.specs.Spelling.{group_text, written}
 use Rattle.dv_model.specs.Views.{View}
@@ -21,12 +21,12 @@ use Rattle.dv_logfile.specs.Layout.{closing}
 use Rattle.dv_dbox.specs.Mails.{no_guid}
 use Rattle.dv_groups.specs.Groups.{HasSizes}
 use Rattle.dv_chain.specs.declared.chain.Chain.{Chain}
-use Rattle.dv_commits.specs.declared.committing.Committed.{Committed}
-use Rattle.dv_commits.specs.Opening.{AreEqual}
+use Rattle.dv_writing.specs.declared.committing.Committed.{Committed}
+use Rattle.dv_writing.specs.Opening.{AreEqual}
 use Rattle.dv_rotation.specs.declared.texts.Turn.{Turn}
 use Rattle.dv_rotation.specs.Texts.{place_of}
 use Rattle.dv_lookups.specs.declared.cache_file.CacheFile.{CacheFile}
-use Rattle.dv_phases.proofs.Listing.{none_in}
+use Rattle.dv_writing.proofs.Listing.{none_in}
 use Rattle.dv_plans.specs.declared.fault.StoreFault.{StoreFault}
 use Rattle.dv_plans.specs.declared.fault.StoreFault.TheVariants as fault
 use Rattle.dv_plans.specs.declared.plan.Plan.{Plan}
@@ -37,12 +37,12 @@ use Rattle.dv_plans.specs.Limits.{Decides, WhereDecided}
 use Rattle.dv_plans.specs.Overs.{DecidesOver, group_over, limit_over}
 use Rattle.dv_plans.specs.Plans.{IsPlanOf}
 use Rattle.dv_plans.proofs.Naming.{guids_found}
-use Rattle.dv_writes.specs.declared.steps.Steps.{Steps}
-use Rattle.dv_writes.specs.Ways.{ready}
-use Rattle.dv_writes.specs.Writes.{CarriesOut}
-use Rattle.dv_writes.proofs.Left.{left_place}
+use Rattle.dv_writing.specs.declared.steps.Steps.{Steps}
+use Rattle.dv_writing.specs.Ways.{ready}
+use Rattle.dv_writing.specs.Writes.{CarriesOut}
+use Rattle.dv_writing.proofs.Left.{left_place}
 use Rattle.dv_store.specs.declared.receipt.Receipt.{Receipt}
-use Rattle.dv_store.specs.Carried.{HasPlan, carried}
+use Rattle.dv_store.specs.Carried.{HasPlan, MovesMark, carried}
 use Rattle.dv_store.specs.Commits.{Commits, CountsFor, CountsMails, IsIdle, IsLimited, IsReceipt, IsUnwritten, TakesFor, TakesReadings, appended_uid, begin_of, cache_behind, idle_receipt}
 use Rattle.dv_store.specs.States.{State}
 use Rattle.dv_store.proofs.Places.{mark_same, place_same, ready_begins}
@@ -72,16 +72,17 @@ limited A limit group fault.NoMemory is = tt
 -- ---- the receipt
 
 module _ (c : Command) (view : View) (before chain : Chain) (same : AreEqual chain before) (owed : Option Turn) where
-  pub receipt_idle : (A : Type 0) (mark : Mark) (uid : Option ℕ) → DecidesOver {A = A} c view before (Ok None) → mark ≡ place_of chain → uid ≡ appended_uid c before.live.mailbox → IsReceipt c view owed before chain (idle_receipt mark uid)
-  receipt_idle A mark uid decides at named = record {
+  pub receipt_idle : (A : Type 0) (mark : Mark) (uid : Option ℕ) → DecidesOver {A = A} c view before (Ok None) → uid ≡ appended_uid c before.live.mailbox → IsReceipt c view owed before chain (idle_receipt mark uid)
+  receipt_idle A mark uid decides named = record {
     guid = λ u. no_guid;
     guids = guids_found [] (All-nil (λ (row : GuidRow). IsGuid row.guid));
     group = ap (λ (rs : List Record). record { records = rs }) (sym (none (λ u. no_guid) (λ u. refl)));
     text = refl;
     size = λ other others. ap (λ (rs : List Record). length (flat_map written rs)) (sym (none other others));
     gives = ap Some (sym same.mailbox);
-    mark = at ∙ place_same chain before same;
-    place = at;
+    mark = λ more. absurd (omega (arith, more));
+    place = λ more. absurd (omega (arith, more));
+    entry = λ more. absurd (omega (arith, more));
     uid = named;
     touched = λ u. (λ has. absurd (none_in u has), λ differs. absurd (differs (ap (λ (m : Mailbox). shown_of m u) (sym same.mailbox))));
   }
@@ -98,8 +99,9 @@ module _ (c : Command) (view : View) (before chain : Chain) (same : AreEqual cha
     text = text_is;
     size = λ other others. ap (λ (t : List ℕ). length t) text_is ∙ ap (λ (g : Group). length (group_text g)) has.group ∙ is.size other others ∙ ap (λ (m : Mailbox). length (group_text (group_of c view m other))) same.mailbox;
     gives = ap (λ (m : Mailbox). applied m receipt.group.records) (sym same.mailbox) ∙ ap (λ (g : Group). applied chain.live.mailbox g.records) has.group ∙ is.gives ∙ ap Some (sym (value.mailbox is.after is.pending));
-    mark = value.mark.0 ∙ mark_same chain before same owed plan.steps.turn is.steps.due is.turn plan.text receipt.group.records some (is.text ∙ ap (λ (g : Group). group_text g ++ closing) (sym has.group));
-    place = value.mark.1;
+    mark = λ more. value.mark.0 ∙ mark_same chain before same owed plan.steps.turn is.steps.due is.turn plan.text receipt.group.records some (is.text ∙ ap (λ (g : Group). group_text g ++ closing) (sym has.group));
+    place = λ more. value.mark.1;
+    entry = λ more author number. subst (λ (g : Group). IsEntry (record { author = author; group = g })) (sym has.group) (is.entry author number);
     uid = has.uid ∙ named;
     touched = λ u. subst (λ (m : Mailbox). (Contains receipt.touched u → shown_of m u ≢ shown_of next.live.mailbox u) × (shown_of m u ≢ shown_of next.live.mailbox u → Contains receipt.touched u)) same.mailbox (value.touched u);
   }
@@ -120,7 +122,7 @@ module _ (c : Command) (view : View) (before chain : Chain) (same : AreEqual cha
 module _ {S C : Type 0} (c : Command) (view : View) (store : State S C) (chain : Chain) (same : AreEqual chain store.chain) (file : CacheFile) (forgot : file ≡ cache_behind c store.cache) where
   -- with what was made ready
   abbrev readied : S → C → State S C
-  readied shelf clock = record { shelf = shelf; clock = clock; chain = chain; owed = store.owed; cache = file }
+  readied shelf clock = record { shelf = shelf; clock = clock; chain = chain; owed = store.owed; cache = file; mark = store.mark }
 
   pub commits_refused : (A : Type 0) (e : StoreFault) (shelf : S) (clock : C) → DecidesOver {A = A} c view store.chain (Err e) → Commits c view store (readied shelf clock) (Err e)
   commits_refused A e shelf clock decides = record {
@@ -129,49 +131,53 @@ module _ {S C : Type 0} (c : Command) (view : View) (store : State S C) (chain :
     paid = tt;
     failed = same.mailbox;
     place = inl (place_same chain store.chain same);
-    unwritten = λ is. record { chain = same; owed = refl };
+    mark = refl;
+    unwritten = λ is. record { chain = same; owed = refl; mark = refl };
     indexid = same.indexid;
     cache = forgot;
   }
 
-  pub commits_idle : (A : Type 0) (mark : Mark) (uid : Option ℕ) (shelf : S) (clock : C) → DecidesOver {A = A} c view store.chain (Ok None) → mark ≡ place_of chain → uid ≡ appended_uid c store.chain.live.mailbox → Commits c view store (readied shelf clock) (Ok (idle_receipt mark uid))
+  pub commits_idle : (A : Type 0) (mark : Mark) (uid : Option ℕ) (shelf : S) (clock : C) → DecidesOver {A = A} c view store.chain (Ok None) → mark ≡ store.mark → uid ≡ appended_uid c store.chain.live.mailbox → Commits c view store (readied shelf clock) (Ok (idle_receipt mark uid))
   commits_idle A mark uid shelf clock decides at named = record {
     limit = λ guid sizes. (decides guid sizes).0;
-    ok = receipt_idle c view store.chain chain same store.owed A mark uid decides at named;
+    ok = receipt_idle c view store.chain chain same store.owed A mark uid decides named;
     paid = λ some. absurd (omega (arith, some));
     failed = tt;
     place = tt;
-    unwritten = λ is. record { chain = same; owed = refl };
+    mark = sym at;
+    unwritten = λ is. record { chain = same; owed = refl; mark = refl };
     indexid = same.indexid;
     cache = forgot;
   }
 
-  module _ (plan : Plan) (decides : DecidesOver {A = Plan} c view store.chain (Ok (Some plan))) (is : IsPlanOf c view store.owed chain plan) (left : Option Turn) (next : Chain) (shelf : S) (clock : C) where
+  module _ (plan : Plan) (decides : DecidesOver {A = Plan} c view store.chain (Ok (Some plan))) (is : IsPlanOf c view store.owed chain plan) (left : Option Turn) (next : Chain) (shelf : S) (clock : C) (at : Mark) where
     abbrev behind_all : State S C
-    behind_all = record { shelf = shelf; clock = clock; chain = next; owed = left; cache = file }
+    behind_all = record { shelf = shelf; clock = clock; chain = next; owed = left; cache = file; mark = at }
 
     place_failed : (place_of next ≡ place_of chain) ⊎ (place_of next ≡ place_of (ready store.owed plan.steps.turn chain)) → (place_of next ≡ place_of store.chain) ⊎ (place_of next ≡ begin_of store.owed store.chain)
     place_failed =
         ⊎_elim (λ stays. inl (stays ∙ place_same chain store.chain same)) (λ goes. inr (goes ∙ ready_begins chain store.chain same store.owed plan.steps.turn is.steps.due is.turn))
 
     pub commits_written : (uid : Option ℕ) (faults : ℕ) (result : Result Receipt StoreFault) → uid ≡ appended_uid c store.chain.live.mailbox → IfOk result (HasPlan plan uid) → IfErr result (λ e. e ≡ fault.Disk faults) → CarriesOut store.owed left plan.text plan.steps chain next (carried result)
-        → Commits c view store behind_all result
-    commits_written uid faults (Ok receipt) named has disk value = record {
+        → MovesMark store.mark at result → Commits c view store behind_all result
+    commits_written uid faults (Ok receipt) named has disk value moves = record {
       limit = λ guid sizes. (decides guid sizes).0;
       ok = receipt_made c view store.chain chain same store.owed left plan uid next receipt is has named value;
       paid = λ some. record { turn = value.paid.1; debt = value.paid.0 };
       failed = tt;
       place = tt;
+      mark = moves;
       unwritten = λ none. absurd (let some : 1 ≤ length receipt.group.records = subst (λ (g : Group). 1 ≤ length g.records) (sym has.group) is.some in omega (arith, some, ap length none));
       indexid = value.indexid ∙ same.indexid;
       cache = forgot;
     }
-    commits_written uid faults (Err e) named has disk value = record {
+    commits_written uid faults (Err e) named has disk value moves = record {
       limit = λ guid sizes. subst (λ (x : StoreFault). IsLimited (limit_over c view store.chain guid) (group_over c view store.chain guid) (Err x)) (sym disk) (decides guid sizes);
       ok = tt;
       paid = tt;
       failed = ap (λ h. h.mailbox) value.failed ∙ same.mailbox;
       place = place_failed (left_place store.owed left chain next plan.steps.turn is.steps.due value.place);
+      mark = moves;
       unwritten = λ none. absurd (subst (λ (x : StoreFault). IsUnwritten (Err x)) disk none);
       indexid = value.indexid ∙ same.indexid;
       cache = forgot;

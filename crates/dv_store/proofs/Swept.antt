@@ -4,9 +4,9 @@ use Rattle.dv_shelf.specs.declared.shelf.Name.TheVariants as name
 use Rattle.dv_shelf.specs.Folders.{Folder}
 use Rattle.dv_mails.specs.Writing.{IsSweeping, IsSwept, Sweeps}
 use Rattle.dv_mails.proofs.Removing.{sweep_stays}
-use Rattle.dv_phases.proofs.Beside.{sweeps_some}
-use Rattle.dv_writes.specs.Ways.{KeepsMails}
-use Rattle.dv_writes.proofs.Filing.{named_true, swept_else}
+use Rattle.dv_writing.proofs.Beside.{sweeps_some}
+use Rattle.dv_writing.specs.Ways.{KeepsMails}
+use Rattle.dv_writing.proofs.Filing.{named_true, swept_else}
 use Rattle.dv_store.specs.Paying.{KeepsLog, SweepsMails}
 
 -- nothing was swept yet

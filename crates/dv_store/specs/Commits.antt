@@ -1,5 +1,5 @@
 -- What a command's write does to a store, and its receipt. The records take what a shelf shows.
-use Rattle.std.specs.Prelude.{◌≡◌, ◌⊎◌, ◌↔◌, ◌||◌, ◌+◌, ◌<◌, ◌≤◌, ℕ, true, List, [], ◌∷◌, ◌++◌, flat_map, length, Contains, Option, Some, None, is_some, IsSome, if◌then◌else◌, Result, Ok, Err, IfOk, OnOk, OnErr, ⊤}
+use Rattle.std.specs.Prelude.{◌≡◌, ◌⊎◌, ◌↔◌, ◌||◌, ◌+◌, ◌<◌, ◌≤◌, ℕ, true, List, [], ◌∷◌, ◌++◌, flat_map, length, Contains, Option, Some, None, is_some, IfSome, IsSome, if◌then◌else◌, Bool, Result, Ok, Err, IfOk, OnOk, OnErr, ⊤}
 use Rattle.dv_model.specs.declared.types.Command.{Command}
 use Rattle.dv_model.specs.declared.types.Command.TheVariants as command
 use Rattle.dv_model.specs.declared.types.Group.{Group}
@@ -10,7 +10,7 @@ use Rattle.dv_model.specs.declared.types.Reply.{Reply}
 use Rattle.dv_model.specs.declared.types.Reply.TheVariants as reply
 use Rattle.dv_model.specs.Effects.{applied}
 use Rattle.dv_model.specs.Fresh.{IsTouched}
-use Rattle.dv_model.specs.Journals.{IsGuid, Log}
+use Rattle.dv_model.specs.Journals.{IsEntry, IsGuid, IsU32, Log}
 use Rattle.dv_model.specs.Sessions.{is_append}
 use Rattle.dv_model.specs.Spelling.{group_text, written}
 use Rattle.dv_model.specs.Views.{View}
@@ -24,14 +24,14 @@ use Rattle.dv_formats.specs.Snapshots.{IsSnapshot}
 use Rattle.dv_groups.specs.Groups.{HasSizes}
 use Rattle.dv_chain.specs.declared.chain.Chain.{Chain}
 use Rattle.dv_chain.specs.Rest.{next_mark}
-use Rattle.dv_commits.specs.Opening.{AreEqual}
+use Rattle.dv_writing.specs.Opening.{AreEqual}
 use Rattle.dv_rotation.specs.declared.texts.Turn.{Turn}
-use Rattle.dv_rotation.specs.Texts.{place_of}
-use Rattle.dv_keeping.specs.Debts.{Debt, Last, MayGive, Nothing}
-use Rattle.dv_keeping.specs.Keeping.{Gives}
+use Rattle.dv_rotation.specs.Texts.{next_log, place_of}
+use Rattle.dv_writing.specs.Debts.{Debt, Last, MayGive, Nothing}
+use Rattle.dv_writing.specs.Keeping.{Gives}
 use Rattle.dv_lookups.specs.declared.cache_file.CacheFile.{CacheFile}
 use Rattle.dv_lookups.specs.declared.cache_file.CacheFile.TheVariants as cache
-use Rattle.dv_phases.specs.Removals.{IsFree}
+use Rattle.dv_writing.specs.Removals.{IsFree}
 use Rattle.dv_plans.specs.declared.fault.StoreFault.{StoreFault}
 use Rattle.dv_plans.specs.declared.fault.StoreFault.TheVariants as fault
 use Rattle.dv_plans.specs.Begins.{beginning, received_at, turns}
@@ -39,8 +39,10 @@ use Rattle.dv_plans.specs.Counts.{CountsReads, CountsUpTo}
 use Rattle.dv_plans.specs.Files.{IsNextCache}
 use Rattle.dv_plans.specs.Limits.{IsWritten}
 use Rattle.dv_plans.specs.Overs.{group_over, limit_over}
-use Rattle.dv_writes.specs.Writes.{IsAfter, MayOweGate, Write, group_by, log_with}
+use Rattle.dv_writing.specs.Ways.{BeginsAs}
+use Rattle.dv_writing.specs.Writes.{IsAfter, MayOweGate, Write, group_by, log_with}
 use Rattle.dv_store.specs.declared.receipt.Receipt.{Receipt}
+use Rattle.dv_store.specs.Carried.{MovesMark}
 use Rattle.dv_store.specs.Paying.{OwesNothing}
 use Rattle.dv_store.specs.Rest.{IsAtRest}
 use Rattle.dv_store.specs.States.{State}
@@ -70,8 +72,9 @@ end_with owed chain [] = place_of chain
 end_with owed chain (r ∷ rs) = behind_text (begin_of owed chain) (r ∷ rs)
 
 -- The receipt has the command's group over the chain's mailbox, with some GUIDs. Its text is the
--- group's written spelling, which is as long whatever they are. The mailbox is that with the group,
--- at the mark, which is behind the text. The touched UIDs are those that are shown otherwise.
+-- group's written spelling, which is as long whatever they are. The mailbox is that with the group.
+-- Where it has a record, the mark is behind the text, at the log's end, and the group is an entry
+-- of any author. The touched UIDs are those that are shown otherwise.
 pub record IsReceipt (c : Command) (view : View) (owed : Option Turn) (old new : Chain)
     (receipt : Receipt) : Type 0 where
   pub guid : ℕ → List ℕ
@@ -81,8 +84,11 @@ pub record IsReceipt (c : Command) (view : View) (owed : Option Turn) (old new :
   pub size : (other : ℕ → List ℕ) → HasSizes other
       → length receipt.text ≡ length (group_text (group_over c view old other))
   pub gives : applied old.live.mailbox receipt.group.records ≡ Some new.live.mailbox
-  pub mark : receipt.mark ≡ end_with owed old receipt.group.records
-  pub place : receipt.mark ≡ place_of new
+  pub mark : 1 ≤ length receipt.group.records
+      → receipt.mark ≡ end_with owed old receipt.group.records
+  pub place : 1 ≤ length receipt.group.records → receipt.mark ≡ place_of new
+  pub entry : 1 ≤ length receipt.group.records → (author : ℕ) → IsU32 author
+      → IsEntry (record { author = author; group = receipt.group })
   pub uid : receipt.uid ≡ appended_uid c old.live.mailbox
   pub touched : (uid : ℕ) → Contains receipt.touched uid
       ↔ IsTouched old.live.mailbox new.live.mailbox uid
@@ -180,7 +186,16 @@ abbrev pub MayWriteCache : Command → Type 0
 MayWriteCache command.Check = ⊤
 MayWriteCache c = ⊥
 
--- the files that a command's write, a repair or a rotation may change
+-- The files that a command's write and a repair may change, and a rotation where one is due: it
+-- replaces the index, as a CHECK does, and the rotated log.
+abbrev pub MayChange : Command → Mailbox → Bool → Name → Type 0
+MayChange c m turning (name.Mail uid) = MayWriteMail c m uid
+MayChange c m turning name.Cache = MayWriteCache c
+MayChange c m turning name.Index = MayWriteCache c ⊎ (turning ≡ true)
+MayChange c m turning name.Log2 = turning ≡ true
+MayChange c m turning name.Log = ⊤
+
+-- these, whether or not a rotation is due
 abbrev pub MayWrite : Command → Mailbox → Name → Type 0
 MayWrite c m (name.Mail uid) = MayWriteMail c m uid
 MayWrite c m name.Cache = MayWriteCache c
@@ -204,25 +219,38 @@ MayGiveCommit log debt write owed chain c =
 
 -- ---- the store
 
+-- a command's write, whose message is received then
+abbrev pub write_at : ℕ → Command → View → ℕ → Write
+write_at author c view received = record {
+  author = author;
+  command = c;
+  view = view;
+  received = received;
+}
+
 module _ {S C : Type 0} where
-  -- the chain and what is owed are as before, but for spare rows
+  -- the chain, the mark and what is owed are as before, but for spare rows
   pub record StaysAs (old new : State S C) : Type 0 where
     pub chain : AreEqual new.chain old.chain
     pub owed : new.owed ≡ old.owed
+    pub mark : new.mark ≡ old.mark
 
   -- The command's write, whose message is received at the next reading of the clock behind that for
   -- a rotation.
   abbrev pub write_of : ℕ → Command → View → State S C → (ℕ → ℕ) → Write
-  write_of author c view store upcoming = record {
-    author = author;
-    command = c;
-    view = view;
-    received = received_at (turns store.owed store.chain) upcoming;
-  }
+  write_of author c view store upcoming =
+      write_at author c view (received_at (turns store.owed store.chain) upcoming)
 
-  -- What a command does to a store, but for shelf and clock. Behind Ok with a group nothing is
-  -- owed. An error keeps the mailbox, and leaves the log's end where it was, or where the group
-  -- would begin; where nothing was written, all of it stays.
+  -- Behind a rotation that a command made, the log begins as the file behind the old one, made at
+  -- this reading of the clock; so is the text of one whose last replace is owed.
+  pub record Rotates (reading : ℕ) (old new : State S C) (folder : Folder) : Type 0 where
+    pub log : (new.chain.log.file_seq ≡ old.chain.log.file_seq → ⊥)
+        → BeginsAs (next_log old.chain reading) folder
+    pub owed : IfSome new.owed (λ turn. turn.new ≡ next_log old.chain reading)
+
+  -- What a command does to a store, but for shelf and clock. Behind Ok the mark is the receipt's,
+  -- and with a group nothing is owed. An error keeps mailbox and mark, and leaves the log's end
+  -- where it was, or where the group would begin; where nothing was written, all of it stays.
   pub record Commits (c : Command) (view : View) (old new : State S C)
       (result : Result Receipt StoreFault) : Type 0 where
     pub limit : (guid : ℕ → List ℕ) → HasSizes guid
@@ -232,6 +260,7 @@ module _ {S C : Type 0} where
     pub failed : OnErr result (new.chain.live.mailbox ≡ old.chain.live.mailbox)
     pub place : OnErr result ((place_of new.chain ≡ place_of old.chain)
         ⊎ (place_of new.chain ≡ begin_of old.owed old.chain))
+    pub mark : MovesMark old.mark new.mark result
     pub unwritten : IsUnwritten result → StaysAs old new
     pub indexid : new.chain.indexid ≡ old.chain.indexid
     pub cache : new.cache ≡ cache_behind c old.cache
@@ -265,7 +294,8 @@ module _ {S C : Type 0} where
     pub unwritten : IsUnwritten result → IsAtRest sees log debt new
     pub any_moment : LeavesOnly sees old.shelf new.shelf
         (MayGiveCommit log debt write old.owed old.chain)
-    pub others : (n : Name) → (MayWrite write.command old.chain.live.mailbox n → ⊥)
+    pub others : (n : Name)
+        → (MayChange write.command old.chain.live.mailbox (turns old.owed old.chain) n → ⊥)
         → sees.files new.shelf n ≡ sees.files old.shelf n
     pub checks : OnOk result
         (Checks write.command old.owed old.chain (sees.files old.shelf) (sees.files new.shelf))

@@ -6,12 +6,14 @@ use Rattle.dv_model.specs.Journals.{Log}
 use Rattle.dv_shelf.specs.Crashes.{IsSettled, LeavesOnly}
 use Rattle.dv_shelf.specs.Folders.{Folder}
 use Rattle.dv_openings.specs.Openings.{IsFound}
+use Rattle.dv_openings.specs.Rebuilds.{stamp_of}
 use Rattle.dv_chain.specs.declared.chain.Chain.{Chain}
+use Rattle.dv_chain.specs.Creations.{HasNone, IsFirst, IsOldOrCreated, LeavesCreated}
 use Rattle.dv_chain.specs.Openings.{Answers, HasBounds, IsChainOf, found_of}
 use Rattle.dv_chain.specs.Rest.{Rests}
 use Rattle.dv_chain.specs.Rest as chain_rest
-use Rattle.dv_keeping.specs.Debts.{Nothing, Stands}
-use Rattle.dv_keeping.specs.Keeping.{Keeps}
+use Rattle.dv_writing.specs.Debts.{Nothing, Stands}
+use Rattle.dv_writing.specs.Keeping.{Keeps}
 use Rattle.dv_store.specs.States.{State, fresh_state}
 use Rattle.dv_shelf.specs.Sees.{SeesFolder}
 
@@ -57,3 +59,13 @@ module _ {S C : Type 0} where
     pub stands : IfOk result (λ store. (log : Log) → log.indexid ≡ store.chain.indexid
         → Keeps log store.chain.live.mailbox (sees.files old)
         → Stands sees log Nothing store.chain store.shelf)
+
+  -- A mailbox is made at this reading of the clock: it is a new one of that number, and so is what is
+  -- left of the files, and what a crash leaves of a folder that has none.
+  pub record MakesNew (sees : SeesFolder S) (old : S)
+      (result : Result (State S C) (S × C × OpenFault)) (now : ℕ) : Type 0 where
+    pub first : IfOk result (λ store. IsFirst (stamp_of now) store.chain)
+    pub files : sees.tells → LeavesCreated (sees.files old) now (sees.files (shelf_behind result))
+        (answered result)
+    pub quiet : sees.tells → HasNone (sees.files old) → IsSettled sees old
+        → OpensQuietly sees (λ folder. IsOldOrCreated folder now) old result

@@ -8,8 +8,8 @@ use Rattle.dv_shelf.specs.Folders.{Folder}
 use Rattle.dv_logfile.specs.declared.commit.Debt.TheVariants as log_debt
 use Rattle.dv_chain.specs.declared.chain.Chain.{Chain}
 use Rattle.dv_rotation.specs.Texts.{IsSnapshotOf}
-use Rattle.dv_keeping.specs.Debts.{Debt, MayGive, Nothing}
-use Rattle.dv_writes.specs.Ways.{repaired}
+use Rattle.dv_writing.specs.Debts.{Debt, MayGive, Nothing}
+use Rattle.dv_writing.specs.Ways.{repaired}
 use Rattle.dv_store.specs.Rest.{IsAtRest}
 use Rattle.dv_store.specs.States.{State}
 use Rattle.dv_shelf.specs.Sees.{SeesFolder}
@@ -58,6 +58,7 @@ module _ {S C : Type 0} where
     pub err : OnErr result (IsUnpaid old new ⊎ IsRepaired old new)
     pub clock : new.clock ≡ old.clock
     pub cache : new.cache ≡ old.cache
+    pub mark : new.mark ≡ old.mark
 
   -- From rest to rest: behind Ok nothing is owed, behind an error nothing or what was. A crash at
   -- any moment leaves a folder that gives the mailbox, or that with what was owed.

@@ -6,7 +6,7 @@ use Rattle.dv_model.specs.Sessions.{has_uid}
 use Rattle.dv_shelf.specs.Folders.{Folder}
 use Rattle.dv_openings.specs.TrueCaches.{HasTrueCache}
 use Rattle.dv_chain.specs.Openings.{OnlyLooks}
-use Rattle.dv_keeping.specs.Debts.{Debt, Fits, Stands}
+use Rattle.dv_writing.specs.Debts.{Debt, Fits, Stands}
 use Rattle.dv_lookups.specs.Founds.{mail_of}
 use Rattle.dv_lookups.specs.Kept.{IsFileOf}
 use Rattle.dv_store.specs.States.{State}
@@ -30,6 +30,7 @@ module _ {S C : Type 0} where
     pub clock : new.clock ≡ old.clock
     pub chain : new.chain ≡ old.chain
     pub owed : new.owed ≡ old.owed
+    pub mark : new.mark ≡ old.mark
 
   -- The shelf is only read, and a store at rest stays so.
   pub record OnlyReads (sees : SeesFolder S) (old new : State S C) : Type 0 where

@@ -1,31 +1,30 @@
 //! The write of a command.
 
-ghost use Rattle.std.specs.Prelude.{◌≡◌, ◌-◌, IfErr, IfOk, length, take, ℕ};
+ghost use Rattle.std.specs.Prelude.{◌≡◌, ◌-◌, IfErr, IfOk, length, take, true, ℕ};
 ghost use Rattle.dv_model.specs.Journals.{Log};
 ghost use Rattle.dv_model.specs.Sessions.{IsCommand};
 ghost use Rattle.dv_chain.specs.Openings.{OnlyLooks};
 ghost use Rattle.dv_groups.specs.Changes.{changed_uids};
 ghost use Rattle.dv_groups.specs.Groups.{HasFewKeywords};
-ghost use Rattle.dv_keeping.specs.Debts.{Debt, Fits, Stands};
-ghost use Rattle.dv_keeping.specs.Repairing.{IsOwing};
+ghost use Rattle.dv_writing.specs.Debts.{Debt, Fits, Stands};
+ghost use Rattle.dv_writing.specs.Repairing.{IsOwing};
 ghost use Rattle.dv_plans.specs.Befores.{reads_of};
-ghost use Rattle.dv_plans.specs.Begins.{readings_of};
+ghost use Rattle.dv_plans.specs.Begins.{AtReading, readings_of, received_at, turns};
 ghost use Rattle.dv_plans.specs.Faults.{HasStoreCause};
 ghost use Rattle.dv_plans.specs.declared.fault.StoreFault.TheVariants as fault;
-ghost use Rattle.dv_writes.specs.Steps.{AreSteps};
-ghost use Rattle.dv_writes.specs.Writes.{CarriesOut, IsWriteOf, Write, WritesStore};
-ghost use Rattle.dv_store.specs.Carried.{HasPlan, carried};
+ghost use Rattle.dv_writing.specs.Steps.{AreSteps};
+ghost use Rattle.dv_writing.specs.Ways.{HasTurned, held};
+ghost use Rattle.dv_writing.specs.Writes.{CarriesOut, IsWriteOf, Write, WritesStore};
+ghost use Rattle.dv_store.specs.Carried.{HasPlan, MovesMark, carried};
 ghost use Rattle.dv_store.specs.Commits as commits;
-ghost use Rattle.dv_store.specs.Commits.{Commits, CommitsQuietly, CountsMails, IsIdle, IsUnwritten, TakesReadings, cache_behind, idle_receipt, write_of};
+ghost use Rattle.dv_store.specs.Commits.{Commits, CommitsQuietly, CountsMails, IsIdle, IsUnwritten, Rotates, TakesReadings, cache_behind, idle_receipt, write_at};
 ghost use Rattle.dv_store.specs.Rest.{IsAtRest};
 
 use crate::Store;
 use crate::fault::disk;
 use crate::receipt::Receipt;
-use crate::store::place_of;
 use dv_apply::Live;
 use dv_chain::Chain;
-use dv_commits::Committed;
 use dv_lookups::CacheFile;
 use dv_model::{Bytes, Command, Group, List, Mark};
 use dv_plans::{Plan, StoreFault, make_ready};
@@ -34,7 +33,7 @@ use dv_rotation::Turn;
 use dv_shelf::{Clock, Shelf};
 use dv_touched::Touched;
 use dv_view::View;
-use dv_writes::carry_out;
+use dv_writing::{Committed, carry_out};
 use std::alloc::Global;
 
 /// The UID of an appended message.
@@ -86,6 +85,7 @@ fn write_plan<S: Shelf>(
     chain: &mut Chain,
     shelf: &mut S,
     owed: &mut Option<Turn>,
+    at: &mut Mark,
     plan: Plan,
     uid: Option<u32>,
 ) -> Result<Receipt, StoreFault>
@@ -95,12 +95,15 @@ fn write_plan<S: Shelf>(
     ensures receipt { IfOk result (HasPlan plan uid) }
     ensures value { CarriesOut owed.old owed.new plan.text plan.steps chain.old chain.new
         (carried result) }
+    ensures mark { MovesMark at.old at.new result }
     // What the folder gives and the files, at any moment and afterwards; from rest to rest.
     ensures gives { S.sees.tells → (log : Log) (debt : Debt) (write : Write) → Fits owed.old debt →
         Stands S.sees log debt chain.old shelf.old →
         IsWriteOf log write owed.old chain.old (S.sees.files shelf.old) plan.text plan.steps →
-        WritesStore S.sees log debt write owed.old owed.new
-        plan.text plan.steps chain.old chain.new result shelf.old shelf.new }
+        WritesStore S.sees log debt write plan.text plan.steps
+        (held shelf.old chain.old owed.old) (held shelf.new chain.new owed.new) result }
+    ensures turned { S.sees.tells →
+        HasTurned plan.steps.turn chain.old chain.new (S.sees.files shelf.new) }
     // No message file is read; an error is a failure of the disk, and has its cause.
     ensures err { IfErr result (λ e. e ≡ fault.Disk (S.sees.fault_count shelf.new)) }
     ensures mail_reads { S.sees.mail_reads shelf.new ≡ S.sees.mail_reads shelf.old }
@@ -111,6 +114,7 @@ fn write_plan<S: Shelf>(
     match carry_out(chain, shelf, owed, &text, steps) {
         Ok(committed) => {
             let Committed { mark, touched } = committed;
+            *at = mark;
             Ok(Receipt {
                 mark,
                 uid,
@@ -145,15 +149,20 @@ impl<S: Shelf, C: Clock> Store<S, C> {
         ensures looks { S.sees.tells → IsUnwritten result →
             OnlyLooks S.sees self.old.shelf self.new.shelf }
         // What the folder gives, at any moment and afterwards; from rest to rest.
-        ensures gives { S.sees.tells → C.sees.tells → (log : Log) (debt : Debt) (author : ℕ) →
+        ensures gives { S.sees.tells → AtReading C.sees.tells
+            (received_at (turns self.old.owed self.old.chain) (C.sees.upcoming self.old.clock))
+            (λ received. (log : Log) (debt : Debt) (author : ℕ) →
             IsAtRest S.sees log debt self.old →
-            CommitsQuietly S.sees log debt
-            (write_of author c.now view.now self.old (C.sees.upcoming self.old.clock))
-            self.old self.new result }
-        // The readings of the clock; the message files that are read.
+            CommitsQuietly S.sees log debt (write_at author c.now view.now received)
+            self.old self.new result) }
+        // The readings of the clock, of which the first is that of a log that is rotated; the
+        // message files that are read.
         ensures clock { C.sees.tells →
             TakesReadings (readings_of c.now self.old.owed self.old.chain)
-            (C.sees.upcoming self.old.clock) (C.sees.upcoming self.new.clock) result }
+            (C.sees.upcoming self.old.clock) (C.sees.upcoming self.new.clock) result
+            × (S.sees.tells → turns self.old.owed self.old.chain ≡ true →
+            Rotates (C.sees.upcoming self.old.clock 0) self.old self.new
+            (S.sees.files self.new.shelf)) }
         ensures mail_reads { CountsMails
             (reads_of c.now self.old.chain.live.mailbox
             (changed_uids c.now view.now self.old.chain.live.mailbox))
@@ -173,10 +182,15 @@ impl<S: Shelf, C: Clock> Store<S, C> {
             &mut self.shelf,
             &mut self.clock,
         ) {
-            Ok(Some(plan)) => {
-                write_plan(&mut self.chain, &mut self.shelf, &mut self.owed, plan, uid)
-            }
-            Ok(None) => Ok(idle(self.alloc, place_of(&self.chain), uid)),
+            Ok(Some(plan)) => write_plan(
+                &mut self.chain,
+                &mut self.shelf,
+                &mut self.owed,
+                &mut self.mark,
+                plan,
+                uid,
+            ),
+            Ok(None) => Ok(idle(self.alloc, self.mark, uid)),
             Err(e) => Err(e),
         }
     }

@@ -7,6 +7,7 @@ mod looking;
 mod opening;
 mod planning;
 mod receipt;
+mod sends;
 mod store;
 mod sweeping;
 

@@ -5,7 +5,7 @@ ghost use Rattle.dv_model.specs.declared.types.Reply.{Reply};
 ghost use Rattle.dv_model.specs.Journals.{Log, Mail as Message};
 ghost use Rattle.dv_model.specs.Sessions.{has_uid, reads_mail};
 ghost use Rattle.dv_openings.specs.TrueCaches.{HasTrueCache};
-ghost use Rattle.dv_keeping.specs.Debts.{Debt};
+ghost use Rattle.dv_writing.specs.Debts.{Debt};
 ghost use Rattle.dv_responses.specs.Depth.{IsShallow};
 ghost use Rattle.dv_lookups.specs.Commands.{CanStand, CannotStand, IsNamed, SparesEach, uids_read};
 ghost use Rattle.dv_lookups.specs.Founds.{AreMessages, IsBody, facts_found, field_found, mail_of, sizes_found};

@@ -5,10 +5,10 @@ ghost use Rattle.dv_shelf.specs.Clocks.{behind};
 ghost use Rattle.dv_shelf.specs.Crashes.{IsSettled};
 ghost use Rattle.dv_shelf.specs.Folders.{counted};
 ghost use Rattle.dv_openings.specs.Openings.{IsFound};
-ghost use Rattle.dv_openings.specs.Rebuilds.{stamp_of};
-ghost use Rattle.dv_chain.specs.Creations.{HasNone, IsFirst, IsOldOrCreated, LeavesCreated};
+ghost use Rattle.dv_chain.specs.Creations.{HasNone};
 ghost use Rattle.dv_chain.specs.Openings.{HasCause, IsChainOf, IsOutside, IsQuiet, LeavesFolder, found_of};
-ghost use Rattle.dv_store.specs.Opening.{IsFresh, Opens, OpensQuietly, answered, clock_behind, shelf_behind};
+ghost use Rattle.dv_plans.specs.Begins.{AtReading};
+ghost use Rattle.dv_store.specs.Opening.{IsFresh, MakesNew, Opens, OpensQuietly, answered, clock_behind, shelf_behind};
 
 use crate::Store;
 use crate::store::fresh;
@@ -53,21 +53,14 @@ impl<S: Shelf, C: Clock> Store<S, C> {
         mut shelf: S,
         mut clock: C,
     ) -> Result<Store<S, C>, (S, C, OpenFault)>
-        // The mailbox is a new one, of the clock's reading, and it is found.
-        ensures first { C.sees.tells → IfOk result (λ store.
-            IsFirst (stamp_of (C.sees.upcoming clock 0)) store.chain) }
+        // The mailbox is a new one, of the clock's reading, and it is found. So are the files, and
+        // what a crash leaves of them; from rest to rest.
+        ensures made { AtReading C.sees.tells (C.sees.upcoming clock 0)
+            (MakesNew S.sees shelf result) }
         ensures opens { S.sees.tells → HasNone (S.sees.files shelf) → IfOk result (λ store.
             IsFound (S.sees.files store.shelf) (found_of store.chain)
             × IsChainOf (S.sees.files store.shelf) store.chain) }
         ensures fresh { IfOk result IsFresh }
-        // What it leaves of the files, and what a crash leaves; from rest to rest.
-        ensures files { S.sees.tells → C.sees.tells → LeavesCreated (S.sees.files shelf)
-            (C.sees.upcoming clock 0)
-            (S.sees.files (shelf_behind result)) (answered result) }
-        ensures quiet { S.sees.tells → C.sees.tells → HasNone (S.sees.files shelf) →
-            IsSettled S.sees shelf →
-            OpensQuietly S.sees
-            (λ old. IsOldOrCreated old (C.sees.upcoming clock 0)) shelf result }
         // The clock is read once, and no message file is; a fault of the disk has its cause.
         ensures clock { C.sees.tells →
             C.sees.upcoming (clock_behind result) ≡ behind (C.sees.upcoming clock) 1 }

@@ -4,7 +4,7 @@ use dv_touched::Touched;
 /// What a command wrote.
 #[derive(Drop)]
 pub struct Receipt {
-    /// Where the log ends behind the group.
+    /// The place behind the group, or behind the last one where it has no record.
     pub mark: Mark,
     /// The UID of an appended message.
     pub uid: Option<u32>,

@@ -14,8 +14,8 @@ use std::alloc::Global;
 use std::marker::Model;
 
 /// A mailbox folder that is open, and the clock that its writes are dated by. Contracts see the
-/// folder, the clock, the chain, the turn of a rotation whose last replace is owed, and the cache
-/// file as far as it was read.
+/// folder, the clock, the chain, the turn of a rotation whose last replace is owed, the cache file
+/// as far as it was read, and the place behind the last group.
 #[derive(Drop)]
 pub struct Store<S, C> {
     pub(crate) alloc: Global,
@@ -24,6 +24,7 @@ pub struct Store<S, C> {
     pub(crate) chain: Chain,
     pub(crate) owed: Option<Turn>,
     pub(crate) cache: CacheFile,
+    pub(crate) mark: Mark,
 }
 
 impl<S, C> Model for Store<S, C> {
@@ -31,13 +32,14 @@ impl<S, C> Model for Store<S, C> {
     ghost use Rattle.dv_chain.specs.contracts.chain.Chain as chain_type;
     ghost use Rattle.dv_rotation.specs.contracts.texts.Turn as turn_type;
     ghost use Rattle.dv_lookups.specs.contracts.cache_file.CacheFile as file_type;
-    ghost use Rattle.dv_keeping.specs.Repairing.{IsOwing};
+    ghost use Rattle.dv_model.specs.contracts.types.Mark as mark_type;
+    ghost use Rattle.dv_writing.specs.Repairing.{IsOwing};
     ghost use Rattle.dv_store.specs.States.{State, state_code};
 
     ghost Value = { State S C };
 
     ghost coded = { state_code S.code C.code chain_type.the_row.coded
-        (coded_option turn_type.the_row.coded) file_type.the_row.coded };
+        (coded_option turn_type.the_row.coded) file_type.the_row.coded mark_type.the_row.coded };
 
     ghost view = { λ s. record {
       shelf = s.shelf;
@@ -45,6 +47,7 @@ impl<S, C> Model for Store<S, C> {
       chain = s.chain;
       owed = s.owed;
       cache = s.cache;
+      mark = s.mark;
     } };
 
     ghost invariant = { λ s. IsOwing s.chain s.owed };
@@ -55,6 +58,7 @@ pub(crate) fn fresh<S, C>(alloc: Global, shelf: S, clock: C, chain: Chain) -> St
     requires { HasBounds chain }
     ensures { result ≡ fresh_state shelf clock chain }
 {
+    let mark = place_of(&chain);
     Store {
         alloc,
         shelf,
@@ -62,6 +66,7 @@ pub(crate) fn fresh<S, C>(alloc: Global, shelf: S, clock: C, chain: Chain) -> St
         chain,
         owed: None,
         cache: CacheFile::Unread,
+        mark,
     }
 }
 
@@ -83,8 +88,16 @@ impl<S, C> Store<S, C> {
         &self.chain.live
     }
 
-    /// Where its log ends: the file, and the place there, in bytes.
+    /// The place behind the last group, or where the log ended at first: the file, and the place
+    /// there, in bytes. A rotation that no group followed leaves it as it is.
     pub fn mark(&self) -> Mark
+        ensures { result ≡ self.now.mark }
+    {
+        self.mark
+    }
+
+    /// Where the log ends: the file, and the place there, in bytes.
+    pub fn place(&self) -> Mark
         ensures { result ≡ place_of self.now.chain }
     {
         place_of(&self.chain)

@@ -4,15 +4,15 @@ ghost use Rattle.std.specs.Prelude.{◌≡◌, All, IfErr, OnOk};
 ghost use Rattle.dv_model.specs.Journals.{Log};
 ghost use Rattle.dv_shelf.specs.Causes.{HasCause};
 ghost use Rattle.dv_shelf.specs.declared.shelf.Name.TheVariants as name;
-ghost use Rattle.dv_keeping.specs.Debts.{Debt, Nothing, Stands};
-ghost use Rattle.dv_keeping.specs.Repairing.{IsOwing};
-ghost use Rattle.dv_phases.specs.Quiet.{IsQuiet};
-ghost use Rattle.dv_phases.specs.Removals.{IsFree};
+ghost use Rattle.dv_writing.specs.Debts.{Debt, Nothing, Stands};
+ghost use Rattle.dv_writing.specs.Repairing.{IsOwing};
+ghost use Rattle.dv_writing.specs.Quiet.{IsQuiet};
+ghost use Rattle.dv_writing.specs.Removals.{IsFree};
 ghost use Rattle.dv_plans.specs.Faults.{HasStoreCause};
 ghost use Rattle.dv_plans.specs.declared.fault.StoreFault.TheVariants as fault;
 ghost use Rattle.dv_rotation.specs.Leavings.{IsPut, Leaves, Puts};
 ghost use Rattle.dv_rotation.specs.Texts.{IsSnapshotOf, place_of};
-ghost use Rattle.dv_writes.specs.Ways.{KeepsMails, repaired};
+ghost use Rattle.dv_writing.specs.Ways.{KeepsMails, repaired};
 ghost use Rattle.dv_store.specs.Paying.{HasSnapshot, KeepsLog, OwesNothing, PaysDebts, PaysQuietly, SweepsMails};
 ghost use Rattle.dv_store.specs.Rest.{IsAtRest};
 
@@ -20,12 +20,11 @@ use crate::Store;
 use crate::fault::disk;
 use crate::store::place_of;
 use dv_chain::Chain;
-use dv_keeping::repair;
 use dv_model::{Bytes, List, Mark};
-use dv_phases::clear;
 use dv_plans::StoreFault;
 use dv_rotation::{Turn, checkpoint, snapshot_at};
 use dv_shelf::{Failed, Shelf};
+use dv_writing::{clear, repair};
 
 /// Where the first record of a new log stands.
 const HEADER_SIZE: u32 = 40;

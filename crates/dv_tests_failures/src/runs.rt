@@ -79,7 +79,7 @@ fn sent(alloc: Global, store: &mut MemStore, ask: Ask) -> Result<Answer, Fail> {
 }
 
 fn has_state(store: &MemStore, state: &State) -> bool {
-    is_state(store.live(), store.mark(), state)
+    is_state(store.live(), store.place(), state)
 }
 
 // Whether the mailbox is that of a stage from the first one on, before the last one.
@@ -107,11 +107,12 @@ fn take(
         return Err(Fail::from("no such stage"));
     }
     let mut reached = reached;
+    let mark = store.mark();
     let mut said = sent(alloc, store, ask)?;
     if said == Answer::Failed {
         reached.failed = reached.failed.saturating_add(1);
         reached.last = at;
-        if !is_before(store, stages, reached.first, at) {
+        if !is_before(store, stages, reached.first, at) || store.mark() != mark {
             return Err(Fail::from("a failure changes the mailbox"));
         }
         if !again {
@@ -119,7 +120,10 @@ fn take(
         }
         said = sent(alloc, store, ask)?;
     }
-    if said != Answer::Done || !has_state(store, &stages[at].state) {
+    if said != Answer::Done
+        || !has_state(store, &stages[at].state)
+        || store.mark() != store.place()
+    {
         return Err(Fail::from("another mailbox"));
     }
     reached.first = at;

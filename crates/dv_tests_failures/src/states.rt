@@ -81,8 +81,8 @@ fn are_long(live: &Live, more: u32) -> bool {
 }
 
 /// Whether a mailbox with this end of its log is so.
-pub fn is_state(live: &Live, mark: Mark, state: &State) -> bool {
-    if mark.file_seq != state.file_seq || mark.offset != state.offset {
+pub fn is_state(live: &Live, place: Mark, state: &State) -> bool {
+    if place.file_seq != state.file_seq || place.offset != state.offset {
         return false;
     }
     if live.next_uid() != state.next_uid || live.highest() != state.highest {

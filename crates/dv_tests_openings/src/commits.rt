@@ -1,15 +1,15 @@
 ghost use Rattle.std.specs.Prelude.{◌≡◌, All, IfOk};
 ghost use Rattle.dv_model.specs.Spelling.{IsRecord};
 ghost use Rattle.dv_chain.specs.Openings.{HasBounds};
-ghost use Rattle.dv_commits.specs.Commits.{IsReady};
+ghost use Rattle.dv_writing.specs.Commits.{IsReady};
 
 use dv_apply::Prepared;
 use dv_chain::{Chain, create, open};
-use dv_commits::{commit, heal};
 use dv_logfile::{CommitFault, Debt, group_text};
 use dv_model::{Bytes, Group, List, Mark, Record};
 use dv_records::decode;
 use dv_shelf::MemShelf;
+use dv_writing::{commit, heal};
 use std::alloc::Global;
 use std::test::Fail;
 

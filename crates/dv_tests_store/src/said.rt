@@ -1,11 +1,10 @@
 //! What a store answers.
 
 ghost use Rattle.std.specs.Prelude.{◌≡◌, true};
-ghost use Rattle.dv_phases.specs.Removals.{IsFree};
+ghost use Rattle.dv_writing.specs.Removals.{IsFree};
 
 use dv_apply::Live;
 use dv_asks::{Ask, MemStore, range, write};
-use dv_groups::need;
 use dv_lookups::{BodyFound, FactsFound, FieldFound, SizesFound};
 use dv_model::{Body, Bytes, Command, Group, Item, List, Mark, Record, Reply, Value};
 use dv_plans::StoreFault;
@@ -281,7 +280,7 @@ fn is_planned(
         set: range(alloc, first, last)?,
     };
     let view = View::of(alloc, store.live())?;
-    let bytes = need(alloc, &command, &view, store.live())?;
+    let bytes = store.need(&command, &view)?;
     match store.plan(&command, &view) {
         Ok(group) => Ok(is_plan(&group, bytes, said)),
         Err(fault) => Ok(is_fault(fault, said)),

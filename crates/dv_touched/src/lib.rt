@@ -3,6 +3,7 @@
 
 mod law;
 mod merging;
+mod sends;
 mod touched;
 
 pub use law::only_named_are_touched;

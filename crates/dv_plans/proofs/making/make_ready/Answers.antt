@@ -36,8 +36,8 @@ returns-in-Ok-clause-decides g c = λ guid sizes.
 pub returns-in_err-found-clause-clock : goal.returns-in_err-found-clause-clock
 returns-in_err-found-clause-clock g c = λ tells.
     let p = err_from_is_err_and c.from_residual.result c.from_residual.ensures.1 in
-    rw (p.1, p.2) (readings_none (List ℕ) Plan (readings_of c.args.c.now c.args.owed.now c.args.chain.now) (g.C.Clock.sees.upcoming c.args.clock.now) c.in_err-found.field-0.0 c.in_err-found.ensures.disk)
+    rw (p.1, p.2) ((readings_none (List ℕ) Plan (readings_of c.args.c.now c.args.owed.now c.args.chain.now) (g.C.Clock.sees.upcoming c.args.clock.now) c.in_err-found.field-0.0 c.in_err-found.ensures.disk, tt))
 
 pub returns-clause-clock : goal.returns-clause-clock
 returns-clause-clock g c = λ tells.
-    rw c.chain_fault.ensures (readings_told Plan (readings_of c.args.c.now c.args.owed.now c.args.chain.now) (g.C.Clock.sees.upcoming c.args.clock.now) (g.C.Clock.sees.upcoming c.make_plan.new.clock) c.in-Err.fault (c.in-Err.ensures.clock tells))
+    rw c.chain_fault.ensures ((readings_told Plan (readings_of c.args.c.now c.args.owed.now c.args.chain.now) (g.C.Clock.sees.upcoming c.args.clock.now) (g.C.Clock.sees.upcoming c.make_plan.new.clock) c.in-Err.fault (c.in-Err.ensures.clock tells).0, tt))

@@ -1,11 +1,12 @@
-use Rattle.std.proofs.Common.{ℕ, Bool, List, refl, sym, ◌∙◌, ap, subst}
+use Rattle.std.proofs.Common.{ℕ, ◌+◌, Bool, List, refl, sym, ◌∙◌, ap, subst}
 use Rattle.dv_model.specs.declared.types.GuidRow.{GuidRow}
-use Rattle.dv_model.specs.Sessions.{group_of}
+use Rattle.dv_model.specs.Sessions.{group_of, is_append}
 use Rattle.dv_dbox.specs.Mails.{no_guid}
+use Rattle.dv_shelf.specs.Clocks.{behind}
 use Rattle.dv_rotation.specs.Texts.{place_of}
-use Rattle.dv_plans.specs.Begins.{received_at, turns}
+use Rattle.dv_plans.specs.Begins.{count_of, received_at, turns}
 use Rattle.dv_plans.specs.Groups.{AreFound}
-use Rattle.dv_plans.proofs.Made.{files_at, plan_made, plans_each, read_at}
+use Rattle.dv_plans.proofs.Made.{dated_at, files_at, plan_made, plans_each, read_at, turned_at}
 use Rattle.dv_plans.proofs.Passed.{few_rows, passes}
 use Rattle.dv_plans.proofs.Planned.{all_found}
 use Rattle.dv_plans.proofs.plan.make_plan.Goals as goal
@@ -35,7 +36,7 @@ returns-clause-steps g c =
     (λ view guid changed removed. c.in_ok-written.ensures.group view guid changed (c.as_slice.ensures ∙ removed))
 
 pub returns-clause-write : goal.returns-clause-write
-returns-clause-write g c = λ tells reads.
+returns-clause-write g c = λ tells.
     let S = g.S.Shelf in
     let command = c.args.c.now in
     let chain = c.args.chain.now in
@@ -44,22 +45,29 @@ returns-clause-write g c = λ tells reads.
     let before = c.in_ok-before.before in
     let old = c.args.shelf.now in
     let upcoming : ℕ → ℕ = g.C.Clock.sees.upcoming c.args.clock.now in
-    plans_each command c.args.view.now chain c.args.uids.now owed times before c.requires.command c.have_bounds.ensures.ordered c.have_bounds.ensures.valid c.have_bounds.ensures.resets
-    c.requires.found c.requires.written (c.read_times-times.ensures.turn ∙ c.is_turn_due.ensures) c.in_ok-before.ensures.is c.write_group.new.live c.write_group.ensures.mailbox c.in_ok-written.written c.in_ok-written.ensures.ready
-    (λ view guid changed removed. c.in_ok-written.ensures.group view guid changed (c.as_slice.ensures ∙ removed))
-    (S.sees.files old) (S.sees.files c.read_before.new.shelf) (received_at (turns owed chain) upcoming)
-    (read_at command c.args.uids.now chain times.received (received_at (turns owed chain) upcoming) (S.sees.files old) before
-    (λ append. c.read_times-times.ensures.received reads (c.is_append.ensures ∙ append) ∙ ap (λ (b : Bool). received_at b upcoming) c.is_turn_due.ensures) (c.in_ok-before.ensures.read tells))
-    (c.in_ok-before.ensures.looks tells).same
+    let known = received_at (turns owed chain) upcoming in
+    let dated = dated_at g.C.Clock.sees.tells (is_append command) times.received known
+    (λ reads append. c.read_times-times.ensures.received reads (c.is_append.ensures ∙ append) ∙ ap (λ (b : Bool). received_at b upcoming) c.is_turn_due.ensures) in
+    let read = c.in_ok-before.ensures.read tells in
+    record {
+      at = dated.at;
+      clock = dated.clock;
+      is = record {
+        each = plans_each command c.args.view.now chain c.args.uids.now owed times before c.requires.command c.have_bounds.ensures.ordered c.have_bounds.ensures.valid c.have_bounds.ensures.resets
+            c.requires.found c.requires.written (c.read_times-times.ensures.turn ∙ c.is_turn_due.ensures) c.in_ok-before.ensures.is c.write_group.new.live c.write_group.ensures.mailbox c.in_ok-written.written c.in_ok-written.ensures.ready
+            (λ view guid changed removed. c.in_ok-written.ensures.group view guid changed (c.as_slice.ensures ∙ removed))
+            (S.sees.files old) (S.sees.files c.read_before.new.shelf) dated.at
+            (read_at command c.args.uids.now chain times.received dated.at (S.sees.files old) before dated.is read)
+            (c.in_ok-before.ensures.looks tells).same;
+        files = files_at command chain times.received dated.at (S.sees.files old) before.files dated.is read.files;
+      };
+    }
 
-pub returns-clause-files : goal.returns-clause-files
-returns-clause-files g c = λ tells reads.
-    let S = g.S.Shelf in
-    let command = c.args.c.now in
-    let chain = c.args.chain.now in
-    let owed = c.args.owed.now in
-    let times = c.read_times-times.result in
-    let before = c.in_ok-before.before in
+pub returns-clause-clock : goal.returns-clause-clock
+returns-clause-clock g c = λ tells.
     let upcoming : ℕ → ℕ = g.C.Clock.sees.upcoming c.args.clock.now in
-    files_at command chain times.received (received_at (turns owed chain) upcoming) (S.sees.files c.args.shelf.now) before.files
-    (λ append. c.read_times-times.ensures.received reads (c.is_append.ensures ∙ append) ∙ ap (λ (b : Bool). received_at b upcoming) c.is_turn_due.ensures) (c.in_ok-before.ensures.read tells).files
+    let due = c.is_turn_due.ensures in
+    let times = c.read_times-times in (
+      times.ensures.clock tells ∙ ap (λ (b : Bool). behind upcoming (count_of b + count_of c.is_append.result)) due ∙ ap (λ (b : Bool). behind upcoming (count_of (turns c.args.owed.now c.args.chain.now) + count_of b)) c.is_append.ensures,
+      turned_at c.args.chain.now times.result.turn c.in_ok-before.before.turn (upcoming 0) c.in_ok-before.ensures.is.made c.in_ok-before.ensures.is.turn (times.ensures.time tells),
+    )

@@ -5,7 +5,7 @@ use Rattle.dv_model.specs.declared.types.GuidRow.{GuidRow}
 use Rattle.dv_model.specs.declared.types.Mark.{Mark}
 use Rattle.dv_model.specs.Journals.{IsGuid}
 use Rattle.dv_formats.specs.Snapshots.{IsSnapshot}
-use Rattle.dv_writes.specs.Ways.{IsDue}
+use Rattle.dv_writing.specs.Ways.{IsDue}
 use Rattle.dv_plans.specs.Begins.{beginning}
 use Rattle.dv_plans.proofs.Planned.{check_for}
 use Rattle.dv_plans.proofs.Readied.{due_of}
@@ -33,5 +33,6 @@ returns-clause-is g c = λ uids.
       };
       turn = c.in_ok-turn.ensures.is.0;
       due = due;
+      made = c.in_ok-turn.ensures.new;
       files = check_for owed turn chain c.in_ok-gone.gone c.in_ok-index.index due c.in_ok-gone.ensures.free snapshot;
     }

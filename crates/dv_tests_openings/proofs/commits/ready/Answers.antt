@@ -5,7 +5,7 @@ use Rattle.dv_model.specs.declared.types.Record.{Record}
 use Rattle.dv_model.specs.Effects.{applied}
 use Rattle.dv_logfile.specs.Layout.{longest_log}
 use Rattle.dv_apply.specs.Preparing.{Makes}
-use Rattle.dv_commits.proofs.Ready.{made_ready}
+use Rattle.dv_writing.proofs.ReadyGroups.{made_ready}
 use Rattle.dv_tests_openings.proofs.commits.ready.Goals as goal
 
 pub returns-clause-ready : goal.returns-clause-ready

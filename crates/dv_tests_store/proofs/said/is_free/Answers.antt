@@ -2,7 +2,7 @@ use Rattle.std.proofs.Common.{◌≡◌, ◌∙◌, Bool, not, true, false, Opti
 use Rattle.std.specs.Prelude.{is_none, is_some}
 use Rattle.std.proofs.lemmas.Bool.{not-true}
 use Rattle.dv_model.specs.Sessions.{has_uid}
-use Rattle.dv_phases.proofs.Listing.{free_place}
+use Rattle.dv_writing.proofs.Listing.{free_place}
 use Rattle.dv_tests_store.proofs.said.is_free.Goals as goal
 
 none_is : {X : Type 0} (o : Option X) (free : Bool) → is_some o ≡ not free → free ≡ is_none o

@@ -25,7 +25,7 @@ returns-clause-found g c = λ told same truth mail are.
     let reads = c.requires.reads in
     let numbers = c.in_ok-picked.picked.numbers in
     let ready = ok_gives (IsSought key view) c.new.result c.in_ok-sought.sought (sym c.in_memory.ensures ∙ c.in_ok-sought.was) c.new.ensures in
-    let took = ok_gives (λ u. c.take.new.self ≡ with lines (reply.Search numbers ∷ [])) c.take.result c.in_ok-in_memory.field-0 (sym c.in_memory-2.ensures ∙ c.in_ok-in_memory.was) c.take.ensures in (
+    let took = ok_gives (λ u. c.take.new.self ≡ with lines (reply.Search numbers ∷ [])) c.take.result c.in_ok-in_memory.field-0 (sym c.in_memory-2.ensures ∙ c.in_ok-in_memory.was) c.take.ensures.ok in (
       took ∙ ap (λ (ns : List ℕ). with lines (reply.Search ns ∷ [])) (c.in_ok-picked.ensures.numbers told same truth key ready c.requires.asks ∙ numbers_same folder m mail are key view by_uid)
           ∙ ap (with lines) (told_of mail by_uid key view m []),
       c.in_ok-picked.ensures.damaged told same truth ∙ damaged_are folder m mail are (command.Search by_uid key) view (uids_of (numbered view)) (search_reads by_uid key view reads) reads,

@@ -1,5 +1,5 @@
 use Rattle.std.proofs.lemmas.Result.{err_from_is_err_and}
-use Rattle.dv_writes.proofs.Making.{repair_mails}
+use Rattle.dv_writing.proofs.Making.{repair_mails}
 use Rattle.dv_store.proofs.Paid.{pays_done, pays_failed, pays_halted, pays_nothing}
 use Rattle.dv_store.proofs.store.Store.checkpoint.Goals as goal
 

@@ -1,6 +1,6 @@
 use Rattle.std.proofs.Common.{subst}
 use Rattle.dv_store.specs.Paying.{KeepsLog}
-use Rattle.dv_writes.proofs.Making.{repair_mails}
+use Rattle.dv_writing.proofs.Making.{repair_mails}
 use Rattle.dv_store.proofs.Paid.{pays_done, pays_failed, pays_halted}
 use Rattle.dv_store.proofs.Swept.{mails_halted, mails_swept, swept_cache, swept_log}
 use Rattle.dv_store.proofs.store.Store.sweep.Goals.{in-Ok-clear, in-Err-clear}

@@ -1,5 +1,0 @@
-use Rattle.dv_commits.proofs.Resting.{kept_is_opened}
-use Rattle.dv_commits.proofs.laws.opened_is_kept.Goals as goal
-
-pub returns : goal.returns
-returns c = λ kept opened folder owes rest of found. kept_is_opened kept opened folder owes rest of found

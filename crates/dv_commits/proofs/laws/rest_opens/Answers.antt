@@ -1,5 +1,0 @@
-use Rattle.dv_commits.proofs.Resting.{may_open}
-use Rattle.dv_commits.proofs.laws.rest_opens.Goals as goal
-
-pub returns : goal.returns
-returns c = λ owed chain folder bounds owes rest. may_open owed chain folder owes rest

@@ -1,4 +1,0 @@
-pub mod Kept
-pub mod Resting
-pub mod Repaired
-pub mod Turned

@@ -1,6 +1,0 @@
-use Rattle.std.proofs.Common.{◌≡◌, take}
-use Rattle.dv_phases.specs.Removals.{uids_in}
-use Rattle.dv_phases.proofs.removals.gone_uids.Given as goal
-
-abbrev pub invariant-loop-name : goal.invariant-loop-name
-invariant-loop-name l = l.uids ≡ uids_in l.fn.live.mailbox (take l.name-index l.names)

@@ -1,3 +1,0 @@
-pub mod Ways
-pub mod Steps
-pub mod Writes

@@ -1,0 +1,15 @@
+pub mod Opening
+pub mod Commits
+pub mod Keeping
+pub mod Debts
+pub mod Laws
+pub mod Repairing
+pub mod Turning
+pub mod Quiet
+pub mod Removals
+pub mod Renewals
+pub mod Groups
+pub mod GroupLaws
+pub mod Ways
+pub mod Steps
+pub mod Writes

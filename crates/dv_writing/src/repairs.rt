@@ -1,0 +1,54 @@
+//! What an earlier write left is repaired before the next one.
+
+ghost use Rattle.std.specs.Prelude.{◌≡◌, None, IsOk};
+ghost use Rattle.dv_model.specs.Journals.{Log};
+ghost use Rattle.dv_shelf.specs.Causes.{HasCause};
+ghost use Rattle.dv_logfile.specs.declared.commit.Debt.TheVariants as log_debt;
+ghost use Rattle.dv_writing.specs.Debts.{Debt, Fits, Stands};
+ghost use Rattle.dv_writing.specs.Repairing.{IsOwing, KeepsTurn, Repairs, RepairsFiles};
+ghost use Rattle.dv_writing.specs.Repairing.{RepairsQuietly};
+
+use crate::heal;
+use dv_chain::Chain;
+use dv_rotation::{Turn, finish};
+use dv_shelf::{Failed, Shelf};
+
+/// Takes back the group that a failed commit may have left, or makes the last replace of a rotation
+/// again, whichever is owed. Takes no memory. After `Failed` the same is still owed. A crash at any
+/// moment leaves a folder that gives the mailbox, or that with what was owed.
+pub fn repair<S: Shelf>(
+    chain: &mut Chain,
+    shelf: &mut S,
+    turn: &mut Option<Turn>,
+) -> Result<(), Failed>
+    requires { IsOwing chain.old turn.old }
+    // The chain and the turn, also behind an error. Where nothing is owed nothing is done.
+    ensures value { Repairs turn.old turn.new chain.old chain.new result }
+    ensures nothing { turn.old ≡ None → chain.old.log.debt ≡ log_debt.None →
+        IsOk result × (shelf.new ≡ shelf.old) }
+    // The files as reads give them.
+    ensures files { S.sees.tells →
+        RepairsFiles turn.old chain.old.log result (S.sees.files shelf.old)
+        (S.sees.files shelf.new) }
+    // Where no turn was owed, one that was made before may still be used.
+    ensures turns { S.sees.tells → turn.old ≡ None → (made : Turn) →
+        KeepsTurn made chain.old chain.new result (S.sees.files shelf.old)
+        (S.sees.files shelf.new) }
+    // What a crash leaves, at any moment and afterwards; from rest to rest.
+    ensures quiet { S.sees.tells → (log : Log) (due : Debt) → Fits turn.old due →
+        Stands S.sees log due chain.old shelf.old →
+        RepairsQuietly S.sees log due
+        chain.old chain.new result shelf.old shelf.new }
+    // No message file is read; an error has its cause.
+    ensures mail_reads { S.sees.mail_reads shelf.new ≡ S.sees.mail_reads shelf.old }
+    ensures cause { HasCause (S.sees.fault_count shelf.old) (S.sees.fault_count shelf.new) result }
+{
+    match turn {
+        Some(made) => {
+            finish(chain, shelf, made)?;
+            *turn = None;
+            Ok(())
+        }
+        None => heal(chain, shelf),
+    }
+}
