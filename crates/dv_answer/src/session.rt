@@ -12,6 +12,7 @@ ghost use Rattle.dv_responses.specs.Supplied.{AreSupplied};
 ghost use Rattle.dv_answer.specs.Answers.{IsAnswered};
 ghost use Rattle.dv_answer.specs.Following.{IsAbreast, Leads, Tracks, new_follower, untold};
 ghost use Rattle.dv_answer.specs.Refusing.{own_refusal};
+ghost use Rattle.dv_view.specs.Taken.{HasTaken};
 
 use crate::fresh::{fresh_of, retain_untold};
 use crate::numbers::missing_number;
@@ -133,7 +134,8 @@ impl Session {
 
     /// Shows the whole mailbox anew, behind so many entries of the log, and adds the lines of that
     /// (RFC 3501, section 6.3.1) and then this last one. After `NoMemory`, which is the only error,
-    /// the session is as before. The time is in proportion to the rows.
+    /// the session is as before, and some lines may have been added. The time is in proportion to
+    /// the rows.
     pub fn select<R: Replies>(
         &mut self,
         live: &Live,
@@ -152,6 +154,8 @@ impl Session {
         ensures touched { OnOk result (self.new.touched ≡ []) }
         ensures abreast { OnOk result (IsAbreast live.now.mailbox self.new) }
         ensures err { OnErr result (self.new ≡ self.old) }
+        // What was taken before is kept.
+        ensures replies { OnErr result (HasTaken R.with replies.old replies.new) }
     {
         let view = View::of(self.alloc, live)?;
         add_select_lines(self.alloc, live, &view, replies)?;
@@ -165,8 +169,8 @@ impl Session {
 
     /// Moves the view on to the mailbox, behind so many entries of the log, and adds what is told
     /// of the move, and then this last line. After `NoMemory`, which is the only error, the session
-    /// is as before. The time is that of the touched UIDs and of the lines; only where rows leave
-    /// are all gone through.
+    /// is as before, and some lines may have been added. The time is that of the touched UIDs and
+    /// of the lines; only where rows leave are all gone through.
     pub fn move_on<R: Replies>(
         &mut self,
         live: &Live,
@@ -188,6 +192,8 @@ impl Session {
             ≡ untold live.now.mailbox self.new.state.view self.old.touched) }
         ensures abreast { OnOk result (IsAbreast live.now.mailbox self.new) }
         ensures err { OnErr result (self.new ≡ self.old) }
+        // What was taken before is kept.
+        ensures replies { OnErr result (HasTaken R.with replies.old replies.new) }
     {
         let fresh = fresh_of(self.alloc, live, self.touched.uids())?;
         let next_uid = live.next_uid();
@@ -206,9 +212,9 @@ impl Session {
     /// Answers a command that isn't refused, behind so many entries of the log and at this place of
     /// it: adds the data lines, what is told of the move to the mailbox, and the last line (RFC
     /// 3501, sections 6 and 7). The facts are those of the messages that the command reads. After
-    /// `NoMemory`, which is the only error, the session is as before. The time is that of the
-    /// touched UIDs, of the rows that a set names, and of the lines; SELECT and SEARCH go through
-    /// all rows, and so does a move behind which rows have left.
+    /// `NoMemory`, which is the only error, the session is as before, and some lines may have been
+    /// added. The time is that of the touched UIDs, of the rows that a set names, and of the lines;
+    /// SELECT and SEARCH go through all rows, and so does a move behind which rows have left.
     pub fn answer<R: Responses>(
         &mut self,
         c: &Command,
@@ -231,6 +237,10 @@ impl Session {
             (answer mail self.old.state c.now met_mailbox told live.now.mailbox mark)) }
         ensures abreast { OnOk result (IsAbreast live.now.mailbox self.new) }
         ensures err { OnErr result (self.new ≡ self.old) }
+        // What was taken before is kept, where these are the facts of messages.
+        ensures replies { (mail : ℕ → Message)
+            → AreSupplied mail c.now self.old.state.view live.now.mailbox facts.now
+            → OnErr result (HasTaken R.with replies.old replies.new) }
     {
         let looked_at = uids_looked_at(self.alloc, c, &self.view)?;
         let uids = looked_at.as_slice();
@@ -245,7 +255,8 @@ impl Session {
     /// at this place of it, where its data lines were taken before: adds what is told of the move
     /// to the mailbox, and the last line (RFC 3501, section 7). The damaged UIDs are those of the
     /// messages that the command reads. After `NoMemory`, which is the only error, the session is
-    /// as before. The time is that of `answer` without the data lines.
+    /// as before, and some lines may have been added. The time is that of `answer` without the data
+    /// lines.
     pub fn finish<R: Responses>(
         &mut self,
         c: &Command,
@@ -269,6 +280,8 @@ impl Session {
             (answer mail self.old.state c.now met_mailbox told live.now.mailbox mark)) }
         ensures abreast { OnOk result (IsAbreast live.now.mailbox self.new) }
         ensures err { OnErr result (self.new ≡ self.old) }
+        // What was taken before is kept.
+        ensures replies { OnErr result (HasTaken R.with replies.old replies.new) }
     {
         let gone = gone_uid(self.alloc, c, &self.view, live)?;
         let last = ending(c, gone, damaged, live, met, mark);

@@ -11,7 +11,6 @@ pub mod KeyWords
 pub mod KeyTrees
 pub mod CommandTexts
 pub mod PrintedKeys
-pub mod PrintedFlags
 pub mod PrintedCommands
 pub mod Plain
 pub mod AppendTexts

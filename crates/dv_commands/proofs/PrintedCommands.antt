@@ -9,7 +9,7 @@ use Rattle.dv_model.specs.Texts.{spaced}
 use Rattle.dv_formats.specs.Printing.{command_text, flags_text, item_text, modifier_text, set_text, sought_text}
 use Rattle.dv_formats.specs.Scripts.{IsCommand, IsItem, IsModifier, uid_text}
 use Rattle.dv_sets.proofs.Reread.{printed_set}
-use Rattle.dv_commands.proofs.PrintedFlags.{flags_printed}
+use Rattle.dv_sets.proofs.PrintedFlags.{flags_printed}
 use Rattle.dv_commands.proofs.PrintedKeys.{sought_printed}
 
 item_printed : (one : Item) (b : List ℕ) → IsItem one b → IsItem one (item_text one)

@@ -1,4 +1,4 @@
-ghost use Rattle.std.specs.Prelude.{◌≡◌, ◌≤◌, ℕ, All, List, IfOk, OnOk, Option, Some, cond, flat_map, length, map, slice_get};
+ghost use Rattle.std.specs.Prelude.{◌≡◌, ◌≤◌, ℕ, All, List, IfOk, OnErr, OnOk, Option, Some, cond, flat_map, length, map, slice_get};
 ghost use Rattle.std.specs.Option.{option_copied};
 ghost use Rattle.dv_model.specs.declared.types.Command.TheVariants as command;
 ghost use Rattle.dv_model.specs.Journals.{Mail as Message};
@@ -8,6 +8,7 @@ ghost use Rattle.dv_responses.specs.Asked.{names_in};
 ghost use Rattle.dv_responses.specs.Fetched.{AreFetched, HasValue, lines_from, no_facts};
 ghost use Rattle.dv_responses.specs.Rows.{IsNumber, rows_at};
 ghost use Rattle.dv_responses.specs.Supplied.{AreSupplied, DescribesItems, Supplies};
+ghost use Rattle.dv_view.specs.Taken.{HasTaken};
 
 use crate::Responses;
 use crate::kinds::reads_messages;
@@ -110,10 +111,11 @@ fn add_line<R: Responses>(
     facts: Option<&MailFacts>,
     lines: &mut R,
 ) -> Result<(), NoMemory>
-    ensures { (message : Option (List ℕ))
+    ensures ok { (message : Option (List ℕ))
         → Supplies (DescribesItems items.now) message (option_copied facts.entry)
         → OnOk result (lines.new ≡ R.with lines.old
         (lines_from live.now.mailbox items.now (number, s.now) message)) }
+    ensures err { OnErr result (lines.new ≡ lines.old) }
 {
     match facts {
         Some(facts) => lines.take_fetch(alloc, live, number, s, items, facts),
@@ -144,10 +146,13 @@ fn add_lines<R: Responses>(
     lines: &mut R,
 ) -> Result<(), NoMemory>
     requires { All (IsNumber rows.now) numbers.now }
-    ensures { (mail : ℕ → Message) → AreFetched mail live.now.mailbox items.now facts.now
+    ensures ok { (mail : ℕ → Message) → AreFetched mail live.now.mailbox items.now facts.now
         (rows_at rows.now numbers.now)
         → OnOk result (lines.new ≡ R.with lines.old
         (flat_map (fetch_lines mail live.now.mailbox items.now) (rows_at rows.now numbers.now))) }
+    ensures err { (mail : ℕ → Message) → AreFetched mail live.now.mailbox items.now facts.now
+        (rows_at rows.now numbers.now)
+        → OnErr result (HasTaken R.with lines.old lines.new) }
 {
     let reads = reads_messages(items);
     let none = MailFacts {
@@ -165,7 +170,8 @@ fn add_lines<R: Responses>(
 }
 
 /// Adds the FETCH line of each row that the set names, but of those whose message is read and isn't
-/// there (RFC 3501, section 7.4.2).
+/// there (RFC 3501, section 7.4.2). After `NoMemory`, which is the only error, some may have been
+/// added.
 pub fn add_fetch_lines<R: Responses>(
     alloc: Global,
     by_uid: bool,
@@ -176,10 +182,12 @@ pub fn add_fetch_lines<R: Responses>(
     facts: &Mail,
     lines: &mut R,
 ) -> Result<(), NoMemory>
-    ensures { (mail : ℕ → Message) → AreSupplied mail (command.Fetch by_uid set.now items.now)
+    ensures ok { (mail : ℕ → Message) → AreSupplied mail (command.Fetch by_uid set.now items.now)
         view.now live.now.mailbox facts.now
         → OnOk result (lines.new ≡ R.with lines.old
         (data_of mail (command.Fetch by_uid set.now items.now) view.now live.now.mailbox)) }
+    ensures err { (mail : ℕ → Message) → AreSupplied mail (command.Fetch by_uid set.now items.now)
+        view.now live.now.mailbox facts.now → OnErr result (HasTaken R.with lines.old lines.new) }
 {
     let numbers = named(alloc, by_uid, set, view)?;
     let rows = view.rows().as_slice();

@@ -1,7 +1,8 @@
-ghost use Rattle.std.specs.Prelude.{◌≡◌, OnOk};
+ghost use Rattle.std.specs.Prelude.{◌≡◌, OnErr, OnOk};
 ghost use Rattle.dv_model.specs.declared.types.Command.TheVariants as command;
 ghost use Rattle.dv_model.specs.Sessions.{told_of};
 ghost use Rattle.dv_model.specs.Views.{empty_view};
+ghost use Rattle.dv_view.specs.Taken.{HasTaken};
 
 use dv_apply::Live;
 use dv_model::{NoMemory, Reply};
@@ -9,15 +10,17 @@ use dv_view::{Replies, View, add_changes};
 use std::alloc::Global;
 
 /// Adds what SELECT says of the mailbox that the view now shows: EXISTS, UIDVALIDITY and UIDNEXT
-/// (RFC 3501, section 6.3.1), and then the flags of each message. `NoMemory` is the only error.
+/// (RFC 3501, section 6.3.1), and then the flags of each message. After `NoMemory`, which is the
+/// only error, some of it may have been added.
 pub fn add_select_lines<R: Replies>(
     alloc: Global,
     live: &Live,
     view: &View,
     lines: &mut R,
 ) -> Result<(), NoMemory>
-    ensures { OnOk result (lines.new ≡ R.with lines.old
+    ensures ok { OnOk result (lines.new ≡ R.with lines.old
         (told_of command.Select live.now.mailbox empty_view view.now)) }
+    ensures err { OnErr result (HasTaken R.with lines.old lines.new) }
 {
     let rows = view.rows().as_slice();
     lines.take(Reply::Exists(rows.len() as u32))?;

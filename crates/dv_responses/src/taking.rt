@@ -1,6 +1,6 @@
 //! Where the lines of a FETCH go.
 
-ghost use Rattle.std.specs.Prelude.{◌≡◌, ◌∷◌, [], ℕ, List as Listed, OnOk};
+ghost use Rattle.std.specs.Prelude.{◌≡◌, ◌∷◌, [], ℕ, List as Listed, OnErr, OnOk};
 ghost use Rattle.dv_model.specs.Sessions.{fetch_line};
 ghost use Rattle.dv_responses.specs.Supplied.{DescribesItems};
 
@@ -14,7 +14,8 @@ use std::alloc::Global;
 /// What takes the replies to any command, the lines of a FETCH among them.
 pub trait Responses: Replies {
     /// Takes the FETCH line of a row of this number (RFC 3501, section 7.4.2), with the value of
-    /// each item, where that is known of the message. `NoMemory` is the only error.
+    /// each item, where that is known of the message. After `NoMemory`, which is the only error, it
+    /// is as before.
     fn take_fetch(
         &mut self,
         alloc: Global,
@@ -24,9 +25,10 @@ pub trait Responses: Replies {
         items: &[Item],
         facts: &MailFacts,
     ) -> Result<(), NoMemory>
-        ensures { (message : Listed ℕ) → DescribesItems items.now message facts.now →
+        ensures ok { (message : Listed ℕ) → DescribesItems items.now message facts.now →
             OnOk result (self.new ≡ Self.with self.old
-            (fetch_line live.now.mailbox items.now (number, s.now) message ∷ [])) };
+            (fetch_line live.now.mailbox items.now (number, s.now) message ∷ [])) }
+        ensures err { OnErr result (self.new ≡ self.old) };
 }
 
 impl Responses for List<Reply> {

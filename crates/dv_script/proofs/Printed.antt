@@ -9,7 +9,7 @@ use Rattle.dv_formats.specs.Printing.{command_text, flags_text, line_text, scrip
 use Rattle.dv_formats.specs.Scripts.{AreEnded, AreFlags, IsCommand, IsLine, IsLiteral, IsPiece, IsSession, IsShortLine, NamedLine, Piece, line_limit, pieces_lines, pieces_text}
 use Rattle.dv_formats.specs.Parsing.{parsed}
 use Rattle.dv_commands.proofs.PrintedCommands.{command_printed}
-use Rattle.dv_commands.proofs.PrintedFlags.{flags_printed}
+use Rattle.dv_sets.proofs.PrintedFlags.{flags_printed}
 use Rattle.dv_grammar.proofs.GrammarScripts.{script_read}
 use Rattle.dv_script.specs.Printed.{ArePrintable, HasText, IsPrintable, head_text}
 

@@ -4,3 +4,4 @@ pub mod Rests
 pub mod Opened
 pub mod Printed
 pub mod Fetches
+pub mod Extending

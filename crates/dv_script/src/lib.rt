@@ -9,6 +9,7 @@ mod printing;
 mod reply;
 mod script;
 mod script_lines;
+mod sends;
 mod types;
 mod value;
 

@@ -1,5 +1,6 @@
-ghost use Rattle.std.specs.Prelude.{◌≡◌, ◌++◌, decimal, flat_map, IfOk, OnOk};
+ghost use Rattle.std.specs.Prelude.{◌≡◌, ◌++◌, decimal, flat_map, IfOk, OnErr, OnOk};
 ghost use Rattle.dv_formats.specs.Printing.{flags_text, set_text};
+ghost use Rattle.dv_script.specs.Extending.{Extends};
 
 use dv_model::{Bytes, List, NoMemory, Span};
 use dv_sets::{print_flags, print_set};
@@ -16,21 +17,24 @@ pub fn decimal_text(alloc: Global, n: u64) -> Result<Bytes, NoMemory>
 }
 
 pub(crate) fn put(text: &mut Bytes, bytes: &[u8]) -> Result<(), NoMemory>
-    ensures { OnOk result (text.new ≡ text.old ++ bytes.now) }
+    ensures ok { OnOk result (text.new ≡ text.old ++ bytes.now) }
+    ensures err { OnErr result (Extends text.old text.new) }
 {
     text.extend(bytes)?;
     Ok(())
 }
 
 pub(crate) fn put_number(text: &mut Bytes, n: u64) -> Result<(), NoMemory>
-    ensures { OnOk result (text.new ≡ text.old ++ decimal n) }
+    ensures ok { OnOk result (text.new ≡ text.old ++ decimal n) }
+    ensures err { OnErr result (Extends text.old text.new) }
 {
     let mut buffer = Buffer::new();
     put(text, buffer.format(n).as_bytes())
 }
 
 pub(crate) fn put_before(text: &mut Bytes, before: &[u8], n: u64) -> Result<(), NoMemory>
-    ensures { OnOk result (text.new ≡ text.old ++ (before.now ++ decimal n)) }
+    ensures ok { OnOk result (text.new ≡ text.old ++ (before.now ++ decimal n)) }
+    ensures err { OnErr result (Extends text.old text.new) }
 {
     put(text, before)?;
     put_number(text, n)
@@ -42,7 +46,8 @@ pub(crate) fn put_around(
     n: u64,
     behind: &[u8],
 ) -> Result<(), NoMemory>
-    ensures { OnOk result (text.new ≡ text.old ++ (before.now ++ decimal n ++ behind.now)) }
+    ensures ok { OnOk result (text.new ≡ text.old ++ (before.now ++ decimal n ++ behind.now)) }
+    ensures err { OnErr result (Extends text.old text.new) }
 {
     put_before(text, before, n)?;
     put(text, behind)
@@ -50,8 +55,9 @@ pub(crate) fn put_around(
 
 // Each number behind the same bytes.
 pub(crate) fn put_numbers(text: &mut Bytes, before: &[u8], numbers: &[u32]) -> Result<(), NoMemory>
-    ensures { OnOk result
+    ensures ok { OnOk result
         (text.new ≡ text.old ++ flat_map (λ n. before.now ++ decimal n) numbers.now) }
+    ensures err { OnErr result (Extends text.old text.new) }
 {
     for number in numbers {
         put_before(text, before, *number as u64)?;

@@ -1,6 +1,7 @@
-ghost use Rattle.std.specs.Prelude.{◌≡◌, ◌++◌, codes, flat_map, IfOk, OnOk};
+ghost use Rattle.std.specs.Prelude.{◌≡◌, ◌++◌, codes, flat_map, IfOk, OnErr, OnOk};
 ghost use Rattle.dv_model.specs.Texts.{line_text, reply_text, given_text, modified_text, mark_text, word_text};
 ghost use Rattle.dv_model.specs.declared.types.Reply.TheVariants.{Fetch, Search, Done, Gone, Damaged};
+ghost use Rattle.dv_script.specs.Extending.{Extends};
 ghost use Rattle.dv_script.specs.Fetches.{fetch_end, fetch_front, numbered};
 
 use crate::pieces::{put, put_around, put_before, put_number, put_numbers};
@@ -39,7 +40,8 @@ pub fn mark_text(alloc: Global, mark: Mark) -> Result<Bytes, NoMemory>
 
 /// Adds the line of a reply. `NoMemory` is the only error.
 pub fn put_line(text: &mut Bytes, session: &[u8], reply: &Reply) -> Result<(), NoMemory>
-    ensures { OnOk result (text.new ≡ text.old ++ line_text session.now reply.now) }
+    ensures ok { OnOk result (text.new ≡ text.old ++ line_text session.now reply.now) }
+    ensures err { OnErr result (Extends text.old text.new) }
 {
     put_session(text, session)?;
     put_reply(text, reply)?;
@@ -48,7 +50,8 @@ pub fn put_line(text: &mut Bytes, session: &[u8], reply: &Reply) -> Result<(), N
 
 /// Adds the line of a FETCH up to its values. `NoMemory` is the only error.
 pub fn begin_fetch(text: &mut Bytes, session: &[u8], number: u32, uid: u32) -> Result<(), NoMemory>
-    ensures { OnOk result (text.new ≡ text.old ++ fetch_front session.now number uid) }
+    ensures ok { OnOk result (text.new ≡ text.old ++ fetch_front session.now number uid) }
+    ensures err { OnErr result (Extends text.old text.new) }
 {
     put_session(text, session)?;
     put_numbered(text, number, uid)
@@ -56,13 +59,15 @@ pub fn begin_fetch(text: &mut Bytes, session: &[u8], number: u32, uid: u32) -> R
 
 /// Adds what stands in the line of a FETCH behind its values. `NoMemory` is the only error.
 pub fn end_fetch(text: &mut Bytes) -> Result<(), NoMemory>
-    ensures { OnOk result (text.new ≡ text.old ++ fetch_end) }
+    ensures ok { OnOk result (text.new ≡ text.old ++ fetch_end) }
+    ensures err { OnErr result (Extends text.old text.new) }
 {
     put(text, b")\n")
 }
 
 fn put_session(text: &mut Bytes, session: &[u8]) -> Result<(), NoMemory>
-    ensures { OnOk result (text.new ≡ text.old ++ (session.now ++ codes " ")) }
+    ensures ok { OnOk result (text.new ≡ text.old ++ (session.now ++ codes " ")) }
+    ensures err { OnErr result (Extends text.old text.new) }
 {
     put(text, session)?;
     put(text, b" ")
@@ -70,14 +75,16 @@ fn put_session(text: &mut Bytes, session: &[u8]) -> Result<(), NoMemory>
 
 // A FETCH up to its values.
 fn put_numbered(text: &mut Bytes, number: u32, uid: u32) -> Result<(), NoMemory>
-    ensures { OnOk result (text.new ≡ text.old ++ numbered number uid) }
+    ensures ok { OnOk result (text.new ≡ text.old ++ numbered number uid) }
+    ensures err { OnErr result (Extends text.old text.new) }
 {
     put_around(text, b"* ", number as u64, b" FETCH (UID ")?;
     put_number(text, uid as u64)
 }
 
 fn put_reply(text: &mut Bytes, reply: &Reply) -> Result<(), NoMemory>
-    ensures { OnOk result (text.new ≡ text.old ++ reply_text reply.now) }
+    ensures ok { OnOk result (text.new ≡ text.old ++ reply_text reply.now) }
+    ensures err { OnErr result (Extends text.old text.new) }
 {
     match reply {
         Reply::Exists(n) => put_around(text, b"* ", *n as u64, b" EXISTS"),
@@ -111,7 +118,8 @@ fn put_reply(text: &mut Bytes, reply: &Reply) -> Result<(), NoMemory>
 }
 
 fn put_fetch(text: &mut Bytes, number: u32, uid: u32, values: &List<Value>) -> Result<(), NoMemory>
-    ensures { OnOk result (text.new ≡ text.old ++ reply_text (Fetch number uid values.now)) }
+    ensures ok { OnOk result (text.new ≡ text.old ++ reply_text (Fetch number uid values.now)) }
+    ensures err { OnErr result (Extends text.old text.new) }
 {
     put_numbered(text, number, uid)?;
     put_values(text, values.as_slice())?;
@@ -119,7 +127,8 @@ fn put_fetch(text: &mut Bytes, number: u32, uid: u32, values: &List<Value>) -> R
 }
 
 fn put_search(text: &mut Bytes, numbers: &List<u32>) -> Result<(), NoMemory>
-    ensures { OnOk result (text.new ≡ text.old ++ reply_text (Search numbers.now)) }
+    ensures ok { OnOk result (text.new ≡ text.old ++ reply_text (Search numbers.now)) }
+    ensures err { OnErr result (Extends text.old text.new) }
 {
     put(text, b"* SEARCH")?;
     put_numbers(text, b" ", numbers.as_slice())
@@ -132,8 +141,9 @@ fn put_done(
     appended: Option<(u32, u32)>,
     modified: &List<u32>,
 ) -> Result<(), NoMemory>
-    ensures { OnOk result
+    ensures ok { OnOk result
         (text.new ≡ text.old ++ reply_text (Done word mark appended modified.now)) }
+    ensures err { OnErr result (Extends text.old text.new) }
 {
     put(text, b"OK ")?;
     put_given(text, appended)?;
@@ -145,7 +155,8 @@ fn put_done(
 }
 
 fn put_given(text: &mut Bytes, given: Option<(u32, u32)>) -> Result<(), NoMemory>
-    ensures { OnOk result (text.new ≡ text.old ++ given_text given) }
+    ensures ok { OnOk result (text.new ≡ text.old ++ given_text given) }
+    ensures err { OnErr result (Extends text.old text.new) }
 {
     let Some((validity, uid)) = given else {
         return Ok(());
@@ -156,7 +167,8 @@ fn put_given(text: &mut Bytes, given: Option<(u32, u32)>) -> Result<(), NoMemory
 }
 
 fn put_modified(text: &mut Bytes, numbers: &List<u32>) -> Result<(), NoMemory>
-    ensures { OnOk result (text.new ≡ text.old ++ modified_text numbers.now) }
+    ensures ok { OnOk result (text.new ≡ text.old ++ modified_text numbers.now) }
+    ensures err { OnErr result (Extends text.old text.new) }
 {
     let Some((first, others)) = numbers.as_slice().split_first() else {
         return Ok(());
@@ -167,7 +179,8 @@ fn put_modified(text: &mut Bytes, numbers: &List<u32>) -> Result<(), NoMemory>
 }
 
 fn put_mark(text: &mut Bytes, mark: Mark) -> Result<(), NoMemory>
-    ensures { OnOk result (text.new ≡ text.old ++ mark_text mark) }
+    ensures ok { OnOk result (text.new ≡ text.old ++ mark_text mark) }
+    ensures err { OnErr result (Extends text.old text.new) }
 {
     put_around(text, b"MARK ", mark.file_seq as u64, b":")?;
     put_number(text, mark.offset as u64)
@@ -193,7 +206,8 @@ fn word_text(word: Word) -> &'static [u8]
 }
 
 fn put_gone(text: &mut Bytes, uid: u32, mark: Mark, modified: &List<u32>) -> Result<(), NoMemory>
-    ensures { OnOk result (text.new ≡ text.old ++ reply_text (Gone uid mark modified.now)) }
+    ensures ok { OnOk result (text.new ≡ text.old ++ reply_text (Gone uid mark modified.now)) }
+    ensures err { OnErr result (Extends text.old text.new) }
 {
     put(text, b"NO [EXPUNGEISSUED] ")?;
     put_modified(text, modified)?;
@@ -202,7 +216,8 @@ fn put_gone(text: &mut Bytes, uid: u32, mark: Mark, modified: &List<u32>) -> Res
 }
 
 fn put_damaged(text: &mut Bytes, uid: u32, mark: Mark) -> Result<(), NoMemory>
-    ensures { OnOk result (text.new ≡ text.old ++ reply_text (Damaged uid mark)) }
+    ensures ok { OnOk result (text.new ≡ text.old ++ reply_text (Damaged uid mark)) }
+    ensures err { OnErr result (Extends text.old text.new) }
 {
     put_around(text, b"NO [CORRUPTION] UID ", uid as u64, b" ")?;
     put_mark(text, mark)

@@ -9,3 +9,4 @@ pub mod Words
 pub mod Reread
 pub mod Joins
 pub mod Known
+pub mod PrintedFlags

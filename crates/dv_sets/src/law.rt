@@ -1,6 +1,6 @@
 ghost use Rattle.std.specs.Prelude.{◌≡◌, ℕ, List};
 ghost use Rattle.dv_model.specs.declared.types.Span.{Span};
-ghost use Rattle.dv_formats.specs.Printing.{set_text};
+ghost use Rattle.dv_formats.specs.Printing.{flags_text, set_text};
 ghost use Rattle.dv_formats.specs.Scripts.{AreFlags, IsSet};
 
 /// A text is of one set.
@@ -20,4 +20,11 @@ pub fn one_flags()
         → AreFlags flags keywords b
         → AreFlags bits names b
         → (flags ≡ bits) × (keywords ≡ names) }
+{}
+
+/// What is printed of flags and keywords that a text names is a text of the same, so that they are
+/// read back.
+pub fn written_flags_are_read()
+    ensures { (flags : ℕ) (keywords : List (List ℕ)) (b : List ℕ) → AreFlags flags keywords b
+        → AreFlags flags keywords (flags_text flags keywords) }
 {}

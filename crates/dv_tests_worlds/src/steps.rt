@@ -2,14 +2,17 @@
 
 ghost use Rattle.std.specs.Prelude.{All, IfOk, OnOk};
 ghost use Rattle.dv_model.specs.Sessions.{IsCommand};
-ghost use Rattle.dv_world.specs.Shapes.{IsNamed};
+ghost use Rattle.dv_responses.specs.Depth.{IsShallow};
+ghost use Rattle.dv_world.specs.Shapes.{IsPlayable};
 
-use dv_model::{Bytes, Command, End, How, Item, List, NoMemory, Span};
+use dv_model::{Bytes, Command, End, How, Item, Key, List, NoMemory, Span};
 use dv_world::{Event, World, run_events};
 use std::alloc::Global;
 
 // When each message is received, in seconds.
 const RECEIVED: u32 = 1000;
+
+const SEEN: u8 = 0x08;
 
 /// What a session asks for.
 #[derive(Clone, Copy)]
@@ -25,6 +28,8 @@ pub enum Ask {
     Flags,
     /// The text of the first message.
     Text,
+    /// The messages that were seen.
+    Seen,
 }
 
 /// What happens next.
@@ -58,7 +63,8 @@ fn first(alloc: Global) -> Result<List<Span>, NoMemory> {
 }
 
 fn fetch(alloc: Global, item: Item) -> Result<Command, NoMemory>
-    ensures { IfOk result IsCommand }
+    ensures command { IfOk result IsCommand }
+    ensures shallow { IfOk result IsShallow }
 {
     let mut items = List::new(alloc);
     items.push(item)?;
@@ -70,7 +76,8 @@ fn fetch(alloc: Global, item: Item) -> Result<Command, NoMemory>
 }
 
 fn append(alloc: Global, flags: u8, message: &[u8]) -> Result<Command, NoMemory>
-    ensures { IfOk result IsCommand }
+    ensures command { IfOk result IsCommand }
+    ensures shallow { IfOk result IsShallow }
 {
     Ok(Command::Append {
         flags,
@@ -80,7 +87,8 @@ fn append(alloc: Global, flags: u8, message: &[u8]) -> Result<Command, NoMemory>
 }
 
 fn store(alloc: Global, flags: u8, unchanged_since: Option<u64>) -> Result<Command, NoMemory>
-    ensures { IfOk result IsCommand }
+    ensures command { IfOk result IsCommand }
+    ensures shallow { IfOk result IsShallow }
 {
     Ok(Command::Store {
         by_uid: false,
@@ -93,7 +101,8 @@ fn store(alloc: Global, flags: u8, unchanged_since: Option<u64>) -> Result<Comma
 }
 
 fn command_of(alloc: Global, ask: Ask) -> Result<Command, NoMemory>
-    ensures { IfOk result IsCommand }
+    ensures command { IfOk result IsCommand }
+    ensures shallow { IfOk result IsShallow }
 {
     match ask {
         Ask::Select => Ok(Command::Select),
@@ -103,54 +112,58 @@ fn command_of(alloc: Global, ask: Ask) -> Result<Command, NoMemory>
         Ask::Store(flags, unchanged_since) => store(alloc, flags, unchanged_since),
         Ask::Flags => fetch(alloc, Item::Flags),
         Ask::Text => fetch(alloc, Item::Body),
+        Ask::Seen => Ok(Command::Search {
+            by_uid: false,
+            key: Key::Has(SEEN),
+        }),
     }
 }
 
 // One more event.
 fn add(events: &mut List<Event>, event: Event) -> Result<(), NoMemory>
-    requires before { All IsNamed events.old }
-    requires named { IsNamed event }
-    ensures { OnOk result (All IsNamed events.new) }
+    requires before { All IsPlayable events.old }
+    requires playable { IsPlayable event }
+    ensures { OnOk result (All IsPlayable events.new) }
 {
     events.push(event)?;
     Ok(())
 }
 
 fn write(alloc: Global, events: &mut List<Event>, session: u32, ask: Ask) -> Result<(), NoMemory>
-    requires { All IsNamed events.old }
-    ensures { OnOk result (All IsNamed events.new) }
+    requires { All IsPlayable events.old }
+    ensures { OnOk result (All IsPlayable events.new) }
 {
     let command = command_of(alloc, ask)?;
     add(events, Event::Write(session, command, RECEIVED))
 }
 
 fn tell(alloc: Global, events: &mut List<Event>, session: u32, ask: Ask) -> Result<(), NoMemory>
-    requires { All IsNamed events.old }
-    ensures { OnOk result (All IsNamed events.new) }
+    requires { All IsPlayable events.old }
+    ensures { OnOk result (All IsPlayable events.new) }
 {
     let command = command_of(alloc, ask)?;
     add(events, Event::Tell(session, command))
 }
 
 fn begin(alloc: Global, events: &mut List<Event>, session: u32) -> Result<(), NoMemory>
-    requires { All IsNamed events.old }
-    ensures { OnOk result (All IsNamed events.new) }
+    requires { All IsPlayable events.old }
+    ensures { OnOk result (All IsPlayable events.new) }
 {
     add(events, Event::Open(session))?;
     tell(alloc, events, session, Ask::Select)
 }
 
 fn publish(events: &mut List<Event>) -> Result<(), NoMemory>
-    requires { All IsNamed events.old }
-    ensures { OnOk result (All IsNamed events.new) }
+    requires { All IsPlayable events.old }
+    ensures { OnOk result (All IsPlayable events.new) }
 {
     add(events, Event::Sync)?;
     add(events, Event::Publish)
 }
 
 fn commit(alloc: Global, events: &mut List<Event>, session: u32, ask: Ask) -> Result<(), NoMemory>
-    requires { All IsNamed events.old }
-    ensures { OnOk result (All IsNamed events.new) }
+    requires { All IsPlayable events.old }
+    ensures { OnOk result (All IsPlayable events.new) }
 {
     write(alloc, events, session, ask)?;
     publish(events)?;
@@ -160,8 +173,8 @@ fn commit(alloc: Global, events: &mut List<Event>, session: u32, ask: Ask) -> Re
 
 // The events of a step.
 fn take(alloc: Global, events: &mut List<Event>, step: Step) -> Result<(), NoMemory>
-    requires { All IsNamed events.old }
-    ensures { OnOk result (All IsNamed events.new) }
+    requires { All IsPlayable events.old }
+    ensures { OnOk result (All IsPlayable events.new) }
 {
     match step {
         Step::Begin(session) => begin(alloc, events, session),
@@ -176,8 +189,8 @@ fn take(alloc: Global, events: &mut List<Event>, step: Step) -> Result<(), NoMem
 }
 
 fn take_all(alloc: Global, events: &mut List<Event>, steps: &[Step]) -> Result<(), NoMemory>
-    requires { All IsNamed events.old }
-    ensures { OnOk result (All IsNamed events.new) }
+    requires { All IsPlayable events.old }
+    ensures { OnOk result (All IsPlayable events.new) }
 {
     for step in steps {
         take(alloc, events, *step)?;

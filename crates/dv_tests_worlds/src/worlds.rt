@@ -220,3 +220,31 @@ const CROSSING: Case = Case {
 fn writes_cross(rt: HostRuntime) -> Result<(), Fail> {
     play(rt.alloc(), &CROSSING)
 }
+
+const SEARCHED_1: &[u8] = b"a * 0 EXISTS\n\
+    a * OK [UIDVALIDITY 1000]\n\
+    a * OK [UIDNEXT 1]\n\
+    a OK [MARK 1:56] SELECT\n\
+    a * 1 EXISTS\n\
+    a * 1 FETCH (UID 1 FLAGS (\\Seen))\n\
+    a OK [APPENDUID 1000 1] [MARK 1:72] APPEND\n\
+    a * SEARCH 1\n\
+    a OK [MARK 1:72] SEARCH\n";
+
+const SEARCHED: Case = Case {
+    steps: &[
+        Step::Begin(1),
+        Step::Commit(1, Ask::Append(8, b"x")),
+        Step::Tell(1, Ask::Seen),
+    ],
+    others: &[],
+    count: 1,
+    is_pending: false,
+    first: Some(SEARCHED_1),
+    second: None,
+};
+
+#[test]
+fn search_is_answered(rt: HostRuntime) -> Result<(), Fail> {
+    play(rt.alloc(), &SEARCHED)
+}

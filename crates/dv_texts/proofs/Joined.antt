@@ -1,6 +1,6 @@
 -- A text in pieces is written piece by piece, and cut.
 use Rattle.std.proofs.Common.{◌≡◌, ℕ, ◌+◌, ◌-◌, ◌<◌, ◌≤◌, List, [], ◌∷◌, ◌++◌, Result, Ok, Err, length, get_or, take, drop, append_assoc, sym, ◌∙◌, ap, subst, arith}
-use Rattle.std.specs.Prelude.{OnErr, OnOk}
+use Rattle.std.specs.Prelude.{OnErr}
 use Rattle.std.proofs.Math.Seq.{take-append-add, take-append_seam}
 use Rattle.std.proofs.lemmas.Grind.{flat_map-append}
 use Rattle.std.proofs.lemmas.List.{append-nil, length-append, take-append-drop, take-append-le, take_more}
@@ -78,7 +78,3 @@ pub line_taken : (session pieces text line new : List ℕ) → new ≡ text ++ l
 line_taken session pieces text line new is =
     ap (lines_of session)
     (ap (λ (t : List ℕ). pieces ++ t) is ∙ sym (append_assoc pieces text line) ∙ ap (λ (t : List ℕ). (pieces ++ text) ++ t) (sym (append-nil line)))
-
-pub on_ok : {A E P Q : Type 0} (result : Result A E) → OnOk result P → (P → Q) → OnOk result Q
-on_ok (Ok a) holds then = then holds
-on_ok (Err e) holds then = tt

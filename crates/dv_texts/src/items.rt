@@ -1,11 +1,12 @@
 //! The values of a FETCH as text, each behind a space, straight from what is known of a message.
 
-ghost use Rattle.std.specs.Prelude.{◌≡◌, ◌++◌, ◌∷◌, ℕ, List, OnOk, Option, Some, flat_map, map, slice_get};
+ghost use Rattle.std.specs.Prelude.{◌≡◌, ◌++◌, ◌∷◌, ℕ, List, OnOk, OnErr, Option, Some, flat_map, map, slice_get};
 ghost use Rattle.dv_model.specs.declared.types.Value.TheVariants.{Body, Field, Flags};
 ghost use Rattle.dv_model.specs.Sessions.{value_of};
 ghost use Rattle.dv_model.specs.Texts.{value_text};
 ghost use Rattle.dv_responses.specs.Fetched.{HasValue};
 ghost use Rattle.dv_responses.specs.Supplied.{DescribesItems};
+ghost use Rattle.dv_script.specs.Extending.{Extends};
 ghost use Rattle.dv_view.specs.Tells.{names_at};
 
 use dv_apply::Live;
@@ -24,8 +25,9 @@ pub(crate) fn put_flags(
     names: &Table,
     s: &Shown,
 ) -> Result<(), NoMemory>
-    ensures { OnOk result (text.new ≡ text.old
+    ensures ok { OnOk result (text.new ≡ text.old
         ++ 32 ∷ value_text (Flags s.now.flags (names_at names.now.names s.now.keywords))) }
+    ensures err { OnErr result (Extends text.old text.new) }
 {
     let keywords = names_at(alloc, names, s.keywords.as_slice())?;
     let flags = Value::Flags(s.flags, keywords);
@@ -34,8 +36,9 @@ pub(crate) fn put_flags(
 
 // Adds the message's bytes, where they are known.
 fn put_known_body(text: &mut Bytes, facts: &MailFacts) -> Result<(), NoMemory>
-    ensures { (message : List ℕ) → facts.now.body ≡ Some message
+    ensures ok { (message : List ℕ) → facts.now.body ≡ Some message
         → OnOk result (text.new ≡ text.old ++ 32 ∷ value_text (Body message)) }
+    ensures grows { Extends text.old text.new }
 {
     match &facts.body {
         Some(body) => put_body(text, body),
@@ -45,9 +48,10 @@ fn put_known_body(text: &mut Bytes, facts: &MailFacts) -> Result<(), NoMemory>
 
 // Adds the name and the value of a field that is known, so many others before it.
 fn put_known_field(text: &mut Bytes, facts: &MailFacts, field: usize) -> Result<(), NoMemory>
-    ensures { (name : List ℕ) (value : Option (List ℕ))
+    ensures ok { (name : List ℕ) (value : Option (List ℕ))
         → slice_get facts.now.fields field ≡ Some (name, value)
         → OnOk result (text.new ≡ text.old ++ 32 ∷ value_text (Field name value)) }
+    ensures grows { Extends text.old text.new }
 {
     match facts.fields.as_slice().get(field) {
         Some((name, value)) => put_field(text, name, value),
@@ -65,9 +69,10 @@ fn put_item(
     facts: &MailFacts,
     field: usize,
 ) -> Result<(), NoMemory>
-    ensures { (message : List ℕ) → HasValue message facts.now field item.now
+    ensures ok { (message : List ℕ) → HasValue message facts.now field item.now
         → OnOk result (text.new ≡ text.old
         ++ 32 ∷ value_text (value_of live.now.mailbox s.now message item.now)) }
+    ensures grows { Extends text.old text.new }
 {
     match item {
         Item::Flags => put_flags(alloc, text, live.names(), s),
@@ -87,9 +92,10 @@ pub(crate) fn put_items(
     items: &[Item],
     facts: &MailFacts,
 ) -> Result<(), NoMemory>
-    ensures { (message : List ℕ) → DescribesItems items.now message facts.now
+    ensures ok { (message : List ℕ) → DescribesItems items.now message facts.now
         → OnOk result (text.new ≡ text.old ++ flat_map (λ v. 32 ∷ value_text v)
         (map (value_of live.now.mailbox s.now message) items.now)) }
+    ensures grows { Extends text.old text.new }
 {
     let mut field = 0;
     for item in items {

@@ -5,5 +5,6 @@ mod items;
 mod lines;
 mod pieces;
 mod reply_text;
+mod sends;
 
 pub use reply_text::ReplyText;

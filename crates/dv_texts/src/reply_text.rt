@@ -5,13 +5,12 @@ ghost use Rattle.std.specs.Prelude.{◌≡◌, ◌++◌, [], OnOk, length};
 ghost use Rattle.dv_shelf.specs.Causes.{HasCause};
 ghost use Rattle.dv_shelf.specs.Streams.{Appends, AppendsFront};
 
-use crate::lines::{put_fetch_line, put_flags_line};
+use crate::lines::{add_fetch_line, add_flags_line, add_line};
 use crate::pieces::{cut_pieces, write_pieces};
 use dv_apply::Live;
 use dv_keywords::Table;
 use dv_model::{Bytes, Item, NoMemory, Reply, Shown};
 use dv_responses::Responses;
-use dv_script::put_line;
 use dv_search::MailFacts;
 use dv_shelf::{Failed, Sink};
 use dv_view::Replies;
@@ -107,7 +106,7 @@ impl ReplyText {
 
     // Begins another piece where the last one is whole.
     fn settle(&mut self) -> Result<(), NoMemory>
-        ensures { OnOk result (self.new ≡ self.old) }
+        ensures { self.new ≡ self.old }
     {
         if self.text.len() < PIECE {
             return Ok(());
@@ -117,8 +116,9 @@ impl ReplyText {
             return Err(NoMemory);
         }
         let next = Bytes::from_vec(Vec::with_capacity(self.alloc, PIECE_ROOM)?);
+        self.pieces.reserve(1)?;
         let piece = mem::replace(&mut self.text, next);
-        self.pieces.push(piece)?;
+        self.pieces.push_reserved(piece);
         self.whole = whole;
         Ok(())
     }
@@ -136,6 +136,7 @@ impl Replies for ReplyText {
     ghost more = { λ t a b. more_taken t a b };
 
     fn expect(&mut self, replies: usize, bytes: usize) -> Result<(), NoMemory> {
+        self.settle()?;
         let line = self.session.len().saturating_add(AROUND);
         let room = replies
             .saturating_add(1)
@@ -145,8 +146,8 @@ impl Replies for ReplyText {
     }
 
     fn take(&mut self, reply: Reply) -> Result<(), NoMemory> {
-        put_line(&mut self.text, self.session.as_slice(), &reply)?;
-        self.settle()
+        self.settle()?;
+        add_line(self.alloc, &mut self.text, self.session.as_slice(), &reply)
     }
 
     fn take_flags(
@@ -156,9 +157,9 @@ impl Replies for ReplyText {
         number: u32,
         s: &Shown,
     ) -> Result<(), NoMemory> {
+        self.settle()?;
         let session = self.session.as_slice();
-        put_flags_line(alloc, &mut self.text, session, names, number, s)?;
-        self.settle()
+        add_flags_line(alloc, &mut self.text, session, names, number, s)
     }
 
     fn length(&self) -> usize {
@@ -185,9 +186,10 @@ impl Responses for ReplyText {
         items: &[Item],
         facts: &MailFacts,
     ) -> Result<(), NoMemory> {
+        self.settle()?;
         self.make_room(facts)?;
         let session = self.session.as_slice();
-        put_fetch_line(
+        add_fetch_line(
             alloc,
             &mut self.text,
             session,
@@ -196,7 +198,6 @@ impl Responses for ReplyText {
             s,
             items,
             facts,
-        )?;
-        self.settle()
+        )
     }
 }

@@ -9,3 +9,4 @@ pub mod Placing
 mod Renewing
 pub mod Rising
 mod Passing
+pub mod TakenMore

@@ -4,3 +4,4 @@ pub mod Laws
 pub mod Orders
 pub mod Tells
 pub mod Told
+pub mod Taken

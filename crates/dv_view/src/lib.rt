@@ -10,6 +10,7 @@ mod laws;
 mod moves;
 mod places;
 mod replies;
+mod sends;
 mod taking;
 mod telling;
 mod view;

@@ -1,6 +1,6 @@
 //! Where the replies of an answer go.
 
-ghost use Rattle.std.specs.Prelude.{◌≡◌, ◌++◌, ◌∷◌, [], ℕ, List as Listed, OnOk, length};
+ghost use Rattle.std.specs.Prelude.{◌≡◌, ◌++◌, ◌∷◌, [], ℕ, List as Listed, OnErr, OnOk, length};
 ghost use Rattle.dv_model.specs.declared.types.Reply.{Reply as Said};
 ghost use Rattle.dv_view.specs.Tells.{fetch_of};
 
@@ -23,12 +23,14 @@ pub trait Replies {
     fn expect(&mut self, replies: usize, bytes: usize) -> Result<(), NoMemory>
         ensures { self.new ≡ self.old };
 
-    /// Takes a reply. `NoMemory` is the only error.
+    /// Takes a reply. After `NoMemory`, which is the only error, it is as before.
     fn take(&mut self, reply: Reply) -> Result<(), NoMemory>
-        ensures { OnOk result (self.new ≡ with self.old (reply ∷ [])) };
+        ensures ok { OnOk result (self.new ≡ with self.old (reply ∷ [])) }
+        ensures err { OnErr result (self.new ≡ self.old) };
 
     /// Takes the FETCH with UID and flags of a row of this number, whose keywords have names in
-    /// this table (RFC 3501, section 7.4.2). `NoMemory` is the only error.
+    /// this table (RFC 3501, section 7.4.2). After `NoMemory`, which is the only error, it is as
+    /// before.
     fn take_flags(
         &mut self,
         alloc: Global,
@@ -36,8 +38,9 @@ pub trait Replies {
         number: u32,
         s: &Shown,
     ) -> Result<(), NoMemory>
-        ensures { OnOk result
-            (self.new ≡ with self.old (fetch_of names.now.names (number, s.now) ∷ [])) };
+        ensures ok { OnOk result
+            (self.new ≡ with self.old (fetch_of names.now.names (number, s.now) ∷ [])) }
+        ensures err { OnErr result (self.new ≡ self.old) };
 
     /// How long it is, which `cut` goes by.
     fn length(&self) -> usize

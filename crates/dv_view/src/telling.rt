@@ -1,10 +1,11 @@
-ghost use Rattle.std.specs.Prelude.{◌≡◌, ◌∷◌, ◌+◌, ◌<◌, ◌≤◌, ◌^◌, IfOk, OnOk, List, drop, length, map, option_to_list};
+ghost use Rattle.std.specs.Prelude.{◌≡◌, ◌∷◌, ◌+◌, ◌<◌, ◌≤◌, ◌^◌, IfOk, OnErr, OnOk, List, drop, length, map, option_to_list};
 ghost use Rattle.dv_model.specs.declared.types.Reply.TheVariants as reply;
 ghost use Rattle.dv_model.specs.declared.types.Shown.{Shown as Given};
 ghost use Rattle.dv_model.specs.declared.types.Step.TheVariants.{Full};
 ghost use Rattle.dv_view.specs.Following.{AreGiven, rows_after};
 ghost use Rattle.dv_view.specs.Told.{GoesOn, IsPlace, IsToldTo, row_of, tells, without};
 ghost use Rattle.dv_view.specs.Orders.{AreRising};
+ghost use Rattle.dv_view.specs.Taken.{HasTaken};
 ghost use Rattle.dv_view.specs.Tells.{fetch_of, removals_of, said_of};
 
 use crate::Replies;
@@ -15,8 +16,9 @@ use dv_model::{Fresh, NoMemory, Reply, Shown, Step};
 use std::alloc::Global;
 
 fn add_expunge<R: Replies>(number: Option<u32>, said: &mut R) -> Result<(), NoMemory>
-    ensures { OnOk result (said.new
+    ensures ok { OnOk result (said.new
         ≡ R.with said.old (map (λ n. reply.Expunge n) (option_to_list number))) }
+    ensures err { OnErr result (said.new ≡ said.old) }
 {
     if let Some(number) = number {
         said.take(Reply::Expunge(number))?;
@@ -28,8 +30,9 @@ fn add_expunge<R: Replies>(number: Option<u32>, said: &mut R) -> Result<(), NoMe
 fn add_lost<R: Replies>(rows: &[Shown], fresh: &[Fresh], said: &mut R) -> Result<(), NoMemory>
     requires rising { AreRising rows.now }
     requires given { AreGiven fresh.now }
-    ensures { OnOk result (said.new
+    ensures ok { OnOk result (said.new
         ≡ R.with said.old (removals_of (rows_after Full rows.now fresh.now) rows.now)) }
+    ensures err { OnErr result (HasTaken R.with said.old said.new) }
 {
     let mut at = fresh.len();
     while at > 0 {
@@ -48,8 +51,9 @@ fn lost<R: Replies>(
 ) -> Result<(), NoMemory>
     requires rising { AreRising rows.now }
     requires given { AreGiven fresh.now }
-    ensures { OnOk result (said.new
+    ensures ok { OnOk result (said.new
         ≡ R.with said.old (removals_of (rows_after step rows.now fresh.now) rows.now)) }
+    ensures err { OnErr result (HasTaken R.with said.old said.new) }
 {
     match step {
         Step::Held => Ok(()),
@@ -192,8 +196,9 @@ fn add_told<R: Replies>(
     told: &[Told<'_>],
     said: &mut R,
 ) -> Result<(), NoMemory>
-    ensures { OnOk result (said.new
+    ensures ok { OnOk result (said.new
         ≡ R.with said.old (map (λ t. fetch_of names.now.names (row_of t)) told.now)) }
+    ensures err { OnErr result (HasTaken R.with said.old said.new) }
 {
     for t in told {
         said.take_flags(alloc, names, t.number, t.row)?;
@@ -201,7 +206,8 @@ fn add_told<R: Replies>(
     Ok(())
 }
 
-/// Adds what is said of the changes by a step.
+/// Adds what is said of the changes by a step. After `NoMemory`, which is the only error, some of
+/// it may have been added.
 pub fn add_said_by<R: Replies>(
     alloc: Global,
     names: &Table,
@@ -213,8 +219,9 @@ pub fn add_said_by<R: Replies>(
     requires rising { AreRising rows.now }
     requires given { AreGiven fresh.now }
     requires count { length (rows_after step rows.now fresh.now) < 2 ^ 32 }
-    ensures { OnOk result (said.new ≡ R.with said.old
+    ensures ok { OnOk result (said.new ≡ R.with said.old
         (said_of names.now.names rows.now (rows_after step rows.now fresh.now))) }
+    ensures err { OnErr result (HasTaken R.with said.old said.new) }
 {
     lost(rows, fresh, step, said)?;
     let told = tell_all(alloc, rows, fresh, step)?;

@@ -6,6 +6,7 @@ ghost use Rattle.dv_model.specs.declared.types.Step.TheVariants.{Full};
 ghost use Rattle.dv_model.specs.declared.types.Mailbox.{Mailbox};
 ghost use Rattle.dv_view.specs.Following.{IsPatched, rows_after};
 ghost use Rattle.dv_view.specs.Orders.{IsOrdered};
+ghost use Rattle.dv_view.specs.Taken.{HasTaken};
 
 use crate::Replies;
 use crate::following::follow;
@@ -89,7 +90,8 @@ impl View {
     }
 
     /// Moves on to a mailbox, and adds what the session is told of it. After `NoMemory`, which is
-    /// the only error, the view is as before. The time is in proportion to the rows of both.
+    /// the only error, the view is as before, and some of it may have been added. The time is in
+    /// proportion to the rows of both.
     pub fn advance<R: Replies>(
         &mut self,
         live: &Live,
@@ -103,6 +105,8 @@ impl View {
         ensures said { OnOk result (replies.new ≡ R.with replies.old
             (said live.now.mailbox self.old (moved step self.old live.now.mailbox))) }
         ensures err { OnErr result (self.new ≡ self.old) }
+        // What was said before is kept.
+        ensures replies { OnErr result (HasTaken R.with replies.old replies.new) }
     {
         let next_uid = live.next_uid();
         let rows = moved_rows(self.alloc, live, self.rows.as_slice(), self.next_uid, step)?;
@@ -118,8 +122,9 @@ impl View {
         Ok(())
     }
 
-    /// Adds what the session is told of changes that are given by UID. The view stays. `NoMemory`
-    /// is the only error. The time is in proportion to the changes.
+    /// Adds what the session is told of changes that are given by UID. The view stays. After
+    /// `NoMemory`, which is the only error, some of it may have been added. The time is in
+    /// proportion to the changes.
     pub fn add_said_by<R: Replies>(
         &self,
         next_uid: u32,
@@ -130,9 +135,11 @@ impl View {
     ) -> Result<(), NoMemory>
         requires { AreFresh self.now next_uid (length names.now.names) fresh.now }
         // To whatever mailbox the changes lead, just the view's move to it is said.
-        ensures { OnOk result ((m : Mailbox)
+        ensures said { OnOk result ((m : Mailbox)
             → IsPatched self.now next_uid names.now.names fresh.now m
             → replies.new ≡ R.with replies.old (said m self.now (moved step self.now m))) }
+        // What was said before is kept.
+        ensures replies { HasTaken R.with replies.old replies.new }
     {
         add_said_by(
             self.alloc,
@@ -169,7 +176,8 @@ impl View {
     }
 
     /// Moves on by changes that are given by UID, without a look at the mailbox, and adds what the
-    /// session is told of it, as `add_said_by` and `follow` do.
+    /// session is told of it, as `add_said_by` and `follow` do. After `NoMemory`, which is the only
+    /// error, the view is as before, and some of it may have been added.
     pub fn advance_by<R: Replies>(
         &mut self,
         next_uid: u32,
@@ -192,6 +200,8 @@ impl View {
             → IsPatched self.old next_uid names.now.names fresh m
             → replies.new ≡ R.with replies.old (said m self.old (moved step self.old m))) }
         ensures err { OnErr result (self.new ≡ self.old) }
+        // What was said before is kept.
+        ensures replies { OnErr result (HasTaken R.with replies.old replies.new) }
     {
         self.add_said_by(next_uid, &fresh, names, step, replies)?;
         self.follow(next_uid, fresh, step)

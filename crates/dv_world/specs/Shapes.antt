@@ -7,6 +7,7 @@ use Rattle.dv_model.specs.Journals.{Log, Mail, Held, Damaged}
 use Rattle.dv_model.specs.Sessions.{State, IsCommand}
 use Rattle.dv_interleavings.specs.Worlds.{World, Session, Pending, Wrote, Stored, mail_of, guid_of}
 use Rattle.dv_interleavings.specs.Worlds as happening
+use Rattle.dv_responses.specs.Depth.{IsShallow}
 use Rattle.dv_world.specs.declared.event.Event.{Event}
 use Rattle.dv_world.specs.declared.event.Event.TheVariants as event
 use Rattle.dv_world.specs.declared.kept.Kept.{Kept}
@@ -27,10 +28,12 @@ event_of (event.Load s) = happening.Load s
 event_of (event.Tell s c) = happening.Tell s c
 event_of (event.Crash n) = happening.Crash n
 
--- a command that is written has names as its keywords (RFC 3501, section 9, atom)
-abbrev pub IsNamed : Event → Type 0
-IsNamed (event.Write s c received) = IsCommand c
-IsNamed e = Unit {0}
+-- a command that is written has names as its keywords (RFC 3501, section 9, atom), and one that is answered has a key
+-- that nests no deeper than its grammar lets it
+abbrev pub IsPlayable : Event → Type 0
+IsPlayable (event.Write s c received) = IsCommand c
+IsPlayable (event.Tell s c) = IsShallow c
+IsPlayable e = Unit {0}
 
 -- ---- a world in lists
 

@@ -1,6 +1,7 @@
 ghost use Rattle.std.specs.Prelude.{◌≡◌, IfOk, OnErr, OnOk, None, map, option_map};
 ghost use Rattle.dv_model.specs.declared.types.Mailbox.{Mailbox};
 ghost use Rattle.dv_model.specs.Sessions.{answer};
+ghost use Rattle.dv_responses.specs.Depth.{IsShallow};
 ghost use Rattle.dv_responses.specs.Met.{met_of};
 ghost use Rattle.dv_answer.specs.Following.{IsAbreast};
 ghost use Rattle.dv_answer.specs.Refusing.{own_refusal};
@@ -16,7 +17,7 @@ use crate::marks::mark_of;
 use crate::same::same_write;
 use crate::seats::place_of;
 use dv_model::{Command, Duplicate, List, Mark, NoMemory};
-use dv_responses::{Met, is_shallow, is_write, meet};
+use dv_responses::{Met, is_write, meet};
 use std::alloc::Global;
 
 // What the command took from the mailbox that it met, where it may be answered now.
@@ -51,6 +52,7 @@ fn answer(
     mark: Mark,
     stored: &[Stored],
 ) -> Result<(), NoMemory>
+    requires shallow { IsShallow c.now }
     requires allowed { own_refusal seat.old.session.state c.now ≡ None }
     requires abreast { IsAbreast seat.old.live.mailbox seat.old.session }
     ensures ok { (met : Mailbox) → taken ≡ met_of c.now seat.old.session.state.view met
@@ -66,9 +68,6 @@ fn answer(
     ensures err { OnErr result ((seated seat.new ≡ seated seat.old)
         × (seat.new.session ≡ seat.old.session) × (seat.new.wrote ≡ seat.old.wrote)) }
 {
-    if !is_shallow(c) {
-        return Err(NoMemory);
-    }
     let facts = facts_for(alloc, c, seat.session.view(), &seat.live, stored)?;
     let command = c.copy(alloc)?;
     seat.answers.reserve(1)?;
@@ -94,9 +93,10 @@ fn stop_own(pending: &mut Option<Pending>, number: u32)
 }
 
 /// A session is answered, where it may be. After `NoMemory`, which is the only error, all is as
-/// before; it is also the answer where a SEARCH nests deeper than its grammar lets it.
+/// before.
 pub fn tell(kept: &mut Kept, number: u32, c: &Command) -> Result<(), NoMemory>
-    requires { IsKept kept.old }
+    requires kept { IsKept kept.old }
+    requires shallow { IsShallow c.now }
     ensures ok { OnOk result (kept_world kept.new ≡ happens (kept_world kept.old)
         (happening.Tell number c.now)) }
     ensures kept { IsKept kept.new }

@@ -5,7 +5,7 @@ ghost use Rattle.dv_interleavings.specs.Worlds.{happens, new_world};
 ghost use Rattle.dv_promises.specs.Standing.{IsStart, Stands};
 ghost use Rattle.dv_world.specs.Keeping.{IsKept};
 ghost use Rattle.dv_world.specs.Promising.{AreAlike, AreHeard, AreOrdered, AreSpoken, CrashesKeep, KeepNumbers, SeeNoLess, WriteOnce, world_behind};
-ghost use Rattle.dv_world.specs.Shapes.{IsNamed, event_of, kept_world, plain_of, session_at, stored_of, world_of};
+ghost use Rattle.dv_world.specs.Shapes.{IsPlayable, event_of, kept_world, plain_of, session_at, stored_of, world_of};
 
 use crate::crashing::crash;
 use crate::event::Event;
@@ -76,7 +76,7 @@ fn kept_of(
 // One event.
 fn step(kept: &mut Kept, e: &Event) -> Result<(), NoMemory>
     requires kept { IsKept kept.old }
-    requires named { IsNamed e.now }
+    requires playable { IsPlayable e.now }
     ensures ok { OnOk result (kept_world kept.new ≡ happens (kept_world kept.old)
         (event_of e.now)) }
     ensures kept { IsKept kept.new }
@@ -116,10 +116,9 @@ impl World {
         Ok(World { kept })
     }
 
-    /// One event. After `NoMemory`, which is the only error, all is as before; it is also the
-    /// answer where a SEARCH nests deeper than its grammar lets it.
+    /// One event. After `NoMemory`, which is the only error, all is as before.
     pub fn step(&mut self, e: &Event) -> Result<(), NoMemory>
-        requires { IsNamed e.now }
+        requires { IsPlayable e.now }
         // It is one step of the world.
         ensures ok { OnOk result (world_of self.new ≡ happens (world_of self.old)
             (event_of e.now)) }
@@ -181,7 +180,7 @@ fn created(alloc: Global) -> Mailbox
 /// What comes of these events in turn from the mailbox of a new folder: UIDVALIDITY 1000, no
 /// messages, at 1:56. `NoMemory` is the only error.
 pub fn run_events(alloc: Global, events: &List<Event>) -> Result<World, NoMemory>
-    requires { All IsNamed events.now }
+    requires { All IsPlayable events.now }
     ensures is { IfOk result (λ w. world_of w ≡ world_behind events.now) }
     // Replies and states are the session rules' answers over prefixes of one log.
     ensures spoken { IfOk result (λ w. AreSpoken (world_of w)) }

@@ -1,4 +1,4 @@
-use Rattle.std.proofs.Common.{◌≡◌, ◌∙◌, ◌++◌, ℕ, List, Some, None, cond, get_or, take, sym, ap, subst}
+use Rattle.std.proofs.Common.{◌≡◌, ◌∙◌, ◌++◌, ℕ, List, Some, None, Result, Ok, Err, OnErr, cond, get_or, take, sym, ap, subst}
 use Rattle.std.specs.List.{list_any}
 use Rattle.std.specs.Option.{option_copied}
 use Rattle.std.specs.Prelude.{flat_map}
@@ -33,14 +33,24 @@ loop-number-preserved g c = λ mail known.
     let with = g.R.Replies.with in
     let first = c.args.lines.now in
     let before = flat_map f (rows_at rows (take i numbers)) in
-    c.in_ok-add_line.ensures (message_for mail m items s.uid) supplied
+    c.in_ok-add_line.ensures.ok (message_for mail m items s.uid) supplied
     ∙ ap (λ x. with x (lines_from m items (n, s) (message_for mail m items s.uid))) (c.loop-number.invariant mail known)
     ∙ g.met.R.Replies.more first before (lines_from m items (n, s) (message_for mail m items s.uid))
     ∙ ap (λ (s : Shown). with first (before ++ lines_from m items (n, s) (message_for mail m items s.uid))) same
     ∙ ap (λ t. with first (before ++ t)) (line_is mail m items (n, row_at rows n))
     ∙ ap (with first) (sym (lines_more mail m items rows numbers i n less is))
 
-pub returns : goal.returns
-returns g c = λ mail known.
+pub returns-clause-ok : goal.returns-clause-ok
+returns-clause-ok g c = λ mail known.
     c.loop-number.invariant mail known
     ∙ ap (λ (ns : List ℕ). g.R.Replies.with c.args.lines.now (flat_map (fetch_lines mail c.args.live.now.mailbox c.args.items.now) (rows_at c.args.rows.now ns))) (take_all c.loop-number.number-index c.args.numbers.now c.loop-number-test.false)
+
+-- what holds behind any answer
+on_err : {A E P : Type 0} (r : Result A E) → P → OnErr r P
+on_err (Ok x) p = tt
+on_err (Err e) p = p
+
+pub returns-in_err-add_line-clause-err : goal.returns-in_err-add_line-clause-err
+returns-in_err-add_line-clause-err g c = λ mail known.
+    let before = flat_map (fetch_lines mail c.args.live.now.mailbox c.args.items.now) (rows_at c.args.rows.now (take c.loop-number.number-index c.args.numbers.now)) in
+    on_err c.from_residual.result (record { told = before; is = c.in_err-add_line.ensures.err ∙ c.loop-number.invariant mail known })

@@ -4,6 +4,7 @@ use Rattle.dv_model.specs.declared.types.Shown.{Shown}
 use Rattle.dv_model.proofs.Clients.{shows}
 use Rattle.dv_view.specs.Tells.{removals_of}
 use Rattle.dv_view.proofs.Numbers.{removed_more}
+use Rattle.dv_view.proofs.TakenMore.{taken_more}
 use Rattle.dv_view.proofs.replies.add_removals.Goals as goal
 use Rattle.dv_view.proofs.replies.add_removals.Goals.{then-not-shows+in_ok-take, else-not-shows}
 
@@ -24,7 +25,8 @@ loop-number-preserved g c =
           let is : shows new (get_or old (k - 1) s).uid ≡ false = ap (shows new) uid ∙ here in
           record {
             inside = omega (arith, c.loop-number.invariant.inside);
-            said = ap (λ x. with x rest) (w.said-is ∙ w.in_ok-take.ensures)
+            taken = taken_more with g.met.R.Replies.more c.args.said.now said c.if-not-shows.said c.loop-number.invariant.taken (record { told = reply.Expunge k ∷ []; is = w.said-is ∙ w.in_ok-take.ensures.ok });
+            said = ap (λ x. with x rest) (w.said-is ∙ w.in_ok-take.ensures.ok)
                 ∙ g.met.R.Replies.more said (reply.Expunge k ∷ []) rest
                 ∙ ap (with said) (sym (removed_more new old k s false some c.loop-number.invariant.inside is)) ∙ c.loop-number.invariant.said;
           }
@@ -33,6 +35,7 @@ loop-number-preserved g c =
           let is : shows new (get_or old (k - 1) s).uid ≡ true = ap (shows new) uid ∙ here in
           record {
             inside = omega (arith, c.loop-number.invariant.inside);
+            taken = record { told = c.loop-number.invariant.taken.told; is = w.said-is ∙ c.loop-number.invariant.taken.is };
             said = ap (λ x. with x rest) w.said-is
                 ∙ ap (with said) (sym (removed_more new old k s true some c.loop-number.invariant.inside is)) ∙ c.loop-number.invariant.said;
           }

@@ -4,6 +4,7 @@ use Rattle.dv_model.specs.declared.types.Reply.TheVariants as reply
 use Rattle.dv_model.proofs.Clients.{above_of_rising}
 use Rattle.dv_view.proofs.Losing.{expunges, lost, lost_last, lost_said}
 use Rattle.dv_view.proofs.Placing.{rises_of}
+use Rattle.dv_view.proofs.TakenMore.{taken_more}
 use Rattle.dv_view.proofs.telling.add_lost.Goals as goal
 
 pub loop-at-preserved : goal.loop-at-preserved
@@ -19,13 +20,14 @@ loop-at-preserved g c =
     let rest = expunges (lost rows (take (at - 1) fresh)) in
     record {
       inside = omega (arith, c.loop-at.invariant.inside);
-      said = ap (λ x. with x rest) c.in_ok-add_expunge.ensures
+      taken = taken_more with g.met.R.Replies.more c.args.said.now before c.add_expunge.new.said c.loop-at.invariant.taken (record { told = map (λ n. reply.Expunge n) (option_to_list number); is = c.in_ok-add_expunge.ensures.ok });
+      said = ap (λ x. with x rest) c.in_ok-add_expunge.ensures.ok
           ∙ g.met.R.Replies.more before (map (λ n. reply.Expunge n) (option_to_list number)) rest
           ∙ ap (with before) (sym last) ∙ c.loop-at.invariant.said;
     }
 
-pub returns : goal.returns
-returns g c =
+pub returns-clause-ok : goal.returns-clause-ok
+returns-clause-ok g c =
     let with = g.R.Replies.with in
     let rows = c.args.rows.now in
     let fresh = c.args.fresh.now in

@@ -32,7 +32,7 @@ returns-then-is_some-clause-ok c =
     let seat = c.index-seat.result.now in
     let found : position (is_of s) k.seats.items ≡ Some at = ap (position (is_of s)) (sym c.deref.ensures.value) ∙ sym c.place_of.ensures ∙ c.in-Some.is in
     let there : slice_get k.seats.items at ≡ Some seat = there_is k.seats.items s at seat found c.index-seat.ensures in
-    tells_bad k c.requires s cmd at seat found there (sym (ap is_some c.refuse.ensures) ∙ sym c.is_some.ensures ∙ c.if-is_some.true)
+    tells_bad k c.requires.kept s cmd at seat found there (sym (ap is_some c.refuse.ensures) ∙ sym c.is_some.ensures ∙ c.if-is_some.true)
 
 pub returns-in_default-2-clause-ok : goal.returns-in_default-2-clause-ok
 returns-in_default-2-clause-ok c =
@@ -45,7 +45,7 @@ returns-in_default-2-clause-ok c =
     let there : slice_get k.seats.items at ≡ Some seat = there_is k.seats.items s at seat found c.index-seat.ensures in
     let good : is_some (own_refusal seat.session.state cmd) ≡ false = sym (ap is_some c.refuse.ensures) ∙ sym c.is_some.ensures ∙ c.if-is_some.false in
     let none : c.in_ok-taken.field-0 ≡ None = search rules in
-    tells_early k c.requires s cmd at seat found there good (sym c.in_ok-taken.ensures ∙ none)
+    tells_early k c.requires.kept s cmd at seat found there good (sym c.in_ok-taken.ensures ∙ none)
 
 pub answer-requires-clause-abreast : goal.answer-requires-clause-abreast
 answer-requires-clause-abreast c =
@@ -57,7 +57,7 @@ answer-requires-clause-abreast c =
     let seat = c.index_mut-seat.result.now in
     let found : position (is_of s) k.seats.items ≡ Some at = ap (position (is_of s)) (sym c.deref.ensures.value) ∙ sym c.place_of.ensures ∙ c.in-Some.is in
     let there : slice_get k.seats.items at ≡ Some seat = there_is k.seats.items s at seat found c.index_mut-seat.ensures.value in
-    (one_of (IsSeat (kept_log k)) k.seats.items at seat c.requires.seats there).abreast
+    (one_of (IsSeat (kept_log k)) k.seats.items at seat c.requires.kept.seats there).abreast
 
 pub returns-in_err-answer-clause-kept : goal.returns-in_err-answer-clause-kept
 returns-in_err-answer-clause-kept c =
@@ -69,7 +69,7 @@ returns-in_err-answer-clause-kept c =
     let seat = c.index_mut-seat.result.now in
     let found : position (is_of s) k.seats.items ≡ Some at = ap (position (is_of s)) (sym c.deref.ensures.value) ∙ sym c.place_of.ensures ∙ c.in-Some.is in
     let there : slice_get k.seats.items at ≡ Some seat = there_is k.seats.items s at seat found c.index_mut-seat.ensures.value in
-    kept_so k c.requires at seat there c.answer.new.seat c.in_err-answer.ensures.err.0 (ap (λ (x : Held). x.mailbox) c.answer.ensures.live) c.in_err-answer.ensures.err.1 c.in_err-answer.ensures.err.2
+    kept_so k c.requires.kept at seat there c.answer.new.seat c.in_err-answer.ensures.err.0 (ap (λ (x : Held). x.mailbox) c.answer.ensures.live) c.in_err-answer.ensures.err.1 c.in_err-answer.ensures.err.2
 
 pub returns-in_err-answer-clause-err : goal.returns-in_err-answer-clause-err
 returns-in_err-answer-clause-err c =
@@ -81,7 +81,7 @@ returns-in_err-answer-clause-err c =
     let seat = c.index_mut-seat.result.now in
     let found : position (is_of s) k.seats.items ≡ Some at = ap (position (is_of s)) (sym c.deref.ensures.value) ∙ sym c.place_of.ensures ∙ c.in-Some.is in
     let there : slice_get k.seats.items at ≡ Some seat = there_is k.seats.items s at seat found c.index_mut-seat.ensures.value in
-    on_err c.from_residual-in_err-answer.result (plain_so k c.requires at seat there c.answer.new.seat c.in_err-answer.ensures.err.0)
+    on_err c.from_residual-in_err-answer.result (plain_so k c.requires.kept at seat there c.answer.new.seat c.in_err-answer.ensures.err.0)
 
 pub returns-clause-ok : goal.returns-clause-ok
 returns-clause-ok c =
@@ -100,7 +100,7 @@ returns-clause-ok c =
     let mark = c.mark_of-mark.ensures ∙ ap (λ (x : Seat). mark_of (kept_log k) x.seen) same in
     let answers = subst (λ (stored : List (ℕ × Option (List ℕ) × List ℕ)). (met : Mailbox) → c.in-Some-2.taken ≡ met_of cmd seat.session.state.view met
     → seated c.answer.new.seat ≡ (seat.number, answered (session_of seat) cmd (answer (mail_of (map stored_of stored)) (state_of seat) cmd met seat.seen seat.live.mailbox c.mark_of-mark.result))) c.deref-2.ensures.value c.in_ok-answer.ensures.ok in
-    (told_so k c.requires s cmd at seat found there good c.in-Some-2.taken may c.mark_of-mark.result mark c.answer.new.seat answers c.stop_own.new.pending c.stop_own.ensures c.answer.ensures.live c.answer.ensures.abreast c.in_ok-answer.ensures.wrote).0
+    (told_so k c.requires.kept s cmd at seat found there good c.in-Some-2.taken may c.mark_of-mark.result mark c.answer.new.seat answers c.stop_own.new.pending c.stop_own.ensures c.answer.ensures.live c.answer.ensures.abreast c.in_ok-answer.ensures.wrote).0
 
 pub returns-clause-kept : goal.returns-clause-kept
 returns-clause-kept c =
@@ -119,4 +119,4 @@ returns-clause-kept c =
     let mark = c.mark_of-mark.ensures ∙ ap (λ (x : Seat). mark_of (kept_log k) x.seen) same in
     let answers = subst (λ (stored : List (ℕ × Option (List ℕ) × List ℕ)). (met : Mailbox) → c.in-Some-2.taken ≡ met_of cmd seat.session.state.view met
     → seated c.answer.new.seat ≡ (seat.number, answered (session_of seat) cmd (answer (mail_of (map stored_of stored)) (state_of seat) cmd met seat.seen seat.live.mailbox c.mark_of-mark.result))) c.deref-2.ensures.value c.in_ok-answer.ensures.ok in
-    (told_so k c.requires s cmd at seat found there good c.in-Some-2.taken may c.mark_of-mark.result mark c.answer.new.seat answers c.stop_own.new.pending c.stop_own.ensures c.answer.ensures.live c.answer.ensures.abreast c.in_ok-answer.ensures.wrote).1
+    (told_so k c.requires.kept s cmd at seat found there good c.in-Some-2.taken may c.mark_of-mark.result mark c.answer.new.seat answers c.stop_own.new.pending c.stop_own.ensures c.answer.ensures.live c.answer.ensures.abreast c.in_ok-answer.ensures.wrote).1

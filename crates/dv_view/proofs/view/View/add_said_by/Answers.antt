@@ -18,8 +18,8 @@ add_said_by-requires-clause-count g c =
     let rows = c.as_slice.ensures ∙ ap (λ (v : View). v.rows) c.self.view_is in
     subst (λ rs. length rs < 2 ^ 32) (sym (ap (λ rs. rows_after c.args.step rs c.as_slice-2.result.now) rows ∙ ap (rows_after c.args.step view.rows) c.as_slice-2.ensures)) few
 
-pub returns : goal.returns
-returns g c =
+pub returns-clause-said : goal.returns-clause-said
+returns-clause-said g c =
     let view = c.args.self.now in
     let fresh = c.args.fresh.now in
     let names = c.args.names.now.names in
@@ -31,4 +31,4 @@ returns g c =
     are ∙ ap (g.R.Replies.with c.args.replies.now) (said_is m view (moved step view m) names c.as_slice.result.now (rows_after step c.as_slice.result.now c.as_slice-2.result.now)
     (sym is.names) rows
     (ap (λ rs. rows_after step rs c.as_slice-2.result.now) rows ∙ ap (rows_after step view.rows) c.as_slice-2.ensures
-    ∙ sym (moved_is_after view c.args.next_uid names fresh m ordered c.requires.later rises c.requires.known is step)))) c.add_said_by.ensures
+    ∙ sym (moved_is_after view c.args.next_uid names fresh m ordered c.requires.later rises c.requires.known is step)))) c.add_said_by.ensures.ok

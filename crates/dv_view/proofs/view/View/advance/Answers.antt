@@ -26,6 +26,6 @@ pub returns-clause-said : goal.returns-clause-said
 returns-clause-said g c =
     let rows = moved_is c.args.step c.args.live.now.mailbox c.args.self.now c.in_ok-rows.rows c.as_slice.result.now c.self.inside.next_uid
     c.in_ok-rows.ensures (c.as_slice.ensures ∙ ap (λ (v : View). v.rows) c.self.view_is) (ap (λ (v : View). v.next_uid) c.self.view_is) in
-    c.in_ok-add_said.ensures
+    c.in_ok-add_said.ensures.ok
     ∙ ap (g.R.Replies.with c.args.replies.now) (said_is c.args.live.now.mailbox c.args.self.now (moved c.args.step c.args.self.now c.args.live.now.mailbox) c.names.result.now.names c.as_slice-2.result.now c.as_slice-3.result.now
     c.names.ensures (c.as_slice-2.ensures ∙ ap (λ (v : View). v.rows) c.self.view_is) (c.as_slice-3.ensures ∙ rows))
