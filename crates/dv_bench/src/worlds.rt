@@ -1,6 +1,7 @@
 ghost use Rattle.std.specs.Prelude.{All, IfOk};
 ghost use Rattle.dv_model.specs.Sessions.{IsCommand};
-ghost use Rattle.dv_world.specs.Shapes.{IsNamed};
+ghost use Rattle.dv_responses.specs.Depth.{IsShallow};
+ghost use Rattle.dv_world.specs.Shapes.{IsPlayable};
 
 use crate::fault::Fault;
 use crate::timing::Times;
@@ -24,7 +25,8 @@ const RECEIVED: u32 = 1000;
 const SEEN: u8 = 0x08;
 
 fn append(alloc: Global) -> Result<Command, NoMemory>
-    ensures { IfOk result IsCommand }
+    ensures command { IfOk result IsCommand }
+    ensures shallow { IfOk result IsShallow }
 {
     Ok(Command::Append {
         flags: 0,
@@ -35,7 +37,8 @@ fn append(alloc: Global) -> Result<Command, NoMemory>
 
 // The message of this number is seen, or not seen.
 fn store(alloc: Global, number: u32, how: How) -> Result<Command, NoMemory>
-    ensures { IfOk result IsCommand }
+    ensures command { IfOk result IsCommand }
+    ensures shallow { IfOk result IsShallow }
 {
     let span = Span {
         from: End::Number(number),
@@ -52,7 +55,7 @@ fn store(alloc: Global, number: u32, how: How) -> Result<Command, NoMemory>
 }
 
 fn play(world: &mut World, events: &[Event]) -> Result<(), Fault>
-    requires { All IsNamed events.now }
+    requires { All IsPlayable events.now }
 {
     for event in events {
         world.step(event)?;
@@ -68,7 +71,8 @@ fn begin(world: &mut World, session: u32) -> Result<(), Fault> {
 
 // The whole of a session's write.
 fn write(alloc: Global, world: &mut World, session: u32, c: Command) -> Result<(), Fault>
-    requires { IsCommand c }
+    requires command { IsCommand c }
+    requires shallow { IsShallow c }
 {
     let again = c.copy(alloc)?;
     let events = [

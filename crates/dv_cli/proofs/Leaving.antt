@@ -15,7 +15,7 @@ use Rattle.dv_openings.proofs.Numbers.{mailbox_one, named_one}
 use Rattle.dv_chain.specs.Creations.{IsOldOrCreated, created, first_log, first_mailbox}
 use Rattle.dv_chain.specs.Openings.{IsQuiet}
 use Rattle.dv_chain.proofs.Created.{first_file, first_found, first_scanned}
-use Rattle.dv_keeping.proofs.Kept.{kept_same, same_messages}
+use Rattle.dv_writing.proofs.Kept.{kept_same, same_messages}
 use Rattle.dv_playing.specs.Playing.{Attempt}
 use Rattle.dv_serial.specs.NextRuns.{IsTrueFolder, LeavesTrue}
 use Rattle.dv_serial.specs.Places.{GivesBehind}

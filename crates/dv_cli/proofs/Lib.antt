@@ -4,7 +4,7 @@ mod FoundStarts
 mod Statuses
 mod Takes
 mod GuidFiles
-mod Starting
+pub mod Starting
 mod Leaving
 mod Opened
 mod Created
@@ -21,3 +21,4 @@ mod Untold
 mod Tasked
 mod Told
 mod Untelling
+mod Restarting

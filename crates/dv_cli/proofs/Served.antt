@@ -9,26 +9,30 @@ use Rattle.dv_model.specs.declared.types.Reply.{Reply}
 use Rattle.dv_model.specs.Journals.{Log}
 use Rattle.dv_model.specs.Sessions.{new_session}
 use Rattle.dv_model.specs.Transcripts.{Line, Serial, touches_disk}
+use Rattle.dv_shelf.specs.Causes.{Stayed}
 use Rattle.dv_shelf.specs.Clocks.{behind}
 use Rattle.dv_shelf.specs.Crashes.{LeavesOnly}
 use Rattle.dv_shelf.specs.Folders.{Folder}
 use Rattle.dv_shelf.proofs.Moments.{joined, weaker}
 use Rattle.dv_formats.specs.Scripts.{NamedLine}
-use Rattle.dv_keeping.specs.Debts.{Nothing}
+use Rattle.dv_writing.specs.Debts.{Nothing}
 use Rattle.dv_answer.specs.Following.{Follower, IsAbreast, new_follower}
-use Rattle.dv_playing.specs.Laws.{IsAttempt, MayPlay, MayWrite, lines_of}
+use Rattle.dv_playing.specs.Laws.{IsAttempt, MayPlay, MayWrite, RiseFrom, failure_of, failures_of, lines_of}
+use Rattle.dv_playing.proofs.Failures.{failures_append, rose_over}
 use Rattle.dv_playing.specs.Playing.{Attempt, Outcome, Play, Served, begin, fared, replies_to, step, stepped_by, with_group_here}
 use Rattle.dv_playing.proofs.Plays.{goes_on, leaves, serial}
 use Rattle.dv_store.specs.States.{State}
 use Rattle.dv_serial.specs.declared.lines.LineEnd.{LineEnd}
 use Rattle.dv_serial.specs.declared.lines.LineEnd.TheVariants as line_end
-use Rattle.dv_serial.specs.Following.{AreSeated, Follows, IsLeft, Keeps, MayBeLeft}
+use Rattle.dv_serial.specs.Following.{AreSeated, Follows, IsLeft, Keeps, MayBeLeft, origin_of}
 use Rattle.dv_cli.proofs.Leaving.{leaves_next}
-use Rattle.dv_serial.specs.Places.{GivesBehind, MayGive, play_of}
+use Rattle.dv_serial.specs.Places.{GivesBehind, GivesPlay, MayGive, play_of}
 use Rattle.dv_serial.specs.Runs.{EndsWith, HasRead, IsCaused, Runs, Writes}
 use Rattle.dv_serial.specs.Scripts.{numbered}
 use Rattle.dv_serial.specs.Servings.{Serving, serving_over}
-use Rattle.dv_serial.proofs.Crashing.{keeps_behind, longer_may}
+use Rattle.dv_serial.proofs.Crashing.{keeps_behind, longer_may, stays_may}
+use Rattle.dv_serial.proofs.Running.{served_log}
+use Rattle.dv_clients.proofs.Clients.{serial_alike, serial_numbers}
 use Rattle.dv_cli.specs.declared.ending.End.{End}
 use Rattle.dv_cli.specs.declared.ending.End.TheVariants as end
 use Rattle.dv_cli.specs.Begins.{IsBegun}
@@ -36,20 +40,14 @@ use Rattle.dv_cli.specs.declared.words.Load.{Load}
 use Rattle.dv_cli.specs.declared.ending.Loaded.{Loaded}
 use Rattle.dv_cli.specs.Behind.{end_behind, loaded_by}
 use Rattle.dv_cli.specs.Causes.{EndCause, EndsServing}
-use Rattle.dv_cli.specs.Runs.{EndsAt, IsAnswered, MayLeave, RunsOver, ServesLines, WritesLines}
+use Rattle.dv_cli.specs.Runs.{ClientsKnow, EndsAt, IsAnswered, MayLeave, NoneFailed, OpensFirst, RunsOver, ServesLines, WritesLines}
+use Rattle.dv_cli.specs.Spans.{Times}
+use Rattle.dv_serial.specs.Faults.{Faults}
 use Rattle.dv_cli.proofs.Starting.{IsBare, behind_both, behind_none, start_bare}
 use Rattle.dv_shelf.specs.Sees.{SeesFolder, SeesTime}
+use Rattle.dv_serial.specs.Outputs.{Output, output_with}
 
 -- ---- the first line that wasn't answered
-
--- where it was served its group is in the log
-served_log : (clock : ℕ → ℕ) (play : Play) (a : Attempt) → a.outcome ≡ Served → MayWrite play a.line → (step clock play a).play.log ≡ (with_group_here clock play a.line).log
-served_log clock play a served write =
-    ap (λ (o : Option Reply). (stepped_by clock play a o).play.log) write.allowed ∙ ap (λ (o : Outcome). (fared clock play a.line o).play.log) (by_test (touches_disk a.line.1))
-  where
-    by_test : (b : Bool) → (if b then a.outcome else Served) ≡ Served
-    by_test true = served
-    by_test false = refl
 
 -- what holds of the log from before, and of that with its group, holds behind it
 left_log : (clock : ℕ → ℕ) (base : ℕ) (play : Play) (a : Attempt) (P : Log → Type 0) (whole : Play) → MayBeLeft clock base play a → whole ≡ (step clock play a).play → P play.log → (MayWrite play a.line → P (with_group_here clock play a.line).log) → P whole.log
@@ -90,6 +88,45 @@ module _ (clock : ℕ → ℕ) (start : Log) (base faults : ℕ) (answered : Lis
   serial_left left rest =
       ⊎_elim (λ none. subst (λ (these : List Attempt). IsRun (play_of clock start (answered ++ these)).log rest) (sym none) (none_left rest))
       (λ first. subst (IsRun (play_of clock start (answered ++ left)).log) (sym first.2) (first_left left first.0 first.1 first.3))
+
+-- ---- what clients know
+
+clients_know : (log : Log) (base faults : ℕ) (lines : List Line) (replies : List (List Reply)) → Serial log base faults lines replies → ClientsKnow lines replies
+clients_know log base faults lines replies serial = record {
+  alike = λ one other. serial_alike log base faults lines replies one other serial;
+  numbers = λ session. serial_numbers log base faults lines replies session serial;
+}
+
+-- ---- where no count rose
+
+-- none failed
+no_failures : (base faults : ℕ) (ns : List ℕ) → RiseFrom base ns faults → Stayed base faults → ns ≡ []
+no_failures base faults [] rise stayed = refl
+no_failures base faults (n ∷ ns) rise stayed = absurd (stayed (rose_over base faults n ns rise))
+
+-- so no group is one that the disk failed
+given_whole : (clock : ℕ → ℕ) (start : Log) (attempts : List Attempt) (c : Folder) → failures_of attempts ≡ [] → GivesBehind clock start attempts c → GivesPlay (play_of clock start attempts) c
+given_whole clock start attempts c none (inl gives) = gives
+given_whole clock start attempts c none (inr with) =
+    let last = with.2 in
+    let parts : failures_of last.front ++ (failure_of with.1.outcome ++ failures_of last.back) ≡ [] =
+    sym (failures_append last.front (with.1 ∷ last.back)) ∙ ap failures_of (sym last.lines) ∙ none in
+    absurd (none_there (failures_of last.front) last.failed.faults (failures_of last.back)
+    (ap (λ (o : Outcome). failures_of last.front ++ (failure_of o ++ failures_of last.back)) (sym last.failed.outcome) ∙ parts))
+  where
+    none_there : (ns : List ℕ) (n : ℕ) (ms : List ℕ) → ns ++ (n ∷ ms) ≡ [] → ⊥
+    none_there [] n ms is = absurd cc
+    none_there (m ∷ ns) n ms is = absurd cc
+
+none_failed : {S : Type 0} (sees : SeesFolder S) (clock : ℕ → ℕ) (start : Log) (attempts : List Attempt) (base faults : ℕ) (new : S) → RiseFrom base (failures_of attempts) faults → Stayed base faults
+    → sees.may_leave new (sees.files new) → ((c : Folder) → sees.may_leave new c → GivesBehind clock start attempts c) → NoneFailed sees clock start attempts new
+none_failed sees clock start attempts base faults new rise stayed there kept =
+    let none = no_failures base faults (failures_of attempts) rise stayed in
+    record {
+      failures = none;
+      folder = given_whole clock start attempts (sees.files new) none (kept (sees.files new) there);
+      after = λ c left. given_whole clock start attempts c none (kept c left);
+    }
 
 -- ---- ends
 
@@ -167,18 +204,22 @@ module _ {S C : Type 0} (sees : SeesFolder S) (ticks : SeesTime C) (clock : ℕ 
       fewer k lt = subst (λ (m : ℕ). k < m) (length-replicate n new_follower) lt
 
   -- new sessions follow the play that is to come
-  pub follows_start : (n : ℕ) (seats : List Follower) (faults : ℕ) → base ≤ faults → seats ≡ replicate n new_follower → Follows sees ticks time start base faults [] (serving_over store seats)
+  pub follows_start : (n : ℕ) (seats : List Follower) (faults : ℕ) → base ≤ faults → seats ≡ replicate n new_follower → Follows sees ticks (origin_of time start base) faults [] (serving_over store seats)
   follows_start n seats faults later is =
-      record { may = may_start faults later; keeps = keeps_start seats; readings = begun.readings ∙ behind_none time; seats = seated n seats is }
+      record { may = may_start faults later; failures = later; keeps = keeps_start seats; readings = begun.readings ∙ behind_none time; seats = seated n seats is }
 
-  -- what a crash leaves before the first line it may leave among them
+  -- what a crash leaves before the first line
+  start_kept : (c : Folder) → sees.may_leave store.shelf c → GivesBehind time start [] c
+  start_kept c left = keeps_behind sees time start [] (serving_over store []) (keeps_start []) c left
+
+  -- it may leave among them
   longer_leave : (attempts : List Attempt) (c : Folder) → MayLeave time start [] (sees.files old) c → MayLeave time start attempts (sees.files old) c
   longer_leave attempts c = ⊎_elim inl (λ may. inr (longer_may time start [] c attempts may))
 
   -- ---- the lines were served
 
   module _ (faults : ℕ) (lines : List NamedLine) (told : Type 0) (taken taken_now : List ℕ) (seats : List Follower) (result : Result (Unit {0}) LineEnd) (new : Serving S C)
-      (runs : Runs sees ticks time start base faults lines result told taken taken_now (serving_over store seats) new)
+      (runs : Runs sees ticks (origin_of time start base) faults lines result (output_with told taken taken_now) (serving_over store seats) new)
       (there : sees.may_leave new.store.shelf (sees.files new.store.shelf)) where
     abbrev all : List Attempt
     all = runs.answered ++ runs.left
@@ -187,14 +228,21 @@ module _ {S C : Type 0} (sees : SeesFolder S) (ticks : SeesTime C) (clock : ℕ 
     how = end_behind result new.mark new.groups (loaded_by load new.store.chain.live.mailbox)
 
     kept : (c : Folder) → sees.may_leave new.store.shelf c → GivesBehind time start all c
-    kept c left = keeps_behind sees time start all new runs.leaves.keeps c left
+    kept c left = keeps_behind sees time start all new runs.keeps c left
 
-    pub serves_lines : ServesLines sees clock (ticks.upcoming new.store.clock) base faults load lines how told taken taken_now old new.store.shelf
+    opens : OpensFirst sees time start all old new.store.shelf
+    opens = record { opened = store.shelf; before = begun.since; there = start_kept; since = runs.since }
+
+    whole_serial : Serial (play_of time start all).log base faults (numbered lines) (replies_to time (begin start) runs.answered)
+    whole_serial = subst (λ (ls : List Line). Serial (play_of time start all).log base faults ls (replies_to time (begin start) runs.answered)) (sym runs.parts)
+        (serial_left time start base faults runs.answered runs.may runs.left runs.rest (first_of time base start runs.answered runs.left runs.rest result runs.ends))
+
+    pub serves_lines : ServesLines sees (record { clock = clock; clock_now = ticks.upcoming new.store.clock }) (record { before = base; now = faults }) load lines how (output_with told taken taken_now) old new.store.shelf
     serves_lines =
         let crash : LeavesOnly sees old new.store.shelf (MayLeave time start all (sees.files old)) =
         joined sees old store.shelf new.store.shelf (MayLeave time start all (sees.files old))
         (weaker sees old store.shelf (MayLeave time start [] (sees.files old)) (MayLeave time start all (sees.files old)) begun.since (longer_leave all))
-        (weaker sees store.shelf new.store.shelf (MayGive time start all) (MayLeave time start all (sees.files old)) runs.leaves.since (λ c may. inr may)) in
+        (weaker sees store.shelf new.store.shelf (MayGive time start all) (MayLeave time start all (sees.files old)) runs.since (λ c may. inr may)) in
         record {
           start = start;
           used = begun.used;
@@ -203,41 +251,46 @@ module _ {S C : Type 0} (sees : SeesFolder S) (ticks : SeesTime C) (clock : ℕ 
           left = runs.left;
           rest = runs.rest;
           parts = runs.parts;
-          ends = ends_at time base start load runs.answered runs.left runs.rest result new.mark new.groups new.store.chain.live.mailbox runs.leaves.keeps.at.mark runs.leaves.keeps.at.groups runs.leaves.keeps.at.mailbox runs.ends;
-          serial = subst (λ (ls : List Line). Serial (play_of time start all).log base faults ls (replies_to time (begin start) runs.answered)) (sym runs.parts)
-              (serial_left time start base faults runs.answered runs.may runs.left runs.rest (first_of time base start runs.answered runs.left runs.rest result runs.ends));
+          ends = ends_at time base start load runs.answered runs.left runs.rest result new.mark new.groups new.store.chain.live.mailbox runs.keeps.at.mark runs.keeps.at.groups runs.keeps.at.mailbox runs.ends;
+          serial = whole_serial;
+          clients = clients_know (play_of time start all).log base faults (numbered lines) (replies_to time (begin start) runs.answered) whole_serial;
+          may = runs.may;
+          failures = runs.failures;
+          whole = λ stayed. none_failed sees time start all base faults new.store.shelf runs.failures stayed there kept;
           output = λ tells. writes_lines time start runs.answered runs.left lines result new.mark new.groups (loaded_by load new.store.chain.live.mailbox) taken taken_now (runs.output tells);
           readings = has_read clock begun.used (play_of time start runs.answered).used (ticks.upcoming new.store.clock) result new.mark new.groups (loaded_by load new.store.chain.live.mailbox) runs.readings;
           others = λ n other none. runs.others n none ∙ begun.others n other;
           folder = kept (sees.files new.store.shelf) there;
           after = kept;
           crash = crash;
+          opens = opens;
           next = leaves_next sees time start all old new.store.shelf there kept crash;
         }
 
   -- the play begins with new sessions
   module _ (counts : S → ℕ) (later : base ≤ counts store.shelf) (faults : ℕ) (lines : List NamedLine) (told : Type 0) (taken taken_now : List ℕ) (n : ℕ) (seats : List Follower) (result : Result (Unit {0}) LineEnd) (serial new : Serving S C) where
     pub serves_all : seats ≡ replicate n new_follower → serial ≡ serving_over store seats
-        → (Follows sees ticks time start base (counts serial.store.shelf) [] serial → Runs sees ticks time start base faults lines result told taken taken_now serial new)
+        → (Follows sees ticks (origin_of time start base) (counts serial.store.shelf) [] serial → Runs sees ticks (origin_of time start base) faults lines result (output_with told taken taken_now) serial new)
         → sees.may_leave new.store.shelf (sees.files new.store.shelf)
-        → ServesLines sees clock (ticks.upcoming new.store.clock) base faults load lines (end_behind result new.mark new.groups (loaded_by load new.store.chain.live.mailbox)) told taken taken_now old new.store.shelf
+        → ServesLines sees (record { clock = clock; clock_now = ticks.upcoming new.store.clock }) (record { before = base; now = faults }) load lines (end_behind result new.mark new.groups (loaded_by load new.store.chain.live.mailbox)) (output_with told taken taken_now) old new.store.shelf
     serves_all is over run there =
-        let follows : Follows sees ticks time start base (counts serial.store.shelf) [] serial =
-        subst (λ (s : Serving S C). Follows sees ticks time start base (counts s.store.shelf) [] s) (sym over) (follows_start n seats (counts store.shelf) later is) in
-        let runs = subst (λ (s : Serving S C). Runs sees ticks time start base faults lines result told taken taken_now s new) over (run follows) in
+        let follows : Follows sees ticks (origin_of time start base) (counts serial.store.shelf) [] serial =
+        subst (λ (s : Serving S C). Follows sees ticks (origin_of time start base) (counts s.store.shelf) [] s) (sym over) (follows_start n seats (counts store.shelf) later is) in
+        let runs = subst (λ (s : Serving S C). Runs sees ticks (origin_of time start base) faults lines result (output_with told taken taken_now) s new) over (run follows) in
         serves_lines faults lines told taken taken_now seats result new runs there
 
   -- ---- no line was
 
-  module _ (faults : ℕ) (later : base ≤ faults) (lines : List NamedLine) (told : Type 0) (taken : List ℕ) (there : sees.may_leave store.shelf (sees.files store.shelf)) where
-    none_kept : (c : Folder) → sees.may_leave store.shelf c → GivesBehind time start [] c
-    none_kept c left = keeps_behind sees time start [] (serving_over store []) (keeps_start []) c left
+  module _ (faults : ℕ) (later : base ≤ faults) (lines : List NamedLine) (told : Type 0) (taken : List ℕ) (there : sees.may_leave store.shelf (sees.files store.shelf))
+      (now : (c : Folder) → sees.left_since store.shelf (sees.moment store.shelf) c → sees.may_leave store.shelf c) where
+    none_serial : Serial start base faults (numbered lines) []
+    none_serial = serial time start base faults [] (may_start faults later) (numbered lines)
 
     none_ends : (rest : List Line) → EndsAt load end.NoMemory time base start [] [] rest
     none_ends [] = refl
     none_ends (line ∷ rest) = tt
 
-    pub serves_none : ServesLines sees clock (ticks.upcoming store.clock) base faults load lines end.NoMemory told taken taken old store.shelf
+    pub serves_none : ServesLines sees (record { clock = clock; clock_now = ticks.upcoming store.clock }) (record { before = base; now = faults }) load lines end.NoMemory (output_with told taken taken) old store.shelf
     serves_none = record {
       start = start;
       used = begun.used;
@@ -247,21 +300,31 @@ module _ {S C : Type 0} (sees : SeesFolder S) (ticks : SeesTime C) (clock : ℕ 
       rest = numbered lines;
       parts = refl;
       ends = none_ends (numbered lines);
-      serial = serial time start base faults [] (may_start faults later) (numbered lines);
+      serial = none_serial;
+      clients = clients_know start base faults (numbered lines) [] none_serial;
+      may = may_start faults later;
+      failures = later;
+      whole = λ stayed. none_failed sees time start [] base faults store.shelf later stayed there start_kept;
       output = λ tells. sym (append-nil taken);
       readings = λ answered. absurd answered;
       others = λ n other none. begun.others n other;
-      folder = none_kept (sees.files store.shelf) there;
-      after = none_kept;
+      folder = start_kept (sees.files store.shelf) there;
+      after = start_kept;
       crash = begun.since;
-      next = leaves_next sees time start [] old store.shelf there none_kept begun.since;
+      opens = record {
+        opened = store.shelf;
+        before = begun.since;
+        there = start_kept;
+        since = stays_may sees time start [] (serving_over store []) (keeps_start []) now;
+      };
+      next = leaves_next sees time start [] old store.shelf there start_kept begun.since;
     }
 
 -- ---- a run over a folder
 
-module _ {S : Type 0} (sees : SeesFolder S) (clock clock_now : ℕ → ℕ) (base faults : ℕ) (load : Option Load) (lines : List NamedLine) (told : Type 0) (taken taken_now : List ℕ) (old new : S) where
-  pub runs_serving : (e : End) → EndsServing e → ServesLines sees clock clock_now base faults load lines e told taken taken_now old new
-      → RunsOver sees clock clock_now base faults load lines e told taken taken_now old new
+module _ {S : Type 0} (sees : SeesFolder S) (times : Times) (faults : Faults) (load : Option Load) (lines : List NamedLine) (output : Output) (old new : S) where
+  pub runs_serving : (e : End) → EndsServing e → ServesLines sees times faults load lines e output old new
+      → RunsOver sees times faults load lines e output old new
   runs_serving (end.Answered mark groups loaded) serving serves = serves
   runs_serving (end.Rebuilt kept skipped) serving serves = absurd serving
   runs_serving end.Usage serving serves = absurd serving

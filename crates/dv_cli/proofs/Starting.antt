@@ -18,8 +18,8 @@ use Rattle.dv_openings.proofs.Numbers.{named_one}
 use Rattle.dv_chain.specs.declared.chain.Chain.{Chain}
 use Rattle.dv_chain.specs.Creations.{first_mailbox}
 use Rattle.dv_chain.specs.Openings.{IsQuiet}
-use Rattle.dv_keeping.specs.Keeping.{Gives, Keeps}
-use Rattle.dv_keeping.proofs.Kept.{KeepsMessages, kept_same, same_messages}
+use Rattle.dv_writing.specs.Keeping.{Gives, Keeps}
+use Rattle.dv_writing.proofs.Kept.{KeepsMessages, kept_same, same_messages}
 use Rattle.dv_serial.specs.NextRuns.{IsTrueFolder}
 use Rattle.dv_cli.specs.Starts.{IsOpened, Starts, log_from, new_log}
 use Rattle.dv_cli.proofs.GuidFiles.{guid_read}

@@ -2,6 +2,7 @@
 use Rattle.std.proofs.Common.{ℕ, List}
 use Rattle.std.specs.Prelude.{Option}
 use Rattle.dv_formats.specs.Scripts.{NamedLine}
+use Rattle.dv_serial.specs.Outputs.{output_with}
 use Rattle.dv_cli.specs.declared.ending.End.{End}
 use Rattle.dv_cli.specs.declared.ending.End.TheVariants as end
 use Rattle.dv_cli.specs.declared.words.Load.{Load}
@@ -10,10 +11,10 @@ use Rattle.dv_shelf.specs.Sees.{SeesFolder}
 
 module _ {S : Type 0} (sees : SeesFolder S) (clock clock_now : ℕ → ℕ) (base faults : ℕ) (load : Option Load) (lines : List NamedLine) (old new : S) (a b c d : List ℕ) where
   abbrev Serves : End → List ℕ → List ℕ → Type 0
-  Serves e before now = ServesLines sees clock clock_now base faults load lines e ⊥ before now old new
+  Serves e before now = ServesLines sees (record { clock = clock; clock_now = clock_now }) (record { before = base; now = faults }) load lines e (output_with ⊥ before now) old new
 
   abbrev Runs : End → List ℕ → List ℕ → Type 0
-  Runs e before now = RunsOver sees clock clock_now base faults load lines e ⊥ before now old new
+  Runs e before now = RunsOver sees (record { clock = clock; clock_now = clock_now }) (record { before = base; now = faults }) load lines e (output_with ⊥ before now) old new
 
   served : (e : End) → Serves e a b → Serves e c d
   served e s = record {
@@ -26,12 +27,17 @@ module _ {S : Type 0} (sees : SeesFolder S) (clock clock_now : ℕ → ℕ) (bas
     parts = s.parts;
     ends = s.ends;
     serial = s.serial;
+    clients = s.clients;
+    may = s.may;
+    failures = s.failures;
+    whole = s.whole;
     output = λ told. absurd told;
     readings = s.readings;
     others = s.others;
     folder = s.folder;
     after = s.after;
     crash = s.crash;
+    opens = s.opens;
     next = s.next;
   }
 

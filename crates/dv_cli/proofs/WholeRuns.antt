@@ -19,6 +19,7 @@ use Rattle.dv_script.specs.declared.types.ScriptEnd.{ScriptEnd}
 use Rattle.dv_script.specs.declared.types.ScriptEnd.TheVariants as script
 use Rattle.dv_playing.specs.Laws.{lines_of}
 use Rattle.dv_playing.specs.Playing.{Attempt, begin, played, replies_to}
+use Rattle.dv_serial.specs.Outputs.{output_with}
 use Rattle.dv_serial.specs.Places.{play_of}
 use Rattle.dv_serial.specs.Scripts.{numbered, replies_text}
 use Rattle.dv_cli.specs.declared.ending.End.{End}
@@ -247,7 +248,7 @@ module _ {S : Type 0} (sees : SeesFolder S) (clock clock_now : ℕ → ℕ) (bas
     (t : Option Task) (lines : List NamedLine) (told : Type 0)
     (taken between taken_now : List ℕ) (old new : S) (still : Rose base faults → ⊥) where
   abbrev Serving : End → Type 0
-  Serving e = ServesLines sees clock clock_now base faults (load_in t) lines e (RepliesTold t told) taken between old new
+  Serving e = ServesLines sees (record { clock = clock; clock_now = clock_now }) (record { before = base; now = faults }) (load_in t) lines e (output_with (RepliesTold t told) taken between) old new
 
   module _ (mark : Mark) (groups : ℕ) (loaded : Option Loaded) (serves : Serving (end.Answered mark groups loaded)) where
     abbrev clock_then : ℕ → ℕ
@@ -328,7 +329,7 @@ module _ {S : Type 0} (sees : SeesFolder S) (clock clock_now : ℕ → ℕ) (bas
 
   module _ (tells : told) (opens : Opens t) (silent : (HasScript t → ⊥) → between ≡ taken) where
     abbrev Running : End → Type 0
-    Running e = RunsOver sees clock clock_now base faults (load_in t) lines e (RepliesTold t told) taken between old new
+    Running e = RunsOver sees (record { clock = clock; clock_now = clock_now }) (record { before = base; now = faults }) (load_in t) lines e (output_with (RepliesTold t told) taken between) old new
 
     run_output : (e : End) → EndsWell e → Running e → Appends between taken_now (text_of e)
         → Writes taken taken_now (IsOutputOver (load_in t) lines clock (sees.files old))
@@ -375,7 +376,7 @@ module _ {S : Type 0} (sees : SeesFolder S) (clock clock_now : ℕ → ℕ) (bas
 pub rebuilt_output : {S : Type 0} (sees : SeesFolder S) (clock clock_now : ℕ → ℕ) (e : End)
     (said : Told) (old_shelf new_shelf : S) (status : ℕ) (before now : Counts)
     (old new : List ℕ)
-    → RebuildsFolder sees clock clock_now e said old_shelf new_shelf
+    → RebuildsFolder sees (record { clock = clock; clock_now = clock_now }) e said old_shelf new_shelf
     → ComesFrom before now e → (AnyRose before now → ⊥) → (status ≡ 4 → ⊥) → (status ≡ 7 → ⊥)
     → Concludes e status old new → Writes old new (IsRebuiltOutput clock (sees.files old_shelf))
 rebuilt_output sees clock clock_now e said old_shelf new_shelf status before now old new rebuilds cause still not-four not-seven last =

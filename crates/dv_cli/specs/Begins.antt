@@ -6,7 +6,7 @@ use Rattle.dv_shelf.specs.declared.shelf.Name.{Name}
 use Rattle.dv_shelf.specs.declared.shelf.Name.TheVariants as name
 use Rattle.dv_shelf.specs.Clocks.{behind}
 use Rattle.dv_shelf.specs.Crashes.{LeavesOnly}
-use Rattle.dv_keeping.specs.Debts.{Nothing}
+use Rattle.dv_writing.specs.Debts.{Nothing}
 use Rattle.dv_rotation.specs.Texts.{place_of}
 use Rattle.dv_store.specs.Rest.{IsAtRest}
 use Rattle.dv_store.specs.States.{State}

@@ -1,3 +1,4 @@
+pub mod Spans
 pub mod Words
 pub mod Readings
 pub mod Running
@@ -13,3 +14,4 @@ pub mod Rebuilding
 pub mod Wholes
 pub mod Told
 pub mod Obeying
+pub mod Restarts

@@ -32,8 +32,8 @@ pub record SaysOf (told : Told) (status : ℕ) (taken taken_now : List ℕ) (bef
   pub text : (status ≡ 1 → ⊥) → Tells (told_text said) taken taken_now before now
 
 -- Standard error takes what the run tells by its task and status, and nothing else.
-pub record TellsErrors {E : Type 0} (sees : SeesOutput E) (t : Option Task) (status : ℕ) (old new : E)
-    : Type 0 where
+pub record TellsErrors {E : Type 0} (sees : SeesOutput E) (t : Option Task) (status : ℕ)
+    (old new : E) : Type 0 where
   pub told : Told
   pub by : IsToldBy t status told
   pub says : sees.tells → SaysOf told status (sees.taken old) (sees.taken new)

@@ -7,6 +7,7 @@ use Rattle.dv_rebuild.specs.declared.fault.RebuildFault.{RebuildFault}
 use Rattle.dv_rebuild.specs.declared.fault.RebuildFault.TheVariants as fault
 use Rattle.dv_rebuild.specs.declared.rebuilding.Rebuilt.{Rebuilt}
 use Rattle.dv_rebuild.specs.Rebuilding.{IsOldOrRebuilt, LeavesRebuilt}
+use Rattle.dv_cli.specs.Spans.{Times}
 use Rattle.dv_cli.specs.declared.ending.End.{End}
 use Rattle.dv_cli.specs.declared.ending.End.TheVariants as end
 use Rattle.dv_notices.specs.declared.telling.Told.{Told}
@@ -26,12 +27,12 @@ rebuilt_told (Err fault) = told.Nothing
 
 -- The folder is rebuilt at the clock's next reading, or why it isn't is told. A crash at any moment
 -- leaves it as it was or rebuilt; and behind a rebuild only what is read.
-pub record RebuildsFolder {S : Type 0} (sees : SeesFolder S) (clock clock_now : ℕ → ℕ) (e : End)
+pub record RebuildsFolder {S : Type 0} (sees : SeesFolder S) (times : Times) (e : End)
     (said : Told) (old new : S) : Type 0 where
   pub result : Result Rebuilt RebuildFault
   pub told : e ≡ rebuilt_end result
   pub report : said ≡ rebuilt_told result
-  pub leaves : LeavesRebuilt (sees.files old) (clock 0) (sees.files new) result
-  pub crash : LeavesOnly sees old new (IsOldOrRebuilt (sees.files old) (clock 0))
+  pub leaves : LeavesRebuilt (sees.files old) (times.clock 0) (sees.files new) result
+  pub crash : LeavesOnly sees old new (IsOldOrRebuilt (sees.files old) (times.clock 0))
   pub settled : OnOk result (IsSettled sees new)
-  pub readings : clock_now ≡ behind clock 1
+  pub readings : times.clock_now ≡ behind times.clock 1

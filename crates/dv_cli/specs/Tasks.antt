@@ -3,6 +3,7 @@ use Rattle.std.specs.Prelude.{◌≡◌, List, Option, Some, None, IsSome, Resul
 use Rattle.dv_formats.specs.Generators.{generated}
 use Rattle.dv_formats.specs.Parsing.{ScriptFault}
 use Rattle.dv_formats.specs.Scripts.{NamedLine}
+use Rattle.dv_serial.specs.Outputs.{Output}
 use Rattle.dv_cli.specs.declared.words.Load.{Load}
 use Rattle.dv_cli.specs.declared.words.Task.{Task}
 use Rattle.dv_cli.specs.declared.words.Task.TheVariants as task
@@ -36,6 +37,10 @@ HasScript other = ⊥
 abbrev pub RepliesTold : Option Task → Type 0 → Type 0
 RepliesTold (Some task.Run) told = told
 RepliesTold other told = ⊥
+
+-- an output so, by its replies alone
+abbrev pub replies_of : Option Task → Output → Output
+replies_of t out = record out { told = RepliesTold t out.told }
 
 -- a mailbox is opened or made where lines are answered
 abbrev pub Opens : Option Task → Type 0

@@ -8,6 +8,7 @@ mod opening;
 mod program;
 mod reading;
 mod rebuilding;
+mod restarts;
 mod running;
 #[cfg(test)]
 mod tests;
@@ -16,4 +17,5 @@ mod words;
 
 pub use errors::ErrorOutput;
 pub use program::{obey_read, words_given};
+pub use restarts::restarts_may_run;
 pub use top_call::{Ran, run};

@@ -55,7 +55,7 @@ fn have_types<S, C>(store: &Store<S, C>)
 {
     let live = store.live();
     let _next = live.next_uid();
-    let mark = store.mark();
+    let mark = store.place();
     is_number(mark.file_seq);
     is_number(mark.offset);
     is_number(store.indexid());

@@ -6,7 +6,7 @@ ghost use Rattle.dv_cli.specs.Obeying.{IsMemory, Obeys, SaysOf, Tells, TellsErro
 ghost use Rattle.dv_notices.specs.declared.telling.Told.TheVariants as telling;
 ghost use Rattle.dv_cli.specs.Running.{usage_text};
 ghost use Rattle.dv_cli.specs.Words.{Prints, asks_for, folder_word, missing_for, run_words, task_of};
-ghost use Rattle.dv_folder.specs.Paths.{path_of};
+ghost use Rattle.dv_folder.specs.Paths.{layout_of, missing_of, path_of};
 ghost use Rattle.dv_folder.specs.Ways.{folder_path};
 
 use crate::ending::{End, conclude, write_text};
@@ -129,8 +129,10 @@ fn missing_for(task: Option<Task>) -> Missing
 
 /// The mailbox folder that the first word names, which the task makes where it is missing, or not.
 fn folder_named(rt: HostRuntime, words: &[String], task: Option<Task>) -> Result<Folder, NoMemory>
-    ensures { IfOk result (λ shelf. path_of shelf
+    ensures path { IfOk result (λ shelf. path_of shelf
         ≡ folder_path Layout.Mailbox (folder_word (map string_bytes words.now))) }
+    ensures layout { IfOk result (λ shelf. layout_of shelf ≡ Layout.Mailbox) }
+    ensures missing { IfOk result (λ shelf. missing_of shelf ≡ missing_for task) }
 {
     let path = match words {
         [path, ..] => path.as_str(),

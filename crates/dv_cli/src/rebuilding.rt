@@ -5,6 +5,7 @@ ghost use Rattle.dv_shelf.specs.Clocks.{behind};
 ghost use Rattle.dv_shelf.specs.Crashes.{IsSettled};
 ghost use Rattle.dv_cli.specs.Causes.{HasRunCause, counts_of};
 ghost use Rattle.dv_cli.specs.Rebuilding.{RebuildsFolder, rebuilt_end, rebuilt_told};
+ghost use Rattle.dv_cli.specs.Spans.{times_of};
 ghost use Rattle.dv_cli.specs.Tasks.{EndsBy};
 ghost use Rattle.dv_cli.specs.Told.{IsToldAt};
 ghost use Rattle.dv_cli.specs.declared.words.Task.TheVariants as task;
@@ -44,8 +45,8 @@ fn rebuilt_told(rebuilt: Result<Rebuilt, RebuildFault>) -> Told
 /// Rebuilds the folder.
 pub fn run_rebuild<S: Shelf, C: Clock>(alloc: Global, mut shelf: S, mut clock: C) -> Outcome<S, C>
     ensures rebuilds { S.sees.tells → C.sees.tells → IsSettled S.sees shelf →
-        RebuildsFolder S.sees (C.sees.upcoming clock)
-        (C.sees.upcoming result.clock) result.end result.told shelf result.shelf }
+        RebuildsFolder S.sees (times_of C.sees clock result.clock) result.end result.told shelf
+        result.shelf }
     // Each end is of a rebuild and has its cause, and the clock is read once.
     ensures ends { EndsBy (Some task.Rebuild) result.end × IsToldAt result.end result.told }
     ensures cause { (source output : ℕ) → HasRunCause

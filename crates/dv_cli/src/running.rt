@@ -6,11 +6,14 @@ ghost use Rattle.dv_notices.specs.declared.telling.Told.TheVariants as telling;
 ghost use Rattle.dv_shelf.specs.Crashes.{IsSettled};
 ghost use Rattle.dv_formats.specs.Scripts.{NamedLine, sessions_of};
 ghost use Rattle.dv_serial.specs.NextRuns.{IsTrueFolder};
+ghost use Rattle.dv_serial.specs.Outputs.{output_of};
 ghost use Rattle.dv_serial.specs.Serves.{IsServable, TakesUpTo};
 ghost use Rattle.dv_cli.specs.Begins.{IsBegun};
 ghost use Rattle.dv_cli.specs.Behind.{end_behind, loaded_by};
 ghost use Rattle.dv_cli.specs.Causes.{EndCause, EndsServing, TakesForRun, TellsFaults};
 ghost use Rattle.dv_cli.specs.Runs.{RunsOver, ServesLines};
+ghost use Rattle.dv_cli.specs.Spans.{times_of};
+ghost use Rattle.dv_serial.specs.Faults.{faults_of};
 
 use crate::ending::{End, Loaded};
 use crate::opening::open_folder;
@@ -109,9 +112,9 @@ fn serve_lines<S: Shelf, C: Clock, L: Lines, O: Sink, G: Gate>(
     ensures runs { S.sees.tells → C.sees.tells → (clock : ℕ → ℕ) (old : S) →
         IsBegun S.sees C.sees clock old store →
         (base : ℕ) → base ≤ S.sees.fault_count store.shelf →
-        ServesLines S.sees clock (C.sees.upcoming result.clock)
-        base (S.sees.fault_count result.shelf) load (L.left lines.old) result.end
-        O.sees.tells (O.sees.taken out.old) (O.sees.taken out.new) old result.shelf }
+        ServesLines S.sees (record { clock = clock; clock_now = C.sees.upcoming result.clock })
+        (record { before = base; now = S.sees.fault_count result.shelf }) load (L.left lines.old)
+        result.end (output_of O.sees out.old out.new) old result.shelf }
     ensures ends { EndsServing result.end × (result.told ≡ telling.Nothing) }
     ensures cause { EndCause (S.sees.fault_count store.shelf) (S.sees.fault_count result.shelf)
         (O.sees.fault_count out.old) (O.sees.fault_count out.new) result.end }
@@ -152,10 +155,8 @@ pub fn run_folder<S: Shelf, C: Clock, L: Lines, O: Sink, G: Gate>(
     // Of a settled folder with a true cache: what is answered, written and left, at any moment too.
     ensures runs { S.sees.tells → C.sees.tells → IsSettled S.sees shelf →
         IsTrueFolder (S.sees.files shelf) →
-        RunsOver S.sees (C.sees.upcoming clock)
-        (C.sees.upcoming result.clock) (S.sees.fault_count shelf) (S.sees.fault_count result.shelf)
-        load (L.left lines.old) result.end O.sees.tells (O.sees.taken out.old)
-        (O.sees.taken out.new) shelf result.shelf }
+        RunsOver S.sees (times_of C.sees clock result.clock) (faults_of S.sees shelf result.shelf)
+        load (L.left lines.old) result.end (output_of O.sees out.old out.new) shelf result.shelf }
     // A fault that is found is told, and only where there is none all lines are answered; nothing
     // is told beside it.
     ensures found { S.sees.tells → TellsFaults (S.sees.files shelf) result.end }

@@ -7,6 +7,7 @@ mod real;
 mod rows;
 mod sleeper;
 mod tasks;
+mod told;
 
 use crate::top_call::{Ran, run};
 use dv_model::{Bytes, List};

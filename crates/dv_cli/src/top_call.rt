@@ -7,6 +7,7 @@ ghost use Rattle.dv_shelf.specs.Streams.{Appends};
 ghost use Rattle.dv_formats.specs.Parsing.{ScriptFault, parsed};
 ghost use Rattle.dv_formats.specs.Scripts.{NamedLine};
 ghost use Rattle.dv_serial.specs.NextRuns.{IsTrueFolder};
+ghost use Rattle.dv_serial.specs.Outputs.{output_of};
 ghost use Rattle.dv_serial.specs.Serves.{TakesUpTo};
 ghost use Rattle.dv_cli.specs.Causes.{AnyRose, EndsRefused, HasCauses, HasFault, HasRunCause, IsOr, IsReadEnd, IsTimed, IsUntouched, ScriptEnds, TakesByEnd, TellsFaults, TellsScript, counts_of, most_readings};
 ghost use Rattle.dv_cli.specs.Outputs.{IsOutputOf};
@@ -14,6 +15,8 @@ ghost use Rattle.dv_cli.specs.Readings.{TakesFront, read_limit};
 ghost use Rattle.dv_cli.specs.Rebuilding.{RebuildsFolder};
 ghost use Rattle.dv_cli.specs.Running.{usage_text};
 ghost use Rattle.dv_cli.specs.Runs.{RunsOver};
+ghost use Rattle.dv_cli.specs.Spans.{times_of};
+ghost use Rattle.dv_serial.specs.Faults.{faults_of};
 ghost use Rattle.dv_cli.specs.Starts.{Starts};
 ghost use Rattle.dv_cli.specs.Tasks.{Answers, EndsBy, HasScript};
 ghost use Rattle.dv_cli.specs.Told.{IsToldAt, IsToldBy, TellsEnd, TellsFault};
@@ -93,10 +96,8 @@ fn run_script<S: Shelf, I: Source, O: Sink, C: Clock, G: Gate>(
         IsTrueFolder (S.sees.files shelf) → (lines : List NamedLine) →
         parsed (I.sees.left script.old) ≡ Ok lines →
         IsUnread result.end (O.sees.taken out.old) (O.sees.taken out.new) shelf result.shelf
-        ⊎ RunsOver S.sees (C.sees.upcoming clock)
-        (C.sees.upcoming result.clock) (S.sees.fault_count shelf) (S.sees.fault_count result.shelf)
-        None lines
-        result.end O.sees.tells (O.sees.taken out.old) (O.sees.taken out.new) shelf result.shelf }
+        ⊎ RunsOver S.sees (times_of C.sees clock result.clock) (faults_of S.sees shelf result.shelf)
+        None lines result.end (output_of O.sees out.old out.new) shelf result.shelf }
     // One that is refused leaves everything but its source untouched.
     ensures refused { I.sees.tells → (fault : ScriptFault) →
         parsed (I.sees.left script.old) ≡ Err fault →
@@ -157,14 +158,13 @@ fn perform<S: Shelf, I: Source, O: Sink, C: Clock, G: Gate>(
         IsTrueFolder (S.sees.files shelf) → (lines : List NamedLine) →
         Answers (task_of (map string_bytes words.now)) I.sees.tells
         (parsed (I.sees.left script.old)) lines →
-        RunsTask S.sees (C.sees.upcoming clock)
-        (C.sees.upcoming result.clock) (S.sees.fault_count shelf) (S.sees.fault_count result.shelf)
-        (task_of (map string_bytes words.now)) lines result.end O.sees.tells
-        (O.sees.taken out.old) (O.sees.taken out.new) shelf result.shelf }
+        RunsTask S.sees (times_of C.sees clock result.clock) (faults_of S.sees shelf result.shelf)
+        (task_of (map string_bytes words.now)) lines result.end (output_of O.sees out.old out.new)
+        shelf result.shelf }
     ensures rebuilds { task_of (map string_bytes words.now) ≡ Some task.Rebuild → S.sees.tells →
         C.sees.tells → IsSettled S.sees shelf → (out.new ≡ out.old)
-        × RebuildsFolder S.sees (C.sees.upcoming clock)
-        (C.sees.upcoming result.clock) result.end result.told shelf result.shelf }
+        × RebuildsFolder S.sees (times_of C.sees clock result.clock) result.end result.told shelf
+        result.shelf }
     // What is left untouched where they ask for nothing, or the script is refused.
     ensures usage { task_of (map string_bytes words.now) ≡ None → (out.new ≡ out.old)
         × (result.end ≡ how.Usage)
@@ -229,24 +229,22 @@ pub fn run<S: Shelf + Send, I: Source, O: Sink, C: Clock + Send, G: Gate + Sync>
         IsTrueFolder (S.sees.files shelf) → (lines : List NamedLine) →
         Answers (task_of (map string_bytes words.now)) I.sees.tells
         (parsed (I.sees.left script.old)) lines →
-        IsRun S.sees (C.sees.upcoming clock) (C.sees.upcoming result.clock)
+        IsRun S.sees (times_of C.sees clock result.clock)
         (counts_of (S.sees.fault_count shelf) (I.sees.fault_count script.old)
         (O.sees.fault_count out.old))
         (counts_of (S.sees.fault_count result.shelf) (I.sees.fault_count script.new)
         (O.sees.fault_count out.new))
-        (task_of (map string_bytes words.now)) lines result.status O.sees.tells
-        (O.sees.taken out.old) (O.sees.taken out.new) shelf result.shelf }
+        (task_of (map string_bytes words.now)) lines result.status
+        (output_of O.sees out.old out.new) shelf result.shelf }
     // A settled folder is rebuilt, or left as it was; so does a crash at any moment.
     ensures rebuilds { task_of (map string_bytes words.now) ≡ Some task.Rebuild → S.sees.tells →
         C.sees.tells → IsSettled S.sees shelf →
-        IsRebuildRun S.sees (C.sees.upcoming clock)
-        (C.sees.upcoming result.clock)
+        IsRebuildRun S.sees (times_of C.sees clock result.clock)
         (counts_of (S.sees.fault_count shelf) (I.sees.fault_count script.old)
         (O.sees.fault_count out.old))
         (counts_of (S.sees.fault_count result.shelf) (I.sees.fault_count script.new)
         (O.sees.fault_count out.new))
-        result.status result.told O.sees.tells (O.sees.taken out.old) (O.sees.taken out.new) shelf
-        result.shelf }
+        result.status result.told (output_of O.sees out.old out.new) shelf result.shelf }
 
     // Words that ask for nothing leave everything untouched, and a script that is refused leaves
     // folder and clock so; what is written then. Of such a script its first bad line is told.
@@ -262,11 +260,11 @@ pub fn run<S: Shelf + Send, I: Source, O: Sink, C: Clock + Send, G: Gate + Sync>
         (O.sees.fault_count out.old))
         (counts_of (S.sees.fault_count result.shelf) (I.sees.fault_count script.new)
         (O.sees.fault_count out.new))
-        result.status O.sees.tells (O.sees.taken out.old) (O.sees.taken out.new)
+        result.status (output_of O.sees out.old out.new)
         × TellsFault fault (take read_limit (I.sees.left script.old)) result.told }
 
-    // What each status comes from, and what is told beside the output; where a fault is found in the
-    // folder the status is 3, and else 0, unless memory runs out or something outside fails.
+    // What each status comes from, and what is told beside the output; where a fault is found in
+    // the folder the status is 3, and else 0, unless memory runs out or something outside fails.
     ensures causes { IsToldBy (task_of (map string_bytes words.now)) result.status result.told
         × HasCauses result.status (task_of (map string_bytes words.now))
         (counts_of (S.sees.fault_count shelf) (I.sees.fault_count script.old)

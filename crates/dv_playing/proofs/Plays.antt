@@ -13,7 +13,7 @@ use Rattle.dv_playing.proofs.Steps.{IsPlayed, allowed_later, begins, has_written
 
 -- ---- all lines
 
-all_played : (clock : ℕ → ℕ) (base : ℕ) (play : Play) (lines : List Line) (replies : List (List Reply)) (attempts : List Attempt) → IsPlayed base play lines replies → All (IsAttempt base) attempts
+pub all_played : (clock : ℕ → ℕ) (base : ℕ) (play : Play) (lines : List Line) (replies : List (List Reply)) (attempts : List Attempt) → IsPlayed base play lines replies → All (IsAttempt base) attempts
     → IsPlayed base (played clock play attempts) (lines ++ lines_of attempts) (replies ++ replies_to clock play attempts)
 all_played clock base play lines replies [] is each =
     subst (λ (ls : List Line). IsPlayed base play ls (replies ++ [])) (sym (append-nil lines)) (subst (IsPlayed base play lines) (sym (append-nil replies)) is)
@@ -27,7 +27,7 @@ all_played clock base play lines replies (a ∷ attempts) is each =
     subst (λ (ls : List Line). IsPlayed base behind ls (replies ++ s.replies ∷ rest)) (append_assoc lines (a.line ∷ []) (lines_of attempts))
     (subst (IsPlayed base behind ((lines ++ a.line ∷ []) ++ lines_of attempts)) (append_assoc replies (s.replies ∷ []) rest) all)
 
-length_replies : (clock : ℕ → ℕ) (play : Play) (attempts : List Attempt) → length (lines_of attempts) ≡ length (replies_to clock play attempts)
+pub length_replies : (clock : ℕ → ℕ) (play : Play) (attempts : List Attempt) → length (lines_of attempts) ≡ length (replies_to clock play attempts)
 length_replies clock play [] = refl
 length_replies clock play (a ∷ attempts) = let e = length_replies clock (step clock play a).play attempts in omega (arith, e)
 
@@ -43,6 +43,9 @@ module _ (clock : ℕ → ℕ) (start : Log) (base faults : ℕ) (attempts : Lis
 
   pub stands : IsAtEnd end
   stands = is_played.end
+
+  pub answered : Runs end.log base (λ s. new_session) 0 (lines_of attempts) replies end.states (length end.log.entries)
+  answered = is_played.runs
 
   many : length (lines_of attempts) ≡ length replies
   many = length_replies clock (begin start) attempts

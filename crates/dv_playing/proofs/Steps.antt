@@ -208,7 +208,7 @@ module _ (base : ℕ) (play : Play) (lines : List Line) (replies : List (List Re
   longer_sound =
       written_sound play.log is.end.sound line.0 line.1 received g play.mailbox is.end.mailbox is_entry (group_applies line.1 y.view play.mailbox play.log.guid good.1)
 
-  end_is : at longer (length longer.entries) ≡ Some after
+  pub end_is : at longer (length longer.entries) ≡ Some after
   end_is = written_at play.log is.end.sound line.0 line.1 received g play.mailbox is.end.mailbox ∙ applies
 
   pub runs_longer : Runs longer base (λ s. new_session) 0 lines replies play.states met

@@ -1,9 +1,9 @@
 -- What is played is a run by the rules.
-use Rattle.std.specs.Prelude.{◌≡◌, ℕ, true, false, List, [], ◌∷◌, ◌++◌, length, map, All, None, Some}
+use Rattle.std.specs.Prelude.{◌≡◌, ◌≤◌, ℕ, true, false, List, [], ◌∷◌, ◌++◌, flat_map, length, map, All, None, Some}
 use Rattle.dv_model.specs.Counts.{Rose, RoseBy}
 use Rattle.dv_model.specs.Journals.{IsSound, IsU32, Log, at, mark_of}
-use Rattle.dv_model.specs.Sessions.{IsCommand, is_write}
-use Rattle.dv_model.specs.Transcripts.{Line, Serial, unavailable_count}
+use Rattle.dv_model.specs.Sessions.{IsCommand, is_write, new_session}
+use Rattle.dv_model.specs.Transcripts.{Line, Runs, Serial, unavailable_count}
 use Rattle.dv_playing.specs.Playing.{Attempt, Failed, Outcome, Play, Served, begin, group_here, is_empty, played, refused_here, replies_to, step, with_group_here}
 
 -- a session has a number of 32 bits, and a command is one of its type
@@ -57,10 +57,41 @@ pub record IsAtEnd (play : Play) : Type 0 where
   pub mailbox : at play.log (length play.log.entries) ≡ Some play.mailbox
   pub mark : play.mark ≡ mark_of play.log (length play.log.entries)
 
+-- The lines are answered one after another over the log that is made, from its first entry to its
+-- last: so its entries are the groups of the lines that are answered with a mark, each once.
+abbrev pub PlaysAnswer : Type 0
+PlaysAnswer = (clock : ℕ → ℕ) (start : Log) (base faults : ℕ) (attempts : List Attempt)
+    → MayPlay clock start base faults attempts
+    → let end : Play = played clock (begin start) attempts in
+    Runs end.log base (λ s. new_session) 0 (lines_of attempts)
+    (replies_to clock (begin start) attempts) end.states (length end.log.entries)
+
 -- so it stands behind all lines
 abbrev pub PlaysStand : Type 0
 PlaysStand = (clock : ℕ → ℕ) (start : Log) (base faults : ℕ) (attempts : List Attempt)
     → MayPlay clock start base faults attempts → IsAtEnd (played clock (begin start) attempts)
+
+-- ---- failures
+
+-- the count that a failure tells
+abbrev pub failure_of : Outcome → List ℕ
+failure_of Served = []
+failure_of (Failed faults rotation) = faults ∷ []
+
+-- those of lines in turn
+abbrev pub failures_of : List Attempt → List ℕ
+failures_of attempts = flat_map (λ a. failure_of a.outcome) attempts
+
+-- The counts rise from `low`: each is above the one before it, or stands at its type's end. None
+-- is above `high`.
+abbrev pub RiseFrom : ℕ → List ℕ → ℕ → Type 0
+RiseFrom low [] high = low ≤ high
+RiseFrom low (n ∷ ns) high = Rose low n × RiseFrom n ns high
+
+-- so there are no more of them than the count rose by, and each is above the first one
+abbrev pub FailuresRise : Type 0
+FailuresRise = (low high : ℕ) (ns : List ℕ) → RiseFrom low ns high
+    → RoseBy (length ns) low high × All (Rose low) ns
 
 -- ---- one line more
 

@@ -1,4 +1,4 @@
-ghost use Rattle.dv_playing.specs.Laws.{PlaysAreSerial, PlaysMayLeave, PlaysStand, PlaysGoOn, RepliesGoOn};
+ghost use Rattle.dv_playing.specs.Laws.{FailuresRise, PlaysAnswer, PlaysAreSerial, PlaysMayLeave, PlaysStand, PlaysGoOn, RepliesGoOn};
 
 /// What is played of a script is a run by the session rules over the log that the play makes: each
 /// command is refused by its one line, answered by the disk's failure, or told over the entries so
@@ -6,6 +6,7 @@ ghost use Rattle.dv_playing.specs.Laws.{PlaysAreSerial, PlaysMayLeave, PlaysStan
 /// its group.
 pub fn plays_are_serial()
     ensures serial { PlaysAreSerial }
+    ensures answer { PlaysAnswer }
     ensures left { PlaysMayLeave }
     ensures stands { PlaysStand }
 {}
@@ -14,4 +15,10 @@ pub fn plays_are_serial()
 pub fn plays_go_on()
     ensures play { PlaysGoOn }
     ensures replies { RepliesGoOn }
+{}
+
+/// Where the disk's failures tell counts that rise, there are no more of them than the count rose
+/// by, and each is above the count from before.
+pub fn failures_rise()
+    ensures { FailuresRise }
 {}

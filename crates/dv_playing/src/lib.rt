@@ -4,4 +4,4 @@
 
 mod laws;
 
-pub use laws::{plays_are_serial, plays_go_on};
+pub use laws::{failures_rise, plays_are_serial, plays_go_on};

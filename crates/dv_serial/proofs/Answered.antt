@@ -9,7 +9,7 @@ use Rattle.dv_model.specs.Transcripts.{Line}
 use Rattle.dv_model.specs.Views.{View}
 use Rattle.dv_shelf.specs.Folders.{Folder}
 use Rattle.dv_chain.specs.Openings.{OnlyLooks}
-use Rattle.dv_keeping.specs.Debts.{Debt}
+use Rattle.dv_writing.specs.Debts.{Debt}
 use Rattle.dv_answer.specs.Following.{Leads, new_follower}
 use Rattle.dv_answer.specs.Refusing.{own_refusal}
 use Rattle.dv_plans.specs.declared.fault.StoreFault.{StoreFault}
@@ -20,7 +20,7 @@ use Rattle.dv_store.specs.declared.receipt.Receipt.{Receipt}
 use Rattle.dv_store.specs.Commits.{Commits, CommitsQuietly, IsIdle, IsUnwritten, TakesReadings, write_of}
 use Rattle.dv_store.specs.Rest.{IsAtRest}
 use Rattle.dv_store.specs.States.{State}
-use Rattle.dv_serial.specs.Following.{Follows}
+use Rattle.dv_serial.specs.Following.{Follows, origin_of}
 use Rattle.dv_serial.specs.Places.{play_of}
 use Rattle.dv_serial.specs.Serves.{IsServable, seat_at}
 use Rattle.dv_serial.specs.Servings.{Serving}
@@ -37,7 +37,7 @@ pub not_both : (b : Bool) → IsTrue b → b ≡ false → ⊥
 not_both b is other = cc
 
 module _ {S C : Type 0} (sees : SeesFolder S) (ticks : SeesTime C) (clock : ℕ → ℕ) (start : Log) (base faults : ℕ) (attempts : List Attempt)
-    (old : Serving S C) (follows : Follows sees ticks clock start base faults attempts old) (at number : ℕ) (c : Command) (number_is : number ≡ at + 1) (less : at < length old.seats) (small : IsU32 number)
+    (old : Serving S C) (follows : Follows sees ticks (origin_of clock start base) faults attempts old) (at number : ℕ) (c : Command) (number_is : number ≡ at + 1) (less : at < length old.seats) (small : IsU32 number)
     (servable : IsServable c) (write : is_write c ≡ true) (own : own_refusal (seat_at old.seats at).state c ≡ None) where
   abbrev x : SessionState
   x = (seat_at old.seats at).state

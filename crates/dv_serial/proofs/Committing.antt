@@ -18,14 +18,14 @@ use Rattle.dv_shelf.specs.Folders.{Folder}
 use Rattle.dv_shelf.proofs.Moments.{weaker}
 use Rattle.dv_groups.specs.Groups.{HasSizes}
 use Rattle.dv_rotation.specs.Texts.{place_of}
-use Rattle.dv_keeping.specs.Debts.{Nothing}
+use Rattle.dv_writing.specs.Debts.{Nothing}
 use Rattle.dv_answer.specs.Following.{Leads}
 use Rattle.dv_answer.specs.Refusing.{own_refusal}
 use Rattle.dv_plans.specs.declared.fault.StoreFault.{StoreFault}
 use Rattle.dv_plans.specs.declared.fault.StoreFault.TheVariants as fault
 use Rattle.dv_plans.specs.Begins.{readings_of}
 use Rattle.dv_plans.specs.Overs.{group_over, limit_over}
-use Rattle.dv_writes.specs.Writes.{Write}
+use Rattle.dv_writing.specs.Writes.{Write}
 use Rattle.dv_playing.specs.Laws.{IsLine, MayWrite}
 use Rattle.dv_playing.specs.Playing.{Attempt, Play, Served, group_here, is_empty, refused_here, with_group_here}
 use Rattle.dv_playing.proofs.Plays as plays
@@ -33,13 +33,13 @@ use Rattle.dv_store.specs.declared.receipt.Receipt.{Receipt}
 use Rattle.dv_store.specs.Commits.{Commits, CommitsQuietly, IsIdle, IsUnwritten, TakesFor, TakesReadings, end_with, write_of}
 use Rattle.dv_store.specs.Rest.{IsAtRest}
 use Rattle.dv_store.specs.States.{State}
-use Rattle.dv_serial.specs.Following.{Follows, IsAt, Leaves, with_line}
-use Rattle.dv_serial.specs.Places.{IsOwedBehind, MayGive, StandsAt, play_of}
+use Rattle.dv_serial.specs.Following.{Follows, IsAt, Leaves, origin_of, with_line}
+use Rattle.dv_serial.specs.Places.{GivesBetween, IsOwedBehind, StandsAt, play_of}
 use Rattle.dv_serial.specs.Servings.{Serving}
 use Rattle.dv_serial.specs.Writes.{IsDone, IsFailedBy, IsRefusedBy, StandsAs}
 use Rattle.dv_serial.specs.Writes as comes
 use Rattle.dv_serial.proofs.Allowed.{refusal_met, sound_sizes}
-use Rattle.dv_serial.proofs.Crashing.{looks_may, more_may, served_gives, served_play}
+use Rattle.dv_serial.proofs.Crashing.{first_between, looks_between, served_gives, served_play}
 use Rattle.dv_serial.proofs.Failing.{failed_by, owed_longer}
 use Rattle.dv_serial.proofs.Matching.{IsWriteAt}
 use Rattle.dv_serial.proofs.Places.{Meets, begin_here, clock_here, group_by_met, group_met, log_met, mailbox_met, mark_met, turns_here, used_met, with_group, without_group, written_here}
@@ -64,7 +64,7 @@ takes_none n old new rs none takes = subst (TakesFor n old new) none takes
 -- ---- a write over a store that is where the play stands
 
 module _ {S C : Type 0} (sees : SeesFolder S) (ticks : SeesTime C) (clock : ℕ → ℕ) (start : Log) (base faults : ℕ) (attempts : List Attempt)
-    (old : Serving S C) (follows : Follows sees ticks clock start base faults attempts old) (line : Line) (x : SessionState) (same : (play_of clock start attempts).states line.0 ≡ x)
+    (old : Serving S C) (follows : Follows sees ticks (origin_of clock start base) faults attempts old) (line : Line) (x : SessionState) (same : (play_of clock start attempts).states line.0 ≡ x)
     (good : IsLine line) (write : is_write line.1 ≡ true) (own : own_refusal x line.1 ≡ None) where
   abbrev here : Play
   here = play_of clock start attempts
@@ -123,7 +123,7 @@ module _ {S C : Type 0} (sees : SeesFolder S) (ticks : SeesTime C) (clock : ℕ 
       is_then = with_group clock here line some
 
       mark_is : after_it.mark ≡ receipt.mark
-      mark_is = sym (value.ok.mark ∙ ap (λ (g : Group). end_with old.store.owed old.store.chain g.records) group_is ∙ write_here.mark some)
+      mark_is = sym (value.ok.mark more ∙ ap (λ (g : Group). end_with old.store.owed old.store.chain g.records) group_is ∙ write_here.mark some)
 
       at_written : IsAt after_it new
       at_written = record {
@@ -136,10 +136,10 @@ module _ {S C : Type 0} (sees : SeesFolder S) (ticks : SeesTime C) (clock : ℕ 
             (ap (λ (g : Group). applied old.store.chain.live.mailbox g.records) (sym group_is) ∙ value.ok.gives);
         mark = mark_is ∙ sym mark;
         place = subst (λ (b : Bool). StandsAt b after_it.mark (place_of new.store.chain) new.store.owed) (sym (ap (λ (p : Play). p.begun) is_then))
-            (sym value.ok.place ∙ sym mark_is, (value.paid more).turn);
+            (sym (value.ok.place more) ∙ sym mark_is, (value.paid more).turn);
       }
 
-      stands_written : StandsAs sees ticks clock start (with_line attempts line Served) after_it old new
+      stands_written : StandsAs sees ticks clock start attempts (with_line attempts line Served) after_it old new
       stands_written = record {
         at = at_written;
         debt = Nothing;
@@ -147,7 +147,7 @@ module _ {S C : Type 0} (sees : SeesFolder S) (ticks : SeesTime C) (clock : ℕ 
         rests = subst (λ (log : Log). IsAtRest sees log Nothing new.store) (write_here.log some) (quiet.ok more);
         readings = takes_some (readings_of line.1 old.store.owed old.store.chain) readings (ticks.upcoming new.store.clock) receipt.group.records more taken
             ∙ used_met here line x.view old.store meets readings clock follows.readings some;
-        since = weaker sees old.store.shelf new.store.shelf _ (MayGive clock start (with_line attempts line Served)) quiet.any_moment
+        since = weaker sees old.store.shelf new.store.shelf _ (GivesBetween clock start attempts (with_line attempts line Served)) quiet.any_moment
             (λ c. served_gives clock start attempts line writes old.store.owed old.store.chain write_here follows.keeps.debt follows.keeps.at.rotates follows.keeps.at.place follows.keeps.rests.fits follows.keeps.owed may c);
       }
 
@@ -176,11 +176,11 @@ module _ {S C : Type 0} (sees : SeesFolder S) (ticks : SeesTime C) (clock : ℕ 
     owed_stays : IsOwedBehind clock start attempts (place_of new.store.chain) follows.keeps.debt
     owed_stays = subst (λ (k : Mark). IsOwedBehind clock start attempts k follows.keeps.debt) place_is follows.keeps.owed
 
-    since_stays : LeavesOnly sees old.store.shelf new.store.shelf (MayGive clock start attempts)
-    since_stays = looks_may sees clock start attempts old follows.keeps new.store.shelf since
+    since_stays : LeavesOnly sees old.store.shelf new.store.shelf (GivesBetween clock start attempts attempts)
+    since_stays = looks_between sees clock start attempts old follows.keeps new.store.shelf since
 
     -- memory ended it
-    pub leaves_unwritten : Leaves sees clock start attempts old new
+    pub leaves_unwritten : Leaves sees clock start attempts attempts old new
     leaves_unwritten = record {
       keeps = record { at = at_stays; debt = follows.keeps.debt; owed = owed_stays; rests = quiet.unwritten none };
       since = since_stays;
@@ -188,7 +188,7 @@ module _ {S C : Type 0} (sees : SeesFolder S) (ticks : SeesTime C) (clock : ℕ 
 
     -- a limit is met
     module _ (clocks : ticks.upcoming new.store.clock ≡ readings) where
-      stands_stays : StandsAs sees ticks clock start attempts here old new
+      stands_stays : StandsAs sees ticks clock start attempts attempts here old new
       stands_stays = record {
         at = at_stays;
         debt = follows.keeps.debt;
@@ -218,20 +218,20 @@ module _ {S C : Type 0} (sees : SeesFolder S) (ticks : SeesTime C) (clock : ℕ 
         mark_stays : (play_of clock start (with_line attempts line Served)).mark ≡ here.mark
         mark_stays = ap (λ (p : Play). p.mark) (served_play clock start attempts line lets) ∙ ap (λ (p : Play). p.mark) stays_here
 
-        stands_idle : StandsAs sees ticks clock start (with_line attempts line Served) here old new
+        stands_idle : StandsAs sees ticks clock start attempts (with_line attempts line Served) here old new
         stands_idle = record {
           at = at_stays;
           debt = follows.keeps.debt;
           owed = owed_longer clock start attempts (record { line = line; outcome = Served }) (place_of new.store.chain) play_stays mailbox_stays mark_stays follows.keeps.debt owed_stays;
           rests = quiet.unwritten none;
           readings = clocks ∙ follows.readings;
-          since = more_may sees old.store.shelf new.store.shelf clock start attempts (record { line = line; outcome = Served } ∷ []) since_stays;
+          since = first_between sees old.store.shelf new.store.shelf clock start attempts (with_line attempts line Served) since_stays;
         }
 
         pub done_idle : (touched : List ℕ) → Leads old.store.chain.live.mailbox new.store.chain.live.mailbox touched → IsDone sees ticks clock start attempts line touched old new
         done_idle touched leads = record {
           allowed = lets;
-          stands = subst (λ (p : Play). StandsAs sees ticks clock start (with_line attempts line Served) p old new) (sym stays_here) stands_idle;
+          stands = subst (λ (p : Play). StandsAs sees ticks clock start attempts (with_line attempts line Served) p old new) (sym stays_here) stands_idle;
           leads = leads;
         }
 

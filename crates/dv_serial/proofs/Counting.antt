@@ -1,5 +1,5 @@
 -- How many lines the disk's failure answers, and by how much its count rises.
-use Rattle.std.proofs.Common.{◌≡◌, ℕ, ◌+◌, ◌≤◌, Bool, true, false, cond, not, ◌&&◌, ◌||◌, List, [], ◌∷◌, ◌++◌, length, map, nat_eq, Option, Some, None, refl, sym, ◌∙◌, ap, arith}
+use Rattle.std.proofs.Common.{◌≡◌, ℕ, ◌+◌, ◌≤◌, Bool, true, false, cond, not, ◌&&◌, ◌||◌, List, [], ◌∷◌, ◌++◌, length, map, nat_eq, Option, Some, None, refl, sym, ◌∙◌, ap, subst, arith}
 use Rattle.std.specs.Prelude.{flat_map, min, nat_lt, reverse}
 use Rattle.std.specs.List.{list_all, list_any}
 use Rattle.std.proofs.lemmas.List.Folds.{list_any-append}
@@ -20,6 +20,10 @@ use Rattle.dv_model.specs.Sessions.{State, answer, damaged_uid, data_of, end_of_
 use Rattle.dv_model.specs.Sets.{named}
 use Rattle.dv_model.specs.Spelling.{group_text}
 use Rattle.dv_model.specs.Transcripts.{is_unavailable, unavailable_count}
+use Rattle.dv_playing.specs.Laws.{RiseFrom, failure_of, failures_of}
+use Rattle.dv_playing.specs.Playing.{Attempt, Failed, Outcome, Served}
+use Rattle.dv_playing.proofs.Failures.{failures_append, rise_on}
+use Rattle.dv_serial.specs.Faults.{Faults, TellsFailure}
 use Rattle.dv_model.specs.Views.{View, changes, growth, moved, names_of, numbers, removals, said, same_row, shows_uid}
 
 -- ---- counts
@@ -49,6 +53,23 @@ rose_none before now later = by last_count
   where
     by : (last : ℕ) → min (before + 0) last ≤ now
     by last = omega arith
+
+-- ---- failures that are told
+
+-- those of one line
+pub told_failures : (faults : Faults) (a : Attempt) → TellsFailure faults a.outcome → RiseFrom faults.before (failures_of (a ∷ [])) faults.now
+told_failures faults a told = by a.outcome told
+  where
+    by : (outcome : Outcome) → TellsFailure faults outcome → RiseFrom faults.before (failure_of outcome ++ []) faults.now
+    by Served less = less
+    by (Failed count rotation) rose = (subst (Rose faults.before) (sym rose.1) rose.0, omega (arith, rose.1))
+
+-- behind those of the lines before
+pub failures_on : (base : ℕ) (attempts more : List Attempt) (faults : Faults) → RiseFrom base (failures_of attempts) faults.before → RiseFrom faults.before (failures_of more) faults.now
+    → RiseFrom base (failures_of (attempts ++ more)) faults.now
+failures_on base attempts more faults before rise =
+    subst (λ (ns : List ℕ). RiseFrom base ns faults.now) (sym (failures_append attempts more))
+    (rise_on base faults.before faults.now (failures_of attempts) (failures_of more) before rise)
 
 -- ---- the count of answers
 

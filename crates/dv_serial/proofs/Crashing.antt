@@ -18,21 +18,21 @@ use Rattle.dv_shelf.proofs.Moments.{started, weaker}
 use Rattle.dv_logfile.specs.Layout.{closing}
 use Rattle.dv_chain.specs.declared.chain.Chain.{Chain}
 use Rattle.dv_chain.specs.Rest.{next_mark}
-use Rattle.dv_commits.specs.Opening.{mark_behind}
+use Rattle.dv_writing.specs.Opening.{mark_behind}
 use Rattle.dv_rotation.specs.declared.texts.Turn.{Turn}
 use Rattle.dv_rotation.specs.Texts.{place_of}
-use Rattle.dv_keeping.specs.Debts.{Debt, Fits, Last, Nothing, Pending, Stands}
-use Rattle.dv_keeping.specs.Debts as debts
-use Rattle.dv_keeping.specs.Keeping.{Gives}
-use Rattle.dv_keeping.proofs.Resting.{rests_give}
+use Rattle.dv_writing.specs.Debts.{Debt, Fits, Last, Nothing, Pending, Stands}
+use Rattle.dv_writing.specs.Debts as debts
+use Rattle.dv_writing.specs.Keeping.{Gives}
+use Rattle.dv_writing.proofs.Resting.{rests_give}
 use Rattle.dv_plans.specs.Begins.{turns}
-use Rattle.dv_writes.specs.Writes.{Write, group_by, log_with}
+use Rattle.dv_writing.specs.Writes.{Write, group_by, log_with}
 use Rattle.dv_playing.specs.Laws.{MayWrite}
 use Rattle.dv_playing.specs.Playing.{Attempt, Failed, Outcome, Play, Rotation, Served, behind_failure, begin, fared, group_here, is_empty, refused_here, stepped_by, told, with_group_here}
 use Rattle.dv_playing.proofs.Plays.{goes_on}
 use Rattle.dv_store.specs.Commits.{MayGiveCommit, end_with}
 use Rattle.dv_serial.specs.Following.{Keeps, with_line}
-use Rattle.dv_serial.specs.Places.{GivesBehind, GivesNext, GivesPlay, GivesWith, IsFailedWrite, IsLastFailed, IsOwedBehind, IsPendingOf, MayGive, StandsAt, begin_at, next_file, play_of}
+use Rattle.dv_serial.specs.Places.{GivesBehind, GivesBetween, GivesNext, GivesPlay, GivesWith, IsFailedWrite, IsLastFailed, IsOwedBehind, IsPendingOf, MayGive, StandsAt, begin_at, next_file, play_of}
 use Rattle.dv_serial.specs.Servings.{Serving}
 use Rattle.dv_serial.proofs.Matching.{IsWriteAt, after_here, mailbox_behind, mark_with}
 use Rattle.dv_shelf.specs.Sees.{SeesFolder}
@@ -134,6 +134,11 @@ module _ (clock : ℕ → ℕ) (start : Log) (attempts : List Attempt) (c : Fold
   pub behind_may : GivesBehind clock start attempts c → MayGive clock start attempts c
   behind_may = ⊎_elim play_may (λ with. last_may with.0 with.1 with.2 with.3)
 
+-- what is given between some lines and more
+pub between_may : (clock : ℕ → ℕ) (start : Log) (attempts more : List Attempt) (c : Folder) → GivesBetween clock start attempts (attempts ++ more) c → MayGive clock start (attempts ++ more) c
+between_may clock start attempts more c =
+    ⊎_elim (λ before. longer_may clock start attempts c more (behind_may clock start attempts c before)) (behind_may clock start (attempts ++ more) c)
+
 -- ---- a store at rest behind the lines
 
 module _ (clock : ℕ → ℕ) (start : Log) (attempts : List Attempt) (chain : Chain) (c : Folder) where
@@ -186,12 +191,17 @@ module _ {S C : Type 0} (sees : SeesFolder S) (clock : ℕ → ℕ) (start : Log
   files_behind there = keeps_behind (sees.files serving.store.shelf) there
 
   -- and what a crash leaves while it is only looked at
-  pub looks_may : (new : S) → LeavesOnly sees serving.store.shelf new (sees.may_leave serving.store.shelf)
-      → LeavesOnly sees serving.store.shelf new (MayGive clock start attempts)
-  looks_may new since =
-      weaker sees serving.store.shelf new (sees.may_leave serving.store.shelf) (MayGive clock start attempts) since (λ c left. behind_may clock start attempts c (keeps_behind c left))
+  pub looks_between : (new : S) → LeavesOnly sees serving.store.shelf new (sees.may_leave serving.store.shelf)
+      → LeavesOnly sees serving.store.shelf new (GivesBetween clock start attempts attempts)
+  looks_between new since =
+      weaker sees serving.store.shelf new (sees.may_leave serving.store.shelf) (GivesBetween clock start attempts attempts) since (λ c left. inl (keeps_behind c left))
 
   -- or isn't called
+  pub stays_between : ((c : Folder) → sees.left_since serving.store.shelf (sees.moment serving.store.shelf) c → sees.may_leave serving.store.shelf c)
+      → LeavesOnly sees serving.store.shelf serving.store.shelf (GivesBetween clock start attempts attempts)
+  stays_between now =
+      started sees serving.store.shelf (GivesBetween clock start attempts attempts) (λ c left. inl (keeps_behind c (now c left)))
+
   pub stays_may : ((c : Folder) → sees.left_since serving.store.shelf (sees.moment serving.store.shelf) c → sees.may_leave serving.store.shelf c)
       → LeavesOnly sees serving.store.shelf serving.store.shelf (MayGive clock start attempts)
   stays_may now =
@@ -202,6 +212,12 @@ pub more_may : {S : Type 0} (sees : SeesFolder S) (old new : S) (clock : ℕ →
     → LeavesOnly sees old new (MayGive clock start (attempts ++ more))
 more_may sees old new clock start attempts more since =
     weaker sees old new (MayGive clock start attempts) (MayGive clock start (attempts ++ more)) since (λ c. longer_may clock start attempts c more)
+
+-- what is given behind the lines before is given between them and any
+pub first_between : {S : Type 0} (sees : SeesFolder S) (old new : S) (clock : ℕ → ℕ) (start : Log) (attempts behind : List Attempt) → LeavesOnly sees old new (GivesBetween clock start attempts attempts)
+    → LeavesOnly sees old new (GivesBetween clock start attempts behind)
+first_between sees old new clock start attempts behind since =
+    weaker sees old new (GivesBetween clock start attempts attempts) (GivesBetween clock start attempts behind) since (λ c. ⊎_elim inl inl)
 
 -- ---- one line more of the play
 
@@ -231,6 +247,23 @@ module _ (clock : ℕ → ℕ) (start : Log) (attempts : List Attempt) (line : L
 pub write_touches : (line : Line) → is_write line.1 ≡ true → touches_disk line.1 ≡ true
 write_touches line write = ap (λ (b : Bool). b || reads_mail line.1) write
 
+-- the last line failed, whose group may stand behind the log
+pub last_failed : (clock : ℕ → ℕ) (start : Log) (attempts : List Attempt) (line : Line) → MayWrite (play_of clock start attempts) line → (faults : ℕ) (rotation : Rotation)
+    → IsLastFailed clock start (with_line attempts line (Failed faults rotation)) (play_of clock start attempts) (record { line = line; outcome = Failed faults rotation })
+last_failed clock start attempts line may faults rotation =
+    let is : play_of clock start (with_line attempts line (Failed faults rotation)) ≡ behind_failure (play_of clock start attempts) line rotation =
+    failed_play clock start attempts line may.allowed faults rotation (write_touches line may.write) in
+    record {
+      front = attempts;
+      back = [];
+      lines = refl;
+      was = refl;
+      failed = record { faults = faults; rotation = rotation; outcome = refl; write = may };
+      log = ap (λ (play : Play). play.log) is;
+      mailbox = ap (λ (play : Play). play.mailbox) is;
+      mark = ap (λ (play : Play). play.mark) is;
+    }
+
 -- ---- a commit
 
 module _ (clock : ℕ → ℕ) (start : Log) (attempts : List Attempt) (line : Line) (write : Write) (owed : Option Turn) (chain : Chain) (at : IsWriteAt clock (play_of clock start attempts) line write owed chain) (debt : Debt)
@@ -240,29 +273,24 @@ module _ (clock : ℕ → ℕ) (start : Log) (attempts : List Attempt) (line : L
   here = play_of clock start attempts
 
   -- the log from before, or that with the line's group
-  commit_gives : MayGiveCommit here.log debt write owed chain c → MayGive clock start attempts c ⊎ GivesWith clock here line c
+  commit_gives : MayGiveCommit here.log debt write owed chain c → GivesBehind clock start attempts c ⊎ GivesWith clock here line c
   commit_gives =
-      ⊎_elim (λ before. inl (behind_may clock start attempts c (rest_behind clock start attempts chain c debt owed rotates at.mailbox stands fits behind before)))
+      ⊎_elim (λ before. inl (rest_behind clock start attempts chain c debt owed rotates at.mailbox stands fits behind before))
       (⊎_elim
-      (λ turned. inl (play_may clock start attempts c (gives_due here c here.begun (place_of chain) owed stands (due_of owed chain turned.0) (subst (λ (m : Mailbox). Gives here.log m (next_mark chain) c) (sym at.mailbox) turned.1))))
+      (λ turned. inl (inl (gives_due here c here.begun (place_of chain) owed stands (due_of owed chain turned.0) (subst (λ (m : Mailbox). Gives here.log m (next_mark chain) c) (sym at.mailbox) turned.1))))
       (λ with. inr (group_gives clock here line (log_with here.log write chain.live.mailbox) with.0 (end_with owed chain (group_by here.log write chain.live.mailbox).records) c may.some
       (after_here clock here line write owed chain at with.0 with.1) (at.log may.some) (ap (λ (g : Group). end_with owed chain g.records) at.group ∙ at.mark may.some) with.2)))
 
   -- where it was served
-  pub served_gives : MayGiveCommit here.log debt write owed chain c → MayGive clock start (with_line attempts line Served) c
+  pub served_gives : MayGiveCommit here.log debt write owed chain c → GivesBetween clock start attempts (with_line attempts line Served) c
   served_gives gives =
-      ⊎_elim (longer_may clock start attempts c (record { line = line; outcome = Served } ∷ []))
-      (λ with. play_may clock start (with_line attempts line Served) c (subst (λ (play : Play). GivesPlay play c) (sym (served_play clock start attempts line may.allowed)) (inl with)))
+      ⊎_elim inl
+      (λ with. inr (inl (subst (λ (play : Play). GivesPlay play c) (sym (served_play clock start attempts line may.allowed)) (inl with))))
       (commit_gives gives)
 
   -- where the disk failed it
-  pub failed_gives : (faults : ℕ) (rotation : Rotation) → MayGiveCommit here.log debt write owed chain c → MayGive clock start (with_line attempts line (Failed faults rotation)) c
+  pub failed_gives : (faults : ℕ) (rotation : Rotation) → MayGiveCommit here.log debt write owed chain c → GivesBetween clock start attempts (with_line attempts line (Failed faults rotation)) c
   failed_gives faults rotation gives =
-      ⊎_elim (longer_may clock start attempts c (record { line = line; outcome = Failed faults rotation } ∷ []))
-      (λ with. record {
-        front = attempts;
-        back = record { line = line; outcome = Failed faults rotation } ∷ [];
-        lines = refl;
-        gives = inr (record { faults = faults; rotation = rotation; outcome = refl; write = may }, with);
-      })
+      ⊎_elim inl
+      (λ with. inr (inr (here, record { line = line; outcome = Failed faults rotation }, last_failed clock start attempts line may faults rotation, with)))
       (commit_gives gives)

@@ -15,19 +15,19 @@ use Rattle.dv_logfile.specs.Layout.{closing}
 use Rattle.dv_chain.specs.declared.chain.Chain.{Chain}
 use Rattle.dv_rotation.specs.declared.texts.Turn.{Turn}
 use Rattle.dv_rotation.specs.Texts.{place_of}
-use Rattle.dv_keeping.specs.Debts.{Debt, Fits, Last, Nothing, Pending}
+use Rattle.dv_writing.specs.Debts.{Debt, Fits, Last, Nothing, Pending}
 use Rattle.dv_plans.specs.Begins.{turns}
-use Rattle.dv_writes.specs.Writes.{IsAfter, MayOweGate, Write, log_with}
+use Rattle.dv_writing.specs.Writes.{IsAfter, MayOweGate, Write, log_with}
 use Rattle.dv_playing.specs.Laws.{MayWrite}
 use Rattle.dv_playing.specs.Playing.{Attempt, DueAgain, Failed, Made, Owed, Play, Rotation, behind_failure, begins_file, group_here, is_empty, used_by}
 use Rattle.dv_store.specs.Commits.{IsLeftAt, MayGiveCommit, begin_of, text_by}
 use Rattle.dv_store.specs.Rest.{IsAtRest}
 use Rattle.dv_store.specs.States.{State}
 use Rattle.dv_serial.specs.Following.{IsAt, with_line}
-use Rattle.dv_serial.specs.Places.{IsLastFailed, IsOwedBehind, IsPendingOf, MayGive, StandsAt, begin_at, next_file, play_of}
+use Rattle.dv_serial.specs.Places.{GivesBetween, IsLastFailed, IsOwedBehind, IsPendingOf, StandsAt, begin_at, next_file, play_of}
 use Rattle.dv_serial.specs.Servings.{Serving}
 use Rattle.dv_serial.specs.Writes.{IsFailedBy}
-use Rattle.dv_serial.proofs.Crashing.{failed_gives, failed_play, write_touches}
+use Rattle.dv_serial.proofs.Crashing.{failed_gives, failed_play, last_failed, write_touches}
 use Rattle.dv_serial.proofs.Matching.{IsWriteAt, after_here}
 use Rattle.dv_shelf.specs.Sees.{SeesFolder, SeesTime}
 
@@ -197,24 +197,12 @@ module _ {S C : Type 0} (clock : ℕ → ℕ) (start : Log) (attempts : List Att
       (stands_begin due here.mark (place_of new.chain) new.owed due_is (at ∙ is.begin) none)
 
   -- this line's group may stand there
-  this_failed : IsLastFailed clock start (lines Made) here (tried Made)
-  this_failed = record {
-    front = attempts;
-    back = [];
-    lines = refl;
-    was = refl;
-    failed = record { faults = faults; rotation = Made; outcome = refl; write = may };
-    log = log_is Made;
-    mailbox = mailbox_is Made;
-    mark = mark_is Made;
-  }
-
   this_pending : (after : Mailbox) → IsAfter here.log write old.chain.live.mailbox after
       → IsPendingOf clock start (lines Made) (text_by here.log write old.chain.live.mailbox) after (log_with here.log write old.chain.live.mailbox)
   this_pending after gives = record {
     met = here;
     attempt = tried Made;
-    failed = this_failed;
+    failed = last_failed clock start attempts line may faults Made;
     spelled = ap (λ (g : Group). group_text g ++ closing) is.group;
     gives = after_here clock here line write old.owed old.chain is after gives;
     log = is.log may.some;
@@ -260,7 +248,7 @@ module _ {S C : Type 0} (sees : SeesFolder S) (ticks : SeesTime C) (clock : ℕ 
           owed = left.owes;
           rests = err.2;
           readings = readings;
-          since = weaker sees old.store.shelf new.shelf (MayGiveCommit play.log debt write old.store.owed old.store.chain) (MayGive clock start (with_line attempts line (Failed faults left.rotation))) since
+          since = weaker sees old.store.shelf new.shelf (MayGiveCommit play.log debt write old.store.owed old.store.chain) (GivesBetween clock start attempts (with_line attempts line (Failed faults left.rotation))) since
               (λ c. failed_gives clock start attempts line write old.store.owed old.store.chain is debt at.rotates at.place fits owed may c faults left.rotation);
         };
       }

@@ -11,7 +11,7 @@ use Rattle.dv_model.specs.Views.{View}
 use Rattle.dv_shelf.specs.Folders.{Folder}
 use Rattle.dv_shelf.proofs.Moments.{started}
 use Rattle.dv_chain.specs.declared.chain.Chain.{Chain}
-use Rattle.dv_keeping.specs.Debts.{Debt}
+use Rattle.dv_writing.specs.Debts.{Debt}
 use Rattle.dv_lookups.specs.Founds.{AreMessages}
 use Rattle.dv_responses.specs.Met.{met_of}
 use Rattle.dv_responses.specs.Supplied.{AreSupplied}

@@ -9,7 +9,7 @@ use Rattle.dv_model.specs.Transcripts.{Line}
 use Rattle.dv_chain.specs.declared.chain.Chain.{Chain}
 use Rattle.dv_rotation.specs.declared.texts.Turn.{Turn}
 use Rattle.dv_plans.specs.Begins.{turns}
-use Rattle.dv_writes.specs.Writes.{IsAfter, Write, group_by, log_with}
+use Rattle.dv_writing.specs.Writes.{IsAfter, Write, group_by, log_with}
 use Rattle.dv_playing.specs.Playing.{Play, begins_file, group_here, is_empty, with_group_here}
 use Rattle.dv_store.specs.Commits.{begin_of, end_with}
 use Rattle.dv_serial.specs.Places.{begin_at}

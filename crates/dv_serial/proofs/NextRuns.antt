@@ -7,7 +7,7 @@ use Rattle.dv_model.specs.Journals.{Log}
 use Rattle.dv_shelf.specs.Folders.{Folder}
 use Rattle.dv_openings.specs.TrueCaches.{HasTrueCache}
 use Rattle.dv_openings.proofs.Numbers.{mailbox_one}
-use Rattle.dv_keeping.specs.Keeping.{Gives}
+use Rattle.dv_writing.specs.Keeping.{Gives}
 use Rattle.dv_playing.specs.Playing.{Attempt, Play}
 use Rattle.dv_serial.specs.NextRuns.{GivesTrue, IsTrueFolder}
 use Rattle.dv_serial.specs.Places.{GivesBehind, GivesNext, GivesPlay, MayGive, play_of}

@@ -15,17 +15,18 @@ use Rattle.dv_chain.specs.declared.chain.Chain.{Chain}
 use Rattle.dv_rotation.specs.declared.texts.Turn.{Turn}
 use Rattle.dv_rotation.specs.Texts.{place_of}
 use Rattle.dv_answer.specs.Following.{Follower, IsAbreast}
-use Rattle.dv_playing.specs.Laws.{IsAttempt, IsLine, MayPlay, MayWrite}
+use Rattle.dv_playing.specs.Laws.{IsAttempt, IsLine, MayPlay, MayWrite, RiseFrom, failures_of}
 use Rattle.dv_playing.specs.Playing.{Attempt, Failed, Outcome, Play, Rotation, Served, Step, behind_failure, group_here, is_empty, refused_here, step, told, with_group_here}
 use Rattle.dv_store.specs.Rest.{IsAtRest, OnlyReads}
-use Rattle.dv_serial.specs.Following.{AreSeated, EndsAt, Follows, Keeps, Leaves, with_line}
+use Rattle.dv_serial.specs.Faults.{Faults, TellsFailure, faults_between}
+use Rattle.dv_serial.specs.Following.{AreSeated, EndsAt, Follows, Keeps, Leaves, origin_of, with_line}
 use Rattle.dv_serial.specs.Others.{KeepsOthers}
 use Rattle.dv_serial.specs.Places.{IsOwedBehind, StandsAt, play_of}
 use Rattle.dv_serial.specs.Serves.{IsServed, OnlyLooksAt, seat_at, with_seat}
 use Rattle.dv_serial.specs.Servings.{Serving}
 use Rattle.dv_serial.specs.Writes.{StandsAs}
-use Rattle.dv_serial.proofs.Counting.{AreAvailable, answer_available, counts_none, one_available, rose_none, rose_since}
-use Rattle.dv_serial.proofs.Crashing.{looks_may, more_may, stays_may}
+use Rattle.dv_serial.proofs.Counting.{AreAvailable, answer_available, counts_none, failures_on, one_available, rose_none, rose_since, told_failures}
+use Rattle.dv_serial.proofs.Crashing.{first_between, looks_between, stays_between}
 use Rattle.dv_serial.proofs.Failing.{owed_longer}
 use Rattle.dv_serial.proofs.Going.{WritesNothing, at_on, refused_stays, same_writes_nothing}
 use Rattle.dv_serial.proofs.Refusals.{refused_available}
@@ -56,9 +57,9 @@ module _ {S C : Type 0} (sees : SeesFolder S) (ticks : SeesTime C) (clock : ℕ 
   -- ---- where the play stands
 
   -- the sessions may be others
-  pub stands_seats : (lines : List Attempt) (play : Play) (old mid : Serving S C) (seats : List Follower) → StandsAs sees ticks clock start lines play old mid
-      → StandsAs sees ticks clock start lines play old (record mid { seats = seats })
-  stands_seats lines play old mid seats is = record {
+  pub stands_seats : (first lines : List Attempt) (play : Play) (old mid : Serving S C) (seats : List Follower) → StandsAs sees ticks clock start first lines play old mid
+      → StandsAs sees ticks clock start first lines play old (record mid { seats = seats })
+  stands_seats first lines play old mid seats is = record {
     at = record { rotates = is.at.rotates; groups = is.at.groups; mailbox = is.at.mailbox; mark = is.at.mark; place = is.at.place };
     debt = is.debt;
     owed = is.owed;
@@ -68,9 +69,9 @@ module _ {S C : Type 0} (sees : SeesFolder S) (ticks : SeesTime C) (clock : ℕ 
   }
 
   -- the log is kept where the play of the lines stands, but for its sessions
-  pub stands_keeps : (lines : List Attempt) (play : Play) (states : ℕ → SessionState) (old new : Serving S C) → play_of clock start lines ≡ record play { states = states }
-      → StandsAs sees ticks clock start lines play old new → Keeps sees clock start lines new
-  stands_keeps lines play states old new same is = record {
+  pub stands_keeps : (first lines : List Attempt) (play : Play) (states : ℕ → SessionState) (old new : Serving S C) → play_of clock start lines ≡ record play { states = states }
+      → StandsAs sees ticks clock start first lines play old new → Keeps sees clock start lines new
+  stands_keeps first lines play states old new same is = record {
     at = at_on play (play_of clock start lines) new (record {
       log = ap (λ (p : Play). p.log) same;
       mailbox = ap (λ (p : Play). p.mailbox) same;
@@ -82,9 +83,9 @@ module _ {S C : Type 0} (sees : SeesFolder S) (ticks : SeesTime C) (clock : ℕ 
     rests = subst (λ (log : Log). IsAtRest sees log is.debt new.store) (sym (ap (λ (p : Play). p.log) same)) is.rests;
   }
 
-  pub stands_leaves : (lines : List Attempt) (play : Play) (states : ℕ → SessionState) (old new : Serving S C) → play_of clock start lines ≡ record play { states = states }
-      → StandsAs sees ticks clock start lines play old new → Leaves sees clock start lines old new
-  stands_leaves lines play states old new same is = record { keeps = stands_keeps lines play states old new same is; since = is.since }
+  pub stands_leaves : (first lines : List Attempt) (play : Play) (states : ℕ → SessionState) (old new : Serving S C) → play_of clock start lines ≡ record play { states = states }
+      → StandsAs sees ticks clock start first lines play old new → Leaves sees clock start first lines old new
+  stands_leaves first lines play states old new same is = record { keeps = stands_keeps first lines play states old new same is; since = is.since }
 
   module _ (base : ℕ) (attempts : List Attempt) where
     abbrev here : Play
@@ -92,20 +93,20 @@ module _ {S C : Type 0} (sees : SeesFolder S) (ticks : SeesTime C) (clock : ℕ 
 
     -- ---- nothing is written
 
-    module _ (before : ℕ) (old : Serving S C) (follows : Follows sees ticks clock start base before attempts old) where
+    module _ (before : ℕ) (old : Serving S C) (follows : Follows sees ticks (origin_of clock start base) before attempts old) where
       -- nothing is done
-      pub stands_still : ((c : Folder) → sees.left_since old.store.shelf (sees.moment old.store.shelf) c → sees.may_leave old.store.shelf c) → StandsAs sees ticks clock start attempts here old old
+      pub stands_still : ((c : Folder) → sees.left_since old.store.shelf (sees.moment old.store.shelf) c → sees.may_leave old.store.shelf c) → StandsAs sees ticks clock start attempts attempts here old old
       stands_still now = record {
         at = follows.keeps.at;
         debt = follows.keeps.debt;
         owed = follows.keeps.owed;
         rests = follows.keeps.rests;
         readings = follows.readings;
-        since = stays_may sees clock start attempts old follows.keeps now;
+        since = stays_between sees clock start attempts old follows.keeps now;
       }
 
       -- the folder is only read
-      pub stands_read : (mid : Serving S C) → OnlyLooksAt old mid → OnlyReads sees old.store mid.store → StandsAs sees ticks clock start attempts here old mid
+      pub stands_read : (mid : Serving S C) → OnlyLooksAt old mid → OnlyReads sees old.store mid.store → StandsAs sees ticks clock start attempts attempts here old mid
       stands_read mid looks reads =
           let keeps = follows.keeps in
           let chain : mid.store.chain ≡ old.store.chain = looks.store.chain in
@@ -122,61 +123,66 @@ module _ {S C : Type 0} (sees : SeesFolder S) (ticks : SeesTime C) (clock : ℕ 
             owed = subst (λ (x : Chain). IsOwedBehind clock start attempts (place_of x) keeps.debt) (sym chain) keeps.owed;
             rests = reads.rests here.log keeps.debt keeps.rests;
             readings = ap ticks.upcoming looks.store.clock ∙ follows.readings;
-            since = looks_may sees clock start attempts old keeps mid.store.shelf reads.looks.since;
+            since = looks_between sees clock start attempts old keeps mid.store.shelf reads.looks.since;
           }
 
     -- a line that writes nothing
     pub stands_on : (line : Line) (outcome : Outcome) (play : Play) (old new : Serving S C) → play ≡ here → WritesNothing here (play_of clock start (with_line attempts line outcome))
-        → StandsAs sees ticks clock start attempts here old new → StandsAs sees ticks clock start (with_line attempts line outcome) play old new
+        → StandsAs sees ticks clock start attempts attempts here old new → StandsAs sees ticks clock start attempts (with_line attempts line outcome) play old new
     stands_on line outcome play old new same nothing is = record {
       at = at_on here play new (same_writes_nothing here play same) is.at;
       debt = is.debt;
       owed = owed_longer clock start attempts (attempt line outcome) (place_of new.store.chain) nothing.log nothing.mailbox nothing.mark is.debt is.owed;
       rests = subst (λ (p : Play). IsAtRest sees p.log is.debt new.store) (sym same) is.rests;
       readings = is.readings ∙ ap (λ (p : Play). behind clock p.used) (sym same);
-      since = more_may sees old.store.shelf new.store.shelf clock start attempts (attempt line outcome ∷ []) is.since;
+      since = first_between sees old.store.shelf new.store.shelf clock start attempts (with_line attempts line outcome) is.since;
     }
 
     -- ---- memory ended it
 
-    pub ends_here : (line : Line) (old new : Serving S C) → sees.files new.store.shelf ≡ sees.files old.store.shelf → Leaves sees clock start attempts old new → EndsAt sees clock start base attempts line old new
-    ends_here line old new stays leaves = record {
+    pub ends_here : (faults : Faults) (line : Line) (old new : Serving S C) → faults.before ≤ faults.now → sees.files new.store.shelf ≡ sees.files old.store.shelf → Leaves sees clock start attempts attempts old new → EndsAt sees (origin_of clock start base) faults attempts line old new
+    ends_here faults line old new later stays leaves = record {
       left = [];
       is = tt;
-      leaves = subst (λ (lines : List Attempt). Leaves sees clock start lines old new) (sym (append-nil attempts)) leaves;
+      failures = later;
+      leaves = subst (λ (lines : List Attempt). Leaves sees clock start attempts lines old new) (sym (append-nil attempts)) leaves;
       others = same_others clock start (sees.files old.store.shelf) (sees.files new.store.shelf) (attempts ++ []) stays;
     }
 
-    pub ends_stands : (line : Line) (old new : Serving S C) → sees.files new.store.shelf ≡ sees.files old.store.shelf → StandsAs sees ticks clock start attempts here old new → EndsAt sees clock start base attempts line old new
-    ends_stands line old new stays is = ends_here line old new stays (stands_leaves attempts here here.states old new refl is)
+    pub ends_stands : (faults : Faults) (line : Line) (old new : Serving S C) → faults.before ≤ faults.now → sees.files new.store.shelf ≡ sees.files old.store.shelf → StandsAs sees ticks clock start attempts attempts here old new
+        → EndsAt sees (origin_of clock start base) faults attempts line old new
+    ends_stands faults line old new later stays is = ends_here faults line old new later stays (stands_leaves attempts attempts here here.states old new refl is)
 
-    pub ends_behind : (line : Line) (outcome : Outcome) (play : Play) (states : ℕ → SessionState) (old new : Serving S C) → (step clock here (attempt line outcome)).play ≡ record play { states = states } → IsAttempt base (attempt line outcome)
+    pub ends_behind : (faults : Faults) (line : Line) (outcome : Outcome) (play : Play) (states : ℕ → SessionState) (old new : Serving S C) → (step clock here (attempt line outcome)).play ≡ record play { states = states } → IsAttempt base (attempt line outcome)
         → ((step clock here (attempt line outcome)).play.log ≡ here.log) ⊎ ((outcome ≡ Served) × MayWrite here line)
         → KeepsOthers clock start (with_line attempts line outcome) (sees.files old.store.shelf) (sees.files new.store.shelf)
-        → StandsAs sees ticks clock start (with_line attempts line outcome) play old new → EndsAt sees clock start base attempts line old new
-    ends_behind line outcome play states old new same good log others is = record {
+        → TellsFailure faults outcome → StandsAs sees ticks clock start attempts (with_line attempts line outcome) play old new → EndsAt sees (origin_of clock start base) faults attempts line old new
+    ends_behind faults line outcome play states old new same good log others told is = record {
       left = attempt line outcome ∷ [];
       is = (refl, record { attempt = good; log = log });
-      leaves = stands_leaves (with_line attempts line outcome) play states old new (play_on clock start base attempts (attempt line outcome) ∙ same) is;
+      failures = told_failures faults (attempt line outcome) told;
+      leaves = stands_leaves attempts (with_line attempts line outcome) play states old new (play_on clock start base attempts (attempt line outcome) ∙ same) is;
       others = others;
     }
 
     -- ---- the line is served
 
     -- where the step stands
-    served_on : (faults : ℕ) (line : Line) (outcome : Outcome) (play : Play) (states : ℕ → SessionState) (replies : List Reply) (old new : Serving S C) → step clock here (attempt line outcome) ≡ record { replies = replies; play = record play { states = states } }
-        → MayPlay clock start base faults (with_line attempts line outcome) → AreSeated new.store.chain.live.mailbox states new.seats
+    served_on : (faults : Faults) (line : Line) (outcome : Outcome) (play : Play) (states : ℕ → SessionState) (replies : List Reply) (old new : Serving S C) → step clock here (attempt line outcome) ≡ record { replies = replies; play = record play { states = states } }
+        → MayPlay clock start base faults.now (with_line attempts line outcome) → RiseFrom base (failures_of attempts) faults.before → TellsFailure faults outcome → AreSeated new.store.chain.live.mailbox states new.seats
         → KeepsOthers clock start (with_line attempts line outcome) (sees.files old.store.shelf) (sees.files new.store.shelf)
-        → StandsAs sees ticks clock start (with_line attempts line outcome) play old new
-        → IsServed sees ticks clock start base faults attempts line replies old new
-    served_on faults line outcome play states replies old new steps may seated others is =
+        → StandsAs sees ticks clock start attempts (with_line attempts line outcome) play old new
+        → IsServed sees ticks (origin_of clock start base) faults attempts line replies old new
+    served_on faults line outcome play states replies old new steps may before told seated others is =
         let same : play_of clock start (with_line attempts line outcome) ≡ record play { states = states } = play_on clock start base attempts (attempt line outcome) ∙ ap (λ (s : Step). s.play) steps in
         record {
           outcome = outcome;
           answers = ap (λ (s : Step). s.replies) steps;
+          count = told;
           follows = record {
             may = may;
-            keeps = stands_keeps (with_line attempts line outcome) play states old new same is;
+            failures = failures_on base attempts (attempt line outcome ∷ []) faults before (told_failures faults (attempt line outcome) told);
+            keeps = stands_keeps attempts (with_line attempts line outcome) play states old new same is;
             readings = is.readings ∙ ap (λ (p : Play). behind clock p.used) (sym same);
             seats = subst (λ (p : Play). AreSeated new.store.chain.live.mailbox p.states new.seats) (sym same) seated;
           };
@@ -184,7 +190,7 @@ module _ {S C : Type 0} (sees : SeesFolder S) (ticks : SeesTime C) (clock : ℕ 
           others = others;
         }
 
-    module _ (before faults : ℕ) (line : Line) (old : Serving S C) (follows : Follows sees ticks clock start base before attempts old) (good : IsLine line) (later : before ≤ faults) where
+    module _ (before faults : ℕ) (line : Line) (old : Serving S C) (follows : Follows sees ticks (origin_of clock start base) before attempts old) (good : IsLine line) (later : before ≤ faults) where
       -- a line that the disk's failure doesn't answer
       may_quietly : (replies : List Reply) (play : Play) → step clock here (attempt line Served) ≡ record { replies = replies; play = play } → AreAvailable replies → MayPlay clock start base faults (with_line attempts line Served)
       may_quietly replies play steps available =
@@ -199,26 +205,27 @@ module _ {S C : Type 0} (sees : SeesFolder S) (ticks : SeesTime C) (clock : ℕ 
       -- it is refused
       pub refused_serves : (r : Reply) (new : Serving S C) (replies : List Reply) → refused_here here line ≡ Some r → new.seats ≡ old.seats → new.store.chain.live.mailbox ≡ old.store.chain.live.mailbox → replies ≡ r ∷ []
           → KeepsOthers clock start (with_line attempts line Served) (sees.files old.store.shelf) (sees.files new.store.shelf)
-          → StandsAs sees ticks clock start attempts here old new → IsServed sees ticks clock start base faults attempts line replies old new
+          → StandsAs sees ticks clock start attempts attempts here old new → IsServed sees ticks (origin_of clock start base) (faults_between before faults) attempts line replies old new
       refused_serves r new replies refused seats mailbox lines others is =
           let steps = refused_step clock here line Served r refused in
           let available : AreAvailable (r ∷ []) = one_available r (refused_available here line r refused) in
           let stays = refused_stays clock start attempts (attempt line Served) r refused in
-          subst (λ (rs : List Reply). IsServed sees ticks clock start base faults attempts line rs old new) (sym lines)
-          (served_on faults line Served here here.states (r ∷ []) old new steps (may_quietly (r ∷ []) here steps available) (seated_same new seats mailbox) others
+          subst (λ (rs : List Reply). IsServed sees ticks (origin_of clock start base) (faults_between before faults) attempts line rs old new) (sym lines)
+          (served_on (faults_between before faults) line Served here here.states (r ∷ []) old new steps (may_quietly (r ∷ []) here steps available) follows.failures later (seated_same new seats mailbox) others
           (stands_on line Served here old new refl (same_writes_nothing here (play_of clock start (with_line attempts line Served)) stays) is))
 
       module _ (allowed : refused_here here line ≡ None) where
         -- the disk failed it
         pub failed_serves : (count : ℕ) (rotation : Rotation) (new : Serving S C) (replies : List Reply) → touches_disk line.1 ≡ true → count ≡ faults → Rose before faults → new.seats ≡ old.seats → new.store.chain.live.mailbox ≡ old.store.chain.live.mailbox
-            → replies ≡ reply.Unavailable count ∷ [] → KeepsOthers clock start (with_line attempts line (Failed count rotation)) (sees.files old.store.shelf) (sees.files new.store.shelf) → StandsAs sees ticks clock start (with_line attempts line (Failed count rotation)) (behind_failure here line rotation) old new
-            → IsServed sees ticks clock start base faults attempts line replies old new
+            → replies ≡ reply.Unavailable count ∷ [] → KeepsOthers clock start (with_line attempts line (Failed count rotation)) (sees.files old.store.shelf) (sees.files new.store.shelf) → StandsAs sees ticks clock start attempts (with_line attempts line (Failed count rotation)) (behind_failure here line rotation) old new
+            → IsServed sees ticks (origin_of clock start base) (faults_between before faults) attempts line replies old new
         failed_serves count rotation new replies touches is_count rose seats mailbox lines others is =
             let steps = failed_step clock here line count rotation allowed touches in
-            subst (λ (rs : List Reply). IsServed sees ticks clock start base faults attempts line rs old new) (sym lines)
-            (served_on faults line (Failed count rotation) (behind_failure here line rotation) here.states (reply.Unavailable count ∷ []) old new steps
+            subst (λ (rs : List Reply). IsServed sees ticks (origin_of clock start base) (faults_between before faults) attempts line rs old new) (sym lines)
+            (served_on (faults_between before faults) line (Failed count rotation) (behind_failure here line rotation) here.states (reply.Unavailable count ∷ []) old new steps
             (may_on clock start base attempts before faults (attempt line (Failed count rotation)) follows.may (failed_attempt count rotation is_count rose)
             (subst (λ (n : ℕ). RoseBy n before faults) (sym (ap (λ (s : Step). unavailable_count (s.replies ∷ [])) steps)) rose))
+            follows.failures (rose, is_count)
             (seated_same new seats mailbox) others is)
           where
             failed_attempt : (n : ℕ) (turned : Rotation) → n ≡ faults → Rose before faults → IsAttempt base (attempt line (Failed n turned))
@@ -226,11 +233,11 @@ module _ {S C : Type 0} (sees : SeesFolder S) (ticks : SeesTime C) (clock : ℕ 
 
         -- it is told
         pub told_serves : (at : ℕ) (mid new : Serving S C) (replies : List Reply) → line.0 ≡ at + 1 → at < length mid.seats → KeepsOthers clock start (with_line attempts line Served) (sees.files old.store.shelf) (sees.files mid.store.shelf)
-            → StandsAs sees ticks clock start (with_line attempts line Served) (with_group_here clock here line) old mid
+            → StandsAs sees ticks clock start attempts (with_line attempts line Served) (with_group_here clock here line) old mid
             → AreSeated mid.store.chain.live.mailbox here.states mid.seats → IsAbreast mid.store.chain.live.mailbox (seat_at new.seats at)
             → record { replies = replies; next = (seat_at new.seats at).state }
             ≡ answer (with_group_here clock here line).log.mail (seat_at mid.seats at).state line.1 old.store.chain.live.mailbox mid.groups mid.store.chain.live.mailbox mid.mark
-            → with_seat at (seat_at new.seats at) mid ≡ new → IsServed sees ticks clock start base faults attempts line replies old new
+            → with_seat at (seat_at new.seats at) mid ≡ new → IsServed sees ticks (origin_of clock start base) (faults_between before faults) attempts line replies old new
         told_serves at mid new replies number less others is seated abreast answered only =
             let play : Play = with_group_here clock here line in
             let f : Follower = seat_at new.seats at in
@@ -244,9 +251,10 @@ module _ {S C : Type 0} (sees : SeesFolder S) (ticks : SeesTime C) (clock : ℕ 
             ap (λ (st : ℕ → SessionState). with_state st (at + 1) f.state) (sym (group_states clock here line))
             ∙ ap (λ (n : ℕ). with_state play.states n f.state) (sym number)
             ∙ ap (λ (b : Answer). with_state play.states line.0 b.next) same in
-            subst (λ (rs : List Reply). IsServed sees ticks clock start base faults attempts line rs old new) (sym (ap (λ (b : Answer). b.replies) same))
-            (subst (λ (n : Serving S C). IsServed sees ticks clock start base faults attempts line a.replies old n) only
-            (served_on faults line Served play (with_state play.states line.0 a.next) a.replies old (with_seat at f mid) steps
+            subst (λ (rs : List Reply). IsServed sees ticks (origin_of clock start base) (faults_between before faults) attempts line rs old new) (sym (ap (λ (b : Answer). b.replies) same))
+            (subst (λ (n : Serving S C). IsServed sees ticks (origin_of clock start base) (faults_between before faults) attempts line a.replies old n) only
+            (served_on (faults_between before faults) line Served play (with_state play.states line.0 a.next) a.replies old (with_seat at f mid) steps
             (may_quietly a.replies (told here line play).play steps (answer_available play.log.mail (here.states line.0) line.1 here.mailbox (length play.log.entries) play.mailbox play.mark))
+            follows.failures later
             (subst (λ (st : ℕ → SessionState). AreSeated m st (with_seat at f mid).seats) states_are (seated_with m here.states mid.seats seated at f less abreast)) others
-            (stands_seats (with_line attempts line Served) play old mid (with_seat at f mid).seats is)))
+            (stands_seats attempts (with_line attempts line Served) play old mid (with_seat at f mid).seats is)))

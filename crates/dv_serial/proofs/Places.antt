@@ -23,7 +23,7 @@ use Rattle.dv_rotation.specs.Texts.{place_of}
 use Rattle.dv_playing.specs.Playing.{Play, begins_file, file_readings, group_here, is_empty, message_readings, used_by, with_group_here}
 use Rattle.dv_plans.specs.Begins.{beginning, count_of, readings_of, received_at, turns}
 use Rattle.dv_plans.specs.Overs.{limit_over}
-use Rattle.dv_writes.specs.Writes.{Write, group_by, log_with}
+use Rattle.dv_writing.specs.Writes.{Write, group_by, log_with}
 use Rattle.dv_store.specs.Commits.{begin_of, behind_text, end_with, text_by, write_of}
 use Rattle.dv_store.specs.States.{State}
 use Rattle.dv_serial.specs.Places.{StandsAt, begin_at, next_file, text_here}

@@ -20,7 +20,8 @@ use Rattle.dv_playing.specs.Playing.{Attempt, DueAgain, Failed, Play, Rotation, 
 use Rattle.dv_store.specs.Commits as writing
 use Rattle.dv_store.specs.Faults.{IsFailure}
 use Rattle.dv_store.specs.Rest.{OnlyReads}
-use Rattle.dv_serial.specs.Following.{EndsAt, Follows, HasStates, with_line}
+use Rattle.dv_serial.specs.Faults.{TellsFailure, faults_between}
+use Rattle.dv_serial.specs.Following.{EndsAt, Follows, HasStates, origin_of, with_line}
 use Rattle.dv_serial.specs.Lines.{IsFaultLine}
 use Rattle.dv_serial.specs.Others.{KeepsOthers, LeavesOthers}
 use Rattle.dv_serial.specs.Places.{play_of}
@@ -38,12 +39,12 @@ use Rattle.dv_serial.proofs.Untouched.{same_others, write_others}
 use Rattle.dv_shelf.specs.Sees.{SeesFolder, SeesTime}
 
 module _ {S C : Type 0} (sees : SeesFolder S) (ticks : SeesTime C) (clock : ℕ → ℕ) (start : Log) (base : ℕ) (attempts : List Attempt)
-    (before faults : ℕ) (line : Line) (old : Serving S C) (follows : Follows sees ticks clock start base before attempts old) (good : IsLine line) (later : before ≤ faults) where
+    (before faults : ℕ) (line : Line) (old : Serving S C) (follows : Follows sees ticks (origin_of clock start base) before attempts old) (good : IsLine line) (later : before ≤ faults) where
   abbrev here : Play
   here = play_of clock start attempts
 
   abbrev IsResult : {E : Type 0} → Result (List Reply) E → Serving S C → Type 0
-  IsResult {E} result new = Serves sees ticks clock start base faults attempts line {E = E} result old new
+  IsResult {E} result new = Serves sees ticks (origin_of clock start base) (faults_between before faults) attempts line {E = E} result old new
 
   -- ---- refused by the session
 
@@ -53,13 +54,13 @@ module _ {S C : Type 0} (sees : SeesFolder S) (ticks : SeesTime C) (clock : ℕ 
       refused_serves sees ticks clock start base attempts before faults line old follows good later r old lines (own_refuses here line r own) refl refl is (λ n none. refl)
       (stands_still sees ticks clock start base attempts before old follows now)
   own_result r (Err e) own now is =
-      ends_stands sees ticks clock start base attempts line old old refl (stands_still sees ticks clock start base attempts before old follows now)
+      ends_stands sees ticks clock start base attempts (faults_between before faults) line old old later refl (stands_still sees ticks clock start base attempts before old follows now)
 
   module _ (allowed : refused_here here line ≡ None) where
     -- ---- a read
 
     module _ (read : is_write line.1 ≡ false) (mid : Serving S C) (looks : OnlyLooksAt old mid) (reads : OnlyReads sees old.store mid.store) where
-      stands : StandsAs sees ticks clock start attempts here old mid
+      stands : StandsAs sees ticks clock start attempts attempts here old mid
       stands = stands_read sees ticks clock start base attempts before old follows mid looks reads
 
       same_mailbox : mid.store.chain.live.mailbox ≡ old.store.chain.live.mailbox
@@ -98,7 +99,7 @@ module _ {S C : Type 0} (sees : SeesFolder S) (ticks : SeesTime C) (clock : ℕ 
       read_failed fault.NoMemory (Ok lines) mails failure cause is = absurd is
       read_failed fault.UidsUsedUp result mails failure cause is = absurd failure
       read_failed (fault.TooLong bytes) result mails failure cause is = absurd failure
-      read_failed f (Err e) mails failure cause is = ends_stands sees ticks clock start base attempts line old mid reads.looks.same stands
+      read_failed f (Err e) mails failure cause is = ends_stands sees ticks clock start base attempts (faults_between before faults) line old mid later reads.looks.same stands
 
       -- it is answered
       pub read_told : {E : Type 0} (at : ℕ) (new : Serving S C) (result : Result (List Reply) E) → line.0 ≡ at + 1 → at < length mid.seats → IsAbreast mid.store.chain.live.mailbox (seat_at new.seats at)
@@ -113,17 +114,17 @@ module _ {S C : Type 0} (sees : SeesFolder S) (ticks : SeesTime C) (clock : ℕ 
           (sym (read_stays clock here line read)) answered)
           only
       read_told at new (Err e) number less abreast answered only stays =
-          subst (λ (n : Serving S C). EndsAt sees clock start base attempts line old n) (sym stays) (ends_stands sees ticks clock start base attempts line old mid reads.looks.same stands)
+          subst (λ (n : Serving S C). EndsAt sees (origin_of clock start base) (faults_between before faults) attempts line old n) (sym stays) (ends_stands sees ticks clock start base attempts (faults_between before faults) line old mid later reads.looks.same stands)
 
       -- memory ended it
-      pub read_ended : EndsAt sees clock start base attempts line old mid
-      read_ended = ends_stands sees ticks clock start base attempts line old mid reads.looks.same stands
+      pub read_ended : EndsAt sees (origin_of clock start base) (faults_between before faults) attempts line old mid
+      read_ended = ends_stands sees ticks clock start base attempts (faults_between before faults) line old mid later reads.looks.same stands
 
   -- ---- a write
 
   -- memory ends it before anything is done
-  pub ended_still : ((c : Folder) → sees.left_since old.store.shelf (sees.moment old.store.shelf) c → sees.may_leave old.store.shelf c) → EndsAt sees clock start base attempts line old old
-  ended_still now = ends_stands sees ticks clock start base attempts line old old refl (stands_still sees ticks clock start base attempts before old follows now)
+  pub ended_still : ((c : Folder) → sees.left_since old.store.shelf (sees.moment old.store.shelf) c → sees.may_leave old.store.shelf c) → EndsAt sees (origin_of clock start base) (faults_between before faults) attempts line old old
+  ended_still now = ends_stands sees ticks clock start base attempts (faults_between before faults) line old old later refl (stands_still sees ticks clock start base attempts before old follows now)
 
   module _ (write : is_write line.1 ≡ true) (mid : Serving S C) where
     -- nothing is written
@@ -134,21 +135,24 @@ module _ {S C : Type 0} (sees : SeesFolder S) (ticks : SeesTime C) (clock : ℕ 
         (write_others clock start (sees.files old.store.shelf) (sees.files mid.store.shelf) attempts line (Failed count commits.rotation) old.store.chain.live.mailbox write follows.keeps.at.mailbox others) commits.stands
     write_failed (fault.Disk count) (Err e) commits cause seats others is =
         let steps = failed_step clock here line count commits.rotation commits.allowed (write_touches line write) in
-        ends_behind sees ticks clock start base attempts line (Failed count commits.rotation) (behind_failure here line commits.rotation) here.states old mid (ap (λ (s : Step). s.play) steps)
+        ends_behind sees ticks clock start base attempts (faults_between before faults) line (Failed count commits.rotation) (behind_failure here line commits.rotation) here.states old mid (ap (λ (s : Step). s.play) steps)
         (record { line = good; count = rose_so count commits.rotation cause.rose })
         (inl (ap (λ (s : Step). s.play.log) steps))
-        (write_others clock start (sees.files old.store.shelf) (sees.files mid.store.shelf) attempts line (Failed count commits.rotation) old.store.chain.live.mailbox write follows.keeps.at.mailbox others) commits.stands
+        (write_others clock start (sees.files old.store.shelf) (sees.files mid.store.shelf) attempts line (Failed count commits.rotation) old.store.chain.live.mailbox write follows.keeps.at.mailbox others) (told_so count commits.rotation cause.rose) commits.stands
       where
+        told_so : (n : ℕ) (turned : Rotation) → (n ≡ faults) × Rose before faults → TellsFailure (faults_between before faults) (Failed n turned)
+        told_so n turned both = (both.1, both.0)
+
         rose_so : (n : ℕ) (turned : Rotation) → (n ≡ faults) × Rose before faults → IsAbove base (Failed n turned)
         rose_so n turned both = subst (Rose base) (sym both.0) (rose_since _ base before faults follows.may.few both.1)
     write_failed fault.UidsUsedUp (Ok lines) commits cause seats others is =
         refused_serves sees ticks clock start base attempts before faults line old follows good later reply.UidsUsedUp mid lines commits.refused seats commits.mailbox is (same_others clock start (sees.files old.store.shelf) (sees.files mid.store.shelf) (with_line attempts line Served) others) commits.stands
     write_failed (fault.TooLong bytes) (Ok lines) commits cause seats others is =
         refused_serves sees ticks clock start base attempts before faults line old follows good later (reply.TooLong bytes) mid lines commits.refused seats commits.mailbox is (same_others clock start (sees.files old.store.shelf) (sees.files mid.store.shelf) (with_line attempts line Served) others) commits.stands
-    write_failed fault.UidsUsedUp (Err e) commits cause seats others is = ends_stands sees ticks clock start base attempts line old mid others commits.stands
-    write_failed (fault.TooLong bytes) (Err e) commits cause seats others is = ends_stands sees ticks clock start base attempts line old mid others commits.stands
+    write_failed fault.UidsUsedUp (Err e) commits cause seats others is = ends_stands sees ticks clock start base attempts (faults_between before faults) line old mid later others commits.stands
+    write_failed (fault.TooLong bytes) (Err e) commits cause seats others is = ends_stands sees ticks clock start base attempts (faults_between before faults) line old mid later others commits.stands
     write_failed fault.NoMemory (Ok lines) commits cause seats others is = absurd is
-    write_failed fault.NoMemory (Err e) commits cause seats others is = ends_here sees ticks clock start base attempts line old mid others commits
+    write_failed fault.NoMemory (Err e) commits cause seats others is = ends_here sees ticks clock start base attempts (faults_between before faults) line old mid later others commits
 
     module _ (touched : List ℕ) (done : IsDone sees ticks clock start attempts line touched old mid)
         (others : (n : Name) → (writing.MayWrite line.1 old.store.chain.live.mailbox n → ⊥) → sees.files mid.store.shelf n ≡ sees.files old.store.shelf n) (seats : List Follower) where
@@ -159,8 +163,8 @@ module _ {S C : Type 0} (sees : SeesFolder S) (ticks : SeesTime C) (clock : ℕ 
       abbrev group : Play
       group = with_group_here clock here line
 
-      part_stands : StandsAs sees ticks clock start (with_line attempts line Served) group old part
-      part_stands = stands_seats sees ticks clock start (with_line attempts line Served) group old mid seats done.stands
+      part_stands : StandsAs sees ticks clock start attempts (with_line attempts line Served) group old part
+      part_stands = stands_seats sees ticks clock start attempts (with_line attempts line Served) group old mid seats done.stands
 
       steps : step clock here (attempt line Served) ≡ told here line group
       steps = served_step clock here line done.allowed
@@ -177,9 +181,9 @@ module _ {S C : Type 0} (sees : SeesFolder S) (ticks : SeesTime C) (clock : ℕ 
           by false e = inr (refl, record { good = good; write = write; allowed = done.allowed; some = e })
 
       -- memory ended it behind the write
-      pub write_ended : EndsAt sees clock start base attempts line old part
+      pub write_ended : EndsAt sees (origin_of clock start base) (faults_between before faults) attempts line old part
       write_ended =
-          ends_behind sees ticks clock start base attempts line Served group (told here line group).play.states old part (ap (λ (s : Step). s.play) steps) (record { line = good; count = tt }) left_log kept part_stands
+          ends_behind sees ticks clock start base attempts (faults_between before faults) line Served group (told here line group).play.states old part (ap (λ (s : Step). s.play) steps) (record { line = good; count = tt }) left_log kept later part_stands
 
       -- it is answered
       pub write_told : {E : Type 0} (at : ℕ) (new : Serving S C) (result : Result (List Reply) E) → line.0 ≡ at + 1 → at < length seats → HasStates old.seats seats → All (IsAbreast mid.store.chain.live.mailbox) seats
@@ -191,4 +195,4 @@ module _ {S C : Type 0} (sees : SeesFolder S) (ticks : SeesTime C) (clock : ℕ 
           told_serves sees ticks clock start base attempts before faults line old follows good later done.allowed at part new replies number less kept part_stands
           (seated_told old.store.chain.live.mailbox here.states old.seats follows.seats mid.store.chain.live.mailbox seats has all) abreast answered only
       write_told at new (Err e) number less has all abreast answered only stays =
-          subst (λ (n : Serving S C). EndsAt sees clock start base attempts line old n) (sym stays) write_ended
+          subst (λ (n : Serving S C). EndsAt sees (origin_of clock start base) (faults_between before faults) attempts line old n) (sym stays) write_ended

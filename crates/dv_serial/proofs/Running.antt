@@ -14,26 +14,29 @@ use Rattle.dv_shelf.specs.declared.shelf.Name.{Name}
 use Rattle.dv_shelf.specs.Crashes.{LeavesOnly}
 use Rattle.dv_shelf.specs.Folders.{Folder}
 use Rattle.dv_shelf.specs.Streams.{Appends, AppendsFront}
-use Rattle.dv_shelf.proofs.Moments.{joined}
+use Rattle.dv_shelf.proofs.Moments.{joined, weaker}
 use Rattle.dv_formats.specs.Scripts.{NamedLine, sessions_of}
-use Rattle.dv_playing.specs.Laws.{IsAttempt, MayPlay, MayWrite, lines_of}
-use Rattle.dv_playing.specs.Playing.{Attempt, Failed, Outcome, Play, Served, begin, fared, group_here, is_empty, refused_here, replies_to, step, stepped_by}
+use Rattle.dv_playing.specs.Laws.{IsAttempt, MayPlay, MayWrite, RiseFrom, failures_of, lines_of}
+use Rattle.dv_playing.proofs.Failures.{rise_more}
+use Rattle.dv_playing.specs.Playing.{Attempt, Failed, Outcome, Play, Served, begin, fared, group_here, is_empty, refused_here, replies_to, step, stepped_by, with_group_here}
 use Rattle.dv_playing.proofs.Plays.{replies_go_on}
 use Rattle.dv_serial.specs.declared.lines.LineEnd.{LineEnd}
 use Rattle.dv_serial.specs.declared.lines.LineEnd.TheVariants as line_end
-use Rattle.dv_serial.specs.Following.{EndsAt, Follows, Leaves, MayBeLeft}
+use Rattle.dv_serial.specs.Faults.{Faults, faults_between}
+use Rattle.dv_serial.specs.Following.{EndsAt, Follows, Keeps, MayBeLeft, origin_of}
 use Rattle.dv_serial.specs.Others.{KeepsOthers, MayTouch}
-use Rattle.dv_serial.specs.Places.{MayGive, play_of}
+use Rattle.dv_serial.specs.Places.{GivesBetween, MayGive, play_of}
 use Rattle.dv_serial.specs.Runs.{IsTried, Runs, RunsLine}
 use Rattle.dv_serial.specs.Scripts.{answer_text, numbered, numbered_by, replies_text}
 use Rattle.dv_serial.specs.Serves.{IsServed, TakesUpTo}
 use Rattle.dv_serial.specs.Servings.{Serving}
-use Rattle.dv_serial.proofs.Counting.{rose_more}
-use Rattle.dv_serial.proofs.Crashing.{more_may}
+use Rattle.dv_serial.proofs.Counting.{failures_on, rose_more}
+use Rattle.dv_serial.proofs.Crashing.{between_may, more_may}
 use Rattle.dv_serial.proofs.Places.{without_group}
 use Rattle.dv_serial.proofs.Stepping.{reads_none}
 use Rattle.dv_serial.proofs.Turns.{IsNext, numbers_more, numbers_parts}
 use Rattle.dv_shelf.specs.Sees.{SeesFolder, SeesTime}
+use Rattle.dv_serial.specs.Outputs.{output_with}
 
 -- ---- a line that was served and isn't answered
 
@@ -72,6 +75,15 @@ module _ (clock : ℕ → ℕ) (base : ℕ) (play : Play) (a : Attempt) (is : Is
   pub may_be_left : MayBeLeft clock base play a
   may_be_left = record { attempt = is; log = left_refusal (refused_here play a.line) refl }
 
+-- where it was served its group is in the log
+pub served_log : (clock : ℕ → ℕ) (play : Play) (a : Attempt) → a.outcome ≡ Served → MayWrite play a.line → (step clock play a).play.log ≡ (with_group_here clock play a.line).log
+served_log clock play a served write =
+    ap (λ (o : Option Reply). (stepped_by clock play a o).play.log) write.allowed ∙ ap (λ (o : Outcome). (fared clock play a.line o).play.log) (by_test (touches_disk a.line.1))
+  where
+    by_test : (b : Bool) → (if b then a.outcome else Served) ≡ Served
+    by_test true = served
+    by_test false = refl
+
 -- ---- texts
 
 no_texts : (lines : List NamedLine) → replies_text lines [] ≡ []
@@ -89,7 +101,7 @@ texts_more (first ∷ lines) (one ∷ all) replies line less is =
     ap (λ t. answer_text first one ++ t) (texts_more lines all replies line (omega (arith, less)) is)
     ∙ sym (append_assoc (answer_text first one) (replies_text lines all) (answer_text line replies))
 
-replies_length : (clock : ℕ → ℕ) (play : Play) (attempts : List Attempt) → length (replies_to clock play attempts) ≡ length attempts
+pub replies_length : (clock : ℕ → ℕ) (play : Play) (attempts : List Attempt) → length (replies_to clock play attempts) ≡ length attempts
 replies_length clock play [] = refl
 replies_length clock play (a ∷ attempts) = ap suc (replies_length clock (step clock play a).play attempts)
 
@@ -100,8 +112,8 @@ last_of P (y ∷ xs) x all = last_of P xs x (All-tail P y (xs ++ x ∷ []) all)
 -- ---- a line that is served, and not answered
 
 module _ {S C : Type 0} (sees : SeesFolder S)
-    (ticks : SeesTime C) (clock : ℕ → ℕ) (start : Log) (base faults : ℕ) (attempts : List Attempt) (line : transcripts.Line) (replies : List Reply)
-    (old new : Serving S C) (served : IsServed sees ticks clock start base faults attempts line replies old new) where
+    (ticks : SeesTime C) (clock : ℕ → ℕ) (start : Log) (base : ℕ) (faults : Faults) (attempts : List Attempt) (line : transcripts.Line) (replies : List Reply)
+    (old new : Serving S C) (served : IsServed sees ticks (origin_of clock start base) faults attempts line replies old new) where
   abbrev attempt : Attempt
   attempt = record { line = line; outcome = served.outcome }
 
@@ -151,13 +163,13 @@ module _ {S C : Type 0} (sees : SeesFolder S)
   pub record RunsTo (faults count : ℕ) (taken_now : List ℕ) (new : Serving S C) : Type 0 where
     pub answered : List Attempt
     pub numbers : lines_of answered ≡ map (numbered_by (sessions_of lines)) (take count lines)
-    pub follows : Follows sees ticks clock start base faults answered new
+    pub follows : Follows sees ticks (origin_of clock start base) faults answered new
     pub since : LeavesOnly sees old.store.shelf new.store.shelf (MayGive clock start answered)
     pub others : KeepsOthers clock start answered (sees.files old.store.shelf) (sees.files new.store.shelf)
     pub output : told → Appends taken taken_now (replies_text lines (replies_to clock (begin start) answered))
 
   -- none is yet
-  pub to_none : (faults : ℕ) → Follows sees ticks clock start base faults [] old
+  pub to_none : (faults : ℕ) → Follows sees ticks (origin_of clock start base) faults [] old
       → LeavesOnly sees old.store.shelf old.store.shelf (MayGive clock start []) → RunsTo faults 0 taken old
   to_none faults follows since = record {
     answered = [];
@@ -170,7 +182,7 @@ module _ {S C : Type 0} (sees : SeesFolder S)
 
   -- behind the last one
   pub to_done : (faults count : ℕ) (taken_now : List ℕ) (new : Serving S C) (done : Unit {0}) → length lines ≤ count → RunsTo faults count taken_now new
-      → Runs sees ticks clock start base faults lines (Ok done) told taken taken_now old new
+      → Runs sees ticks (origin_of clock start base) faults lines (Ok done) (output_with told taken taken_now) old new
   to_done faults count taken_now new done all so_far = record {
     answered = so_far.answered;
     left = [];
@@ -178,7 +190,9 @@ module _ {S C : Type 0} (sees : SeesFolder S)
     parts = sym (append-nil (lines_of so_far.answered) ∙ so_far.numbers ∙ ap (map (numbered_by (sessions_of lines))) (take_all count lines all));
     may = so_far.follows.may;
     ends = (refl, refl);
-    leaves = subst (λ (all : List Attempt). Leaves sees clock start all old new) (sym (append-nil so_far.answered)) (record { keeps = so_far.follows.keeps; since = so_far.since });
+    failures = subst (λ (all : List Attempt). RiseFrom base (failures_of all) faults) (sym (append-nil so_far.answered)) so_far.follows.failures;
+    keeps = subst (λ (all : List Attempt). Keeps sees clock start all new) (sym (append-nil so_far.answered)) so_far.follows.keeps;
+    since = subst (λ (all : List Attempt). LeavesOnly sees old.store.shelf new.store.shelf (MayGive clock start all)) (sym (append-nil so_far.answered)) so_far.since;
     others = subst (λ (all : List Attempt). KeepsOthers clock start all (sees.files old.store.shelf) (sees.files new.store.shelf)) (sym (append-nil so_far.answered)) so_far.others;
     readings = so_far.follows.readings;
     output = so_far.output;
@@ -213,18 +227,19 @@ module _ {S C : Type 0} (sees : SeesFolder S)
       few = rose_more (unavailable_count (replies_to clock (begin start) answered)) base before faults so_far.follows.may.few later;
     }
 
-    since_both : (more : List Attempt) → LeavesOnly sees mid.store.shelf new.store.shelf (MayGive clock start (answered ++ more))
+    since_both : (more : List Attempt) → LeavesOnly sees mid.store.shelf new.store.shelf (GivesBetween clock start answered (answered ++ more))
         → LeavesOnly sees old.store.shelf new.store.shelf (MayGive clock start (answered ++ more))
     since_both more since =
         joined sees old.store.shelf mid.store.shelf new.store.shelf (MayGive clock start (answered ++ more))
-        (more_may sees old.store.shelf mid.store.shelf clock start answered more so_far.since) since
+        (more_may sees old.store.shelf mid.store.shelf clock start answered more so_far.since)
+        (weaker sees mid.store.shelf new.store.shelf (GivesBetween clock start answered (answered ++ more)) (MayGive clock start (answered ++ more)) since (λ c. between_may clock start answered more c))
 
     others_both : (more : List Attempt) → KeepsOthers clock start (answered ++ more) (sees.files mid.store.shelf) (sees.files new.store.shelf) → KeepsOthers clock start (answered ++ more) (sees.files old.store.shelf) (sees.files new.store.shelf)
     others_both more others = keep_both clock start answered more (sees.files old.store.shelf) (sees.files mid.store.shelf) (sees.files new.store.shelf) so_far.others others
 
     -- memory ended it
-    pub to_ended : EndsAt sees clock start base answered (session, line.1) mid new → (told → taken_now ≡ taken_then) → before ≤ faults
-        → Runs sees ticks clock start base faults lines (Err line_end.NoMemory) told taken taken_now old new
+    pub to_ended : EndsAt sees (origin_of clock start base) (faults_between before faults) answered (session, line.1) mid new → (told → taken_now ≡ taken_then) → before ≤ faults
+        → Runs sees ticks (origin_of clock start base) faults lines (Err line_end.NoMemory) (output_with told taken taken_now) old new
     to_ended ends none later = record {
       answered = answered;
       left = ends.left;
@@ -232,14 +247,16 @@ module _ {S C : Type 0} (sees : SeesFolder S)
       parts = all_lines;
       may = may_later later;
       ends = ends.is;
-      leaves = record { keeps = ends.leaves.keeps; since = since_both ends.left ends.leaves.since };
+      failures = failures_on base answered ends.left (faults_between before faults) so_far.follows.failures ends.failures;
+      keeps = ends.leaves.keeps;
+      since = since_both ends.left ends.leaves.since;
       others = others_both ends.left ends.others;
       readings = tt;
       output = λ tells. none tells ∙ so_far.output tells;
     }
 
     -- memory ended the run before it was begun
-    pub to_unbegun : before ≤ faults → Runs sees ticks clock start base faults lines (Err line_end.NoMemory) told taken taken_then old mid
+    pub to_unbegun : before ≤ faults → Runs sees ticks (origin_of clock start base) faults lines (Err line_end.NoMemory) (output_with told taken taken_then) old mid
     to_unbegun later = record {
       answered = answered;
       left = [];
@@ -247,14 +264,16 @@ module _ {S C : Type 0} (sees : SeesFolder S)
       parts = all_lines;
       may = may_later later;
       ends = tt;
-      leaves = subst (λ (all : List Attempt). Leaves sees clock start all old mid) (sym (append-nil answered)) (record { keeps = so_far.follows.keeps; since = so_far.since });
+      failures = subst (λ (all : List Attempt). RiseFrom base (failures_of all) faults) (sym (append-nil answered)) (rise_more base before faults (failures_of answered) so_far.follows.failures later);
+      keeps = subst (λ (all : List Attempt). Keeps sees clock start all mid) (sym (append-nil answered)) so_far.follows.keeps;
+      since = subst (λ (all : List Attempt). LeavesOnly sees old.store.shelf mid.store.shelf (MayGive clock start all)) (sym (append-nil answered)) so_far.since;
       others = subst (λ (all : List Attempt). KeepsOthers clock start all (sees.files old.store.shelf) (sees.files mid.store.shelf)) (sym (append-nil answered)) so_far.others;
       readings = tt;
       output = so_far.output;
     }
 
     -- it was served
-    module _ (replies : List Reply) (served : IsServed sees ticks clock start base faults answered (session, line.1) replies mid new) where
+    module _ (replies : List Reply) (served : IsServed sees ticks (origin_of clock start base) (faults_between before faults) answered (session, line.1) replies mid new) where
       abbrev one : Attempt
       one = record { line = (session, line.1); outcome = served.outcome }
 
@@ -277,15 +296,17 @@ module _ {S C : Type 0} (sees : SeesFolder S)
 
       -- or the output failed
       pub to_failed : (n : ℕ) → (told → AppendsFront taken_then taken_now (answer_text line replies)) → before ≤ faults
-          → Runs sees ticks clock start base faults lines (Err (line_end.Sink n)) told taken taken_now old new
+          → Runs sees ticks (origin_of clock start base) faults lines (Err (line_end.Sink n)) (output_with told taken taken_now) old new
       to_failed n output later = record {
         answered = answered;
         left = one ∷ [];
         rest = behind_lines;
         parts = all_lines;
         may = may_later later;
-        ends = (refl, served_attempt sees ticks clock start base faults answered (session, line.1) replies mid new served);
-        leaves = record { keeps = served.follows.keeps; since = since_both (one ∷ []) served.since };
+        ends = (refl, served_attempt sees ticks clock start base (faults_between before faults) answered (session, line.1) replies mid new served);
+        failures = served.follows.failures;
+        keeps = served.follows.keeps;
+        since = since_both (one ∷ []) served.since;
         others = others_both (one ∷ []) served.others;
         readings = tt;
         output = λ tells. (answer_text line (step clock (play_of clock start answered) one).replies, tried, front tells);
@@ -307,12 +328,12 @@ module _ {S C : Type 0} (sees : SeesFolder S)
   module _ (before faults count session : ℕ) (line : NamedLine) (taken_then taken_now : List ℕ) (mid new : Serving S C)
       (next : IsNext lines count session line) (so_far : RunsTo before count taken_then mid) (later : before ≤ faults) where
     -- the run goes on
-    pub goes_on : (done : Unit {0}) → RunsLine sees ticks clock start base faults so_far.answered session line (Ok done) told taken_then taken_now mid new
+    pub goes_on : (done : Unit {0}) → RunsLine sees ticks (origin_of clock start base) (faults_between before faults) so_far.answered (record { session = session; line = line }) (Ok done) (output_with told taken_then taken_now) mid new
         → RunsTo faults (count + 1) taken_now new
     goes_on done one = to_more before faults count session line taken_then taken_now mid new next so_far one.replies one.served one.output
 
     -- or ends
-    pub stops : (e : LineEnd) → RunsLine sees ticks clock start base faults so_far.answered session line (Err e) told taken_then taken_now mid new
-        → Runs sees ticks clock start base faults lines (Err e) told taken taken_now old new
+    pub stops : (e : LineEnd) → RunsLine sees ticks (origin_of clock start base) (faults_between before faults) so_far.answered (record { session = session; line = line }) (Err e) (output_with told taken_then taken_now) mid new
+        → Runs sees ticks (origin_of clock start base) faults lines (Err e) (output_with told taken taken_now) old new
     stops line_end.NoMemory one = to_ended before faults count session line taken_then taken_now mid new next so_far one.0 one.1 later
     stops (line_end.Sink n) one = to_failed before faults count session line taken_then taken_now mid new next so_far one.replies one.served n one.output later

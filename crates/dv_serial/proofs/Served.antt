@@ -26,7 +26,8 @@ use Rattle.dv_playing.specs.Playing.{Attempt, Play, refused_here, with_group_her
 use Rattle.dv_store.specs.Commits.{MayWrite}
 use Rattle.dv_store.specs.Faults.{IsFailure}
 use Rattle.dv_store.specs.Rest.{OnlyReads}
-use Rattle.dv_serial.specs.Following.{EndsAt, Follows, HasStates}
+use Rattle.dv_serial.specs.Faults.{faults_between}
+use Rattle.dv_serial.specs.Following.{EndsAt, Follows, HasStates, origin_of}
 use Rattle.dv_serial.specs.Lines.{IsFaultLine, fault_lines}
 use Rattle.dv_serial.specs.Others.{LeavesOthers}
 use Rattle.dv_serial.specs.Places.{play_of}
@@ -42,7 +43,7 @@ use Rattle.dv_serial.proofs.Taken.{always, given_answer, given_err, given_has}
 use Rattle.dv_shelf.specs.Sees.{SeesFolder, SeesTime}
 
 module _ {S C : Type 0} (sees : SeesFolder S) (ticks : SeesTime C) (clock : ℕ → ℕ) (start : Log) (base : ℕ) (attempts : List Attempt)
-    (before : ℕ) (old : Serving S C) (follows : Follows sees ticks clock start base before attempts old) (at number : ℕ) (number_is : number ≡ at + 1) (c : Command) (less : at < length old.seats) (small : number < 2 ^ 32) (command : IsCommand c) where
+    (before : ℕ) (old : Serving S C) (follows : Follows sees ticks (origin_of clock start base) before attempts old) (at number : ℕ) (number_is : number ≡ at + 1) (c : Command) (less : at < length old.seats) (small : number < 2 ^ 32) (command : IsCommand c) where
   abbrev line : Line
   line = (number, c)
 
@@ -61,7 +62,7 @@ module _ {S C : Type 0} (sees : SeesFolder S) (ticks : SeesTime C) (clock : ℕ 
 
   pub seat_refused : {E R : Type 0} (with : R → List Reply → R) (said said_now : R) (r : Reply) (result : Result (Unit {0}) E) → own_refusal (seat_at old.seats at).state c ≡ Some r
       → ((f : Folder) → sees.left_since old.store.shelf (sees.moment old.store.shelf) f → sees.may_leave old.store.shelf f) → OnOk result (said_now ≡ with said (r ∷ []))
-      → Takes with said said_now result (λ told. Serves sees ticks clock start base before attempts line told old old)
+      → Takes with said said_now result (λ told. Serves sees ticks (origin_of clock start base) (faults_between before before) attempts line told old old)
   seat_refused with said said_now r result own now is = record {
     replies = r ∷ [];
     taken = is;
@@ -75,12 +76,12 @@ module _ {S C : Type 0} (sees : SeesFolder S) (ticks : SeesTime C) (clock : ℕ 
     allowed : refused_here here line ≡ None
     allowed = reads_allowed here line (own_here None own) read
 
-    pub seat_ended : EndsAt sees clock start base attempts line old mid
-    seat_ended = read_ended sees ticks clock start base attempts before before line old follows good (omega arith) allowed read mid looks reads
+    pub seat_ended : (faults : ℕ) → before ≤ faults → EndsAt sees (origin_of clock start base) (faults_between before faults) attempts line old mid
+    seat_ended faults later = read_ended sees ticks clock start base attempts before faults line old follows good later allowed read mid looks reads
 
     pub seat_failed : {A E R : Type 0} (with : R → List Reply → R) (said said_now : R) (faults : ℕ) (f : StoreFault) (result : Result (Unit {0}) E) → ((count : ℕ) → f ≡ fault.Disk count → reads_mail c ≡ true) → IsFailure f → HasStoreCause {A = A} before faults (Err f)
         → OnOk result ((said_now ≡ with said (fault_lines f)) × IsFaultLine f (fault_lines f))
-        → Takes with said said_now result (λ told. Serves sees ticks clock start base faults attempts line told old mid)
+        → Takes with said said_now result (λ told. Serves sees ticks (origin_of clock start base) (faults_between before faults) attempts line told old mid)
     seat_failed with said said_now faults f result mails failure cause is = record {
       replies = fault_lines f;
       taken = on_ok_weaker result (λ (x : (said_now ≡ with said (fault_lines f)) × IsFaultLine f (fault_lines f)). x.0) is;
@@ -93,7 +94,7 @@ module _ {S C : Type 0} (sees : SeesFolder S) (ticks : SeesTime C) (clock : ℕ 
         → ((mail : ℕ → Mail) (m : Mailbox) → met ≡ met_of c (seat_at mid.seats at).state.view m → P mail (seat_at mid.seats at).state.view mid.store.chain.live.mailbox
         → OnOk result (IsAnswered with said said_now (seat_at new.seats at).state (answer mail (seat_at mid.seats at).state c m mid.groups mid.store.chain.live.mailbox mid.mark)))
         → IsAbreast new.store.chain.live.mailbox (seat_at new.seats at) → with_seat at (seat_at new.seats at) mid ≡ new → OnErr result (new ≡ mid)
-        → Takes with said said_now result (λ r. Serves sees ticks clock start base faults attempts line r old new)
+        → Takes with said said_now result (λ r. Serves sees ticks (origin_of clock start base) (faults_between before faults) attempts line r old new)
     seat_told with said said_now faults new result P met later is supplied answered abreast only stays =
         let a = answer here.log.mail (seat_at mid.seats at).state c old.store.chain.live.mailbox mid.groups mid.store.chain.live.mailbox mid.mark in
         let both = answered here.log.mail old.store.chain.live.mailbox (looked_met old mid looks c (seat_at mid.seats at).state met is) (looked_same old mid looks (P here.log.mail) at supplied) in
@@ -107,13 +108,13 @@ module _ {S C : Type 0} (sees : SeesFolder S) (ticks : SeesTime C) (clock : ℕ 
 
   -- ---- a write
 
-  pub seat_still : ((f : Folder) → sees.left_since old.store.shelf (sees.moment old.store.shelf) f → sees.may_leave old.store.shelf f) → EndsAt sees clock start base attempts line old old
+  pub seat_still : ((f : Folder) → sees.left_since old.store.shelf (sees.moment old.store.shelf) f → sees.may_leave old.store.shelf f) → EndsAt sees (origin_of clock start base) (faults_between before before) attempts line old old
   seat_still now = ended_still sees ticks clock start base attempts before before line old follows good (omega arith) now
 
   module _ (write : is_write c ≡ true) (mid : Serving S C) where
     pub seat_unwritten : {A E R : Type 0} (with : R → List Reply → R) (said said_now : R) (faults : ℕ) (f : StoreFault) (result : Result (Unit {0}) E) → Commits sees ticks clock start attempts line old (Err f) mid → HasStoreCause {A = A} before faults (Err f) → mid.seats ≡ old.seats
         → LeavesOthers {A = A} c old.store.chain.live.mailbox (Err f) (sees.files old.store.shelf) (sees.files mid.store.shelf) → OnOk result ((said_now ≡ with said (fault_lines f)) × IsFaultLine f (fault_lines f))
-        → Takes with said said_now result (λ told. Serves sees ticks clock start base faults attempts line told old mid)
+        → Takes with said said_now result (λ told. Serves sees ticks (origin_of clock start base) (faults_between before faults) attempts line told old mid)
     seat_unwritten with said said_now faults f result commits cause seats others is = record {
       replies = fault_lines f;
       taken = on_ok_weaker result (λ (x : (said_now ≡ with said (fault_lines f)) × IsFaultLine f (fault_lines f)). x.0) is;
@@ -123,15 +124,15 @@ module _ {S C : Type 0} (sees : SeesFolder S) (ticks : SeesTime C) (clock : ℕ 
 
     module _ (touched : List ℕ) (done : IsDone sees ticks clock start attempts line touched old mid)
         (others : (n : Name) → (MayWrite c old.store.chain.live.mailbox n → ⊥) → sees.files mid.store.shelf n ≡ sees.files old.store.shelf n) (seats : List Follower) where
-      pub seat_untold : EndsAt sees clock start base attempts line old (record mid { seats = seats })
-      seat_untold = write_ended sees ticks clock start base attempts before before line old follows good (omega arith) write mid touched done others seats
+      pub seat_untold : (faults : ℕ) → before ≤ faults → EndsAt sees (origin_of clock start base) (faults_between before faults) attempts line old (record mid { seats = seats })
+      seat_untold faults later = write_ended sees ticks clock start base attempts before faults line old follows good later write mid touched done others seats
 
       pub seat_wrote : {E R : Type 0} (with : R → List Reply → R) (said said_now : R) (faults : ℕ) (new : Serving S C) (result : Result (Unit {0}) E) (facts : List MailFacts) (met : Met) → before ≤ faults → HasStates old.seats seats → All (IsAbreast mid.store.chain.live.mailbox) seats
           → met ≡ met_of c (seat_at old.seats at).state.view old.store.chain.live.mailbox
           → ((mail : ℕ → Mail) (m : Mailbox) → met ≡ met_of c (seat_at seats at).state.view m → AreSupplied mail c (seat_at seats at).state.view mid.store.chain.live.mailbox facts
           → OnOk result (IsAnswered with said said_now (seat_at new.seats at).state (answer mail (seat_at seats at).state c m mid.groups mid.store.chain.live.mailbox mid.mark)))
           → IsAbreast new.store.chain.live.mailbox (seat_at new.seats at) → with_seat at (seat_at new.seats at) (record mid { seats = seats }) ≡ new → OnErr result (new ≡ record mid { seats = seats })
-          → Takes with said said_now result (λ r. Serves sees ticks clock start base faults attempts line r old new)
+          → Takes with said said_now result (λ r. Serves sees ticks (origin_of clock start base) (faults_between before faults) attempts line r old new)
       seat_wrote with said said_now faults new result facts met later has all is answered abreast only stays =
           let same : (seat_at old.seats at).state ≡ (seat_at seats at).state = sym (has.states at new_follower less) in
           let mail : ℕ → Mail = (with_group_here clock here line).log.mail in

@@ -8,15 +8,26 @@ use Rattle.dv_shelf.specs.Clocks.{behind}
 use Rattle.dv_shelf.specs.Crashes.{LeavesOnly}
 use Rattle.dv_shelf.specs.Folders.{Folder}
 use Rattle.dv_rotation.specs.Texts.{place_of}
-use Rattle.dv_keeping.specs.Debts.{Debt}
+use Rattle.dv_writing.specs.Debts.{Debt}
 use Rattle.dv_answer.specs.Following.{Follower, IsAbreast}
-use Rattle.dv_playing.specs.Laws.{IsAttempt, MayPlay, MayWrite}
+use Rattle.dv_playing.specs.Laws.{IsAttempt, MayPlay, MayWrite, RiseFrom, failures_of}
 use Rattle.dv_playing.specs.Playing.{Attempt, Outcome, Play, Served, step}
 use Rattle.dv_store.specs.Rest.{IsAtRest}
+use Rattle.dv_serial.specs.Faults.{Faults}
 use Rattle.dv_serial.specs.Others.{KeepsOthers}
-use Rattle.dv_serial.specs.Places.{IsOwedBehind, MayGive, StandsAt, play_of}
+use Rattle.dv_serial.specs.Places.{GivesBetween, IsOwedBehind, StandsAt, play_of}
 use Rattle.dv_serial.specs.Servings.{Serving}
 use Rattle.dv_shelf.specs.Sees.{SeesFolder, SeesTime}
+
+-- From what lines are played: a clock's readings to come, the log at first, and how often the
+-- folder's calls had failed.
+pub record Origin : Type 0 where
+  pub clock : ℕ → ℕ
+  pub start : Log
+  pub base : ℕ
+
+abbrev pub origin_of : (ℕ → ℕ) → Log → ℕ → Origin
+origin_of clock start base = record { clock = clock; start = start; base = base }
 
 -- each session, from number 1 on, has its state, and is abreast of the mailbox
 pub record AreSeated (m : Mailbox) (state_of : ℕ → State) (seats : List Follower) : Type 0 where
@@ -63,30 +74,33 @@ module _ {S C : Type 0} where
     pub owed : IsOwedBehind clock start attempts (place_of serving.store.chain) debt
     pub rests : IsAtRest sees (play_of clock start attempts).log debt serving.store
 
-  -- The lines were played, no more of them failed than the count of faults rose by, and clock and
+  -- The lines were played, those that failed told counts that rose up to this one, and clock and
   -- sessions are where the play has them.
-  pub record Follows (sees : SeesFolder S) (ticks : SeesTime C)
-      (clock : ℕ → ℕ) (start : Log) (base faults : ℕ) (attempts : List Attempt)
-      (serving : Serving S C) : Type 0 where
-    pub may : MayPlay clock start base faults attempts
-    pub keeps : Keeps sees clock start attempts serving
-    pub readings : ticks.upcoming serving.store.clock ≡ behind clock (play_of clock start attempts).used
-    pub seats : AreSeated serving.store.chain.live.mailbox (play_of clock start attempts).states
-        serving.seats
+  pub record Follows (sees : SeesFolder S) (ticks : SeesTime C) (origin : Origin) (faults : ℕ)
+      (attempts : List Attempt) (serving : Serving S C) : Type 0 where
+    pub may : MayPlay origin.clock origin.start origin.base faults attempts
+    pub failures : RiseFrom origin.base (failures_of attempts) faults
+    pub keeps : Keeps sees origin.clock origin.start attempts serving
+    pub readings : ticks.upcoming serving.store.clock
+        ≡ behind origin.clock (play_of origin.clock origin.start attempts).used
+    pub seats : AreSeated serving.store.chain.live.mailbox
+        (play_of origin.clock origin.start attempts).states serving.seats
 
-  -- What is left keeps the log behind these lines, and a crash at any moment since leaves the log
-  -- behind some of them, or with the group of one that the disk failed.
+  -- What is left keeps the log behind these lines, and a crash at any moment since leaves that, or
+  -- the log behind the lines before.
   pub record Leaves (sees : SeesFolder S) (clock : ℕ → ℕ) (start : Log)
-      (attempts : List Attempt) (old new : Serving S C) : Type 0 where
+      (before attempts : List Attempt) (old new : Serving S C) : Type 0 where
     pub keeps : Keeps sees clock start attempts new
     pub since : LeavesOnly sees old.store.shelf new.store.shelf
-        (MayGive clock start attempts)
+        (GivesBetween clock start before attempts)
 
-  -- where a line wasn't answered: behind the lines so far, or behind that one too
-  pub record EndsAt (sees : SeesFolder S) (clock : ℕ → ℕ) (start : Log) (base : ℕ)
+  -- Where a line wasn't answered: behind the lines so far, or behind that one too. It was failed
+  -- only where the count of faults rose.
+  pub record EndsAt (sees : SeesFolder S) (origin : Origin) (faults : Faults)
       (attempts : List Attempt) (line : Line) (old new : Serving S C) : Type 0 where
     pub left : List Attempt
-    pub is : IsLeft clock base (play_of clock start attempts) line left
-    pub leaves : Leaves sees clock start (attempts ++ left) old new
-    pub others : KeepsOthers clock start (attempts ++ left) (sees.files old.store.shelf)
-        (sees.files new.store.shelf)
+    pub is : IsLeft origin.clock origin.base (play_of origin.clock origin.start attempts) line left
+    pub failures : RiseFrom faults.before (failures_of left) faults.now
+    pub leaves : Leaves sees origin.clock origin.start attempts (attempts ++ left) old new
+    pub others : KeepsOthers origin.clock origin.start (attempts ++ left)
+        (sees.files old.store.shelf) (sees.files new.store.shelf)

@@ -1,4 +1,6 @@
 pub mod Servings
+pub mod Outputs
+pub mod Faults
 pub mod Taking
 pub mod Places
 pub mod Following

@@ -9,8 +9,8 @@ use Rattle.dv_model.specs.Transcripts.{Line}
 use Rattle.dv_shelf.specs.Folders.{Folder}
 use Rattle.dv_logfile.specs.Layout.{closing}
 use Rattle.dv_rotation.specs.declared.texts.Turn.{Turn}
-use Rattle.dv_keeping.specs.Debts.{Debt, Pending}
-use Rattle.dv_keeping.specs.Keeping.{Gives}
+use Rattle.dv_writing.specs.Debts.{Debt, Pending}
+use Rattle.dv_writing.specs.Keeping.{Gives}
 use Rattle.dv_playing.specs.Laws.{MayWrite}
 use Rattle.dv_playing.specs.Playing.{Attempt, Failed, Play, Rotation, begin, group_here, played, with_group_here}
 
@@ -101,6 +101,12 @@ GivesBehind clock start attempts c =
     GivesPlay (play_of clock start attempts) c
     ⊎ ((met : Play) × (a : Attempt) × IsLastFailed clock start attempts met a
     × GivesWith clock met a.line c)
+
+-- What a crash leaves at any moment between these lines and those, which go on from them: the log
+-- behind the first ones, or behind all.
+abbrev pub GivesBetween : (ℕ → ℕ) → Log → List Attempt → List Attempt → Folder → Type 0
+GivesBetween clock start before behind c =
+    GivesBehind clock start before c ⊎ GivesBehind clock start behind c
 
 -- the play, or, where the disk failed the first of the lines behind, that with its group
 abbrev pub GivesNext : (ℕ → ℕ) → Play → List Attempt → Folder → Type 0

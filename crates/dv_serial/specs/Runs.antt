@@ -5,20 +5,32 @@ use Rattle.dv_model.specs.Counts.{Rose}
 use Rattle.dv_model.specs.Journals.{Log}
 use Rattle.dv_model.specs.Transcripts as transcripts
 use Rattle.dv_shelf.specs.Clocks.{behind}
+use Rattle.dv_shelf.specs.Crashes.{LeavesOnly}
 use Rattle.dv_shelf.specs.Folders.{Folder}
 use Rattle.dv_shelf.specs.Streams.{Appends, AppendsFront}
 use Rattle.dv_formats.specs.Scripts.{NamedLine}
-use Rattle.dv_playing.specs.Laws.{MayPlay, lines_of}
+use Rattle.dv_playing.specs.Laws.{MayPlay, RiseFrom, failures_of, lines_of}
 use Rattle.dv_playing.specs.Playing.{Attempt, begin, replies_to, step}
 use Rattle.dv_serial.specs.declared.lines.LineEnd.{LineEnd}
 use Rattle.dv_serial.specs.declared.lines.LineEnd.TheVariants as line_end
-use Rattle.dv_serial.specs.Following.{EndsAt, IsLeft, Leaves}
+use Rattle.dv_serial.specs.Faults.{Faults}
+use Rattle.dv_serial.specs.Following.{EndsAt, IsLeft, Keeps, Origin}
 use Rattle.dv_serial.specs.Others.{KeepsOthers}
-use Rattle.dv_serial.specs.Places.{play_of}
+use Rattle.dv_serial.specs.Outputs.{Output}
+use Rattle.dv_serial.specs.Places.{MayGive, play_of}
 use Rattle.dv_serial.specs.Scripts.{answer_text, numbered, replies_text}
 use Rattle.dv_serial.specs.Serves.{IsServed}
 use Rattle.dv_serial.specs.Servings.{Serving}
 use Rattle.dv_shelf.specs.Sees.{SeesFolder, SeesTime}
+
+-- a line of a script, and the number of the session that gives it
+pub record SessionLine : Type 0 where
+  pub session : ℕ
+  pub line : NamedLine
+
+-- as a transcript has it
+abbrev pub in_transcript : SessionLine → transcripts.Line
+in_transcript by = (by.session, by.line.1)
 
 -- The text that was being written where the output failed: the replies to the line that it wasn't
 -- written for.
@@ -53,52 +65,53 @@ HasRead clock used upcoming (Err e) = ⊤
 
 module _ {S C : Type 0} where
   -- A line was served as one step of the play, and of the text of its replies this was written.
-  pub record IsTold (sees : SeesFolder S) (ticks : SeesTime C) (clock : ℕ → ℕ) (start : Log)
-      (base faults : ℕ) (attempts : List Attempt) (line : transcripts.Line)
-      (written : List Reply → Type 0) (old new : Serving S C) : Type 0 where
+  pub record IsTold (sees : SeesFolder S) (ticks : SeesTime C) (origin : Origin) (faults : Faults)
+      (attempts : List Attempt) (line : transcripts.Line) (written : List Reply → Type 0)
+      (old new : Serving S C) : Type 0 where
     pub replies : List Reply
-    pub served : IsServed sees ticks clock start base faults
-        attempts line replies old new
+    pub served : IsServed sees ticks origin faults attempts line replies old new
     pub output : written replies
 
   -- What becomes of one line of a session: it is answered, and its text written; or memory ended
   -- it, and nothing is written; or the output failed, and a front of its text is.
-  abbrev pub RunsLine : SeesFolder S
-      → SeesTime C → (ℕ → ℕ) → Log → ℕ → ℕ → List Attempt → ℕ → NamedLine
-      → Result (Unit {0}) LineEnd → Type 0 → List ℕ → List ℕ → Serving S C → Serving S C → Type 0
-  RunsLine sees ticks clock start base faults attempts session line
-      (Ok done) told taken taken_now old new =
-      IsTold sees ticks clock start base faults attempts
-      (session, line.1) (λ replies. told → Appends taken taken_now (answer_text line replies)) old new
-  RunsLine sees ticks clock start base faults attempts session line
-      (Err line_end.NoMemory) told taken taken_now old new =
-      EndsAt sees clock start base attempts (session, line.1) old new
-      × (told → taken_now ≡ taken)
-  RunsLine sees ticks clock start base faults attempts session line
-      (Err (line_end.Sink n)) told taken taken_now old new =
-      IsTold sees ticks clock start base faults attempts
-      (session, line.1) (λ replies. told → AppendsFront taken taken_now (answer_text line replies))
-      old new
+  abbrev pub RunsLine : SeesFolder S → SeesTime C → Origin → Faults → List Attempt → SessionLine
+      → Result (Unit {0}) LineEnd → Output → Serving S C → Serving S C → Type 0
+  RunsLine sees ticks origin faults attempts by (Ok done) out old new =
+      IsTold sees ticks origin faults attempts (in_transcript by)
+      (λ replies. out.told
+      → Appends out.taken out.taken_now (answer_text by.line replies)) old new
+  RunsLine sees ticks origin faults attempts by (Err line_end.NoMemory) out old new =
+      EndsAt sees origin faults attempts (in_transcript by) old new
+      × (out.told → out.taken_now ≡ out.taken)
+  RunsLine sees ticks origin faults attempts by (Err (line_end.Sink n)) out old new =
+      IsTold sees ticks origin faults attempts (in_transcript by)
+      (λ replies. out.told
+      → AppendsFront out.taken out.taken_now (answer_text by.line replies)) old new
 
   -- The first lines were answered, each as a step of one play, and the text of their replies
-  -- written. The first of the others may have left its group, or be one that the disk failed. What
-  -- is left keeps the play's log behind these lines; so does what a crash leaves, behind some of
-  -- them. Files that none of them writes stay.
-  pub record Runs (sees : SeesFolder S) (ticks : SeesTime C) (clock : ℕ → ℕ) (start : Log)
-      (base faults : ℕ) (lines : List NamedLine) (result : Result (Unit {0}) LineEnd)
-      (told : Type 0) (taken taken_now : List ℕ) (old new : Serving S C) : Type 0 where
+  -- written. The first of the others may have left its group, or be one that the disk failed. The
+  -- failures of all these lines tell counts that rise up to this one. What is left keeps the play's
+  -- log behind these lines; so does what a crash leaves, behind some of them. Files that none of
+  -- them writes stay.
+  pub record Runs (sees : SeesFolder S) (ticks : SeesTime C) (origin : Origin) (faults : ℕ)
+      (lines : List NamedLine) (result : Result (Unit {0}) LineEnd) (out : Output)
+      (old new : Serving S C) : Type 0 where
     pub answered : List Attempt
     pub left : List Attempt
     pub rest : List transcripts.Line
     pub parts : numbered lines ≡ lines_of answered ++ rest
-    pub may : MayPlay clock start base faults answered
-    pub ends : EndsWith clock base start answered left rest result
-    pub leaves : Leaves sees clock start (answered ++ left) old new
-    pub others : KeepsOthers clock start (answered ++ left) (sees.files old.store.shelf)
-        (sees.files new.store.shelf)
-    pub readings : HasRead clock (play_of clock start answered).used (ticks.upcoming new.store.clock)
-        result
-    pub output : told → Writes clock start answered left lines result taken taken_now
+    pub may : MayPlay origin.clock origin.start origin.base faults answered
+    pub ends : EndsWith origin.clock origin.base origin.start answered left rest result
+    pub failures : RiseFrom origin.base (failures_of (answered ++ left)) faults
+    pub keeps : Keeps sees origin.clock origin.start (answered ++ left) new
+    pub since : LeavesOnly sees old.store.shelf new.store.shelf
+        (MayGive origin.clock origin.start (answered ++ left))
+    pub others : KeepsOthers origin.clock origin.start (answered ++ left)
+        (sees.files old.store.shelf) (sees.files new.store.shelf)
+    pub readings : HasRead origin.clock (play_of origin.clock origin.start answered).used
+        (ticks.upcoming new.store.clock) result
+    pub output : out.told → Writes origin.clock origin.start answered left lines result
+        out.taken out.taken_now
 
 -- an error has its cause: memory, or an output whose count of faults rose and is told
 abbrev pub IsCaused : ℕ → ℕ → Result (Unit {0}) LineEnd → Type 0

@@ -5,9 +5,11 @@ ghost use Rattle.dv_model.specs.Journals.{Log};
 ghost use Rattle.dv_formats.specs.Scripts.{NamedLine, sessions_of};
 ghost use Rattle.dv_script.specs.Sources.{named};
 ghost use Rattle.dv_playing.specs.Playing.{Attempt};
-ghost use Rattle.dv_serial.specs.Following.{Follows};
+ghost use Rattle.dv_serial.specs.Faults.{faults_of};
+ghost use Rattle.dv_serial.specs.Following.{Follows, Origin};
+ghost use Rattle.dv_serial.specs.Outputs.{output_of};
 ghost use Rattle.dv_serial.specs.Runs.{IsCaused, Runs, RunsLine};
-ghost use Rattle.dv_serial.specs.Serves.{AreAbreast, IsSeat, IsServable, TakesUpTo};
+ghost use Rattle.dv_serial.specs.Serves.{AreAbreast, IsAsked, IsServable, TakesUpTo};
 
 use crate::Serial;
 use crate::numbers::next_turn;
@@ -39,18 +41,17 @@ impl<S: Shelf, C: Clock> Serial<S, C> {
     /// Serves one line of the script, which the session of this number gives, and writes its
     /// replies.
     fn serve_line<O: Sink>(&mut self, session: u32, line: Line, out: &mut O) -> Result<(), LineEnd>
-        requires seat { IsSeat session self.old.seats }
-        requires line { IsServable line.command }
+        requires asked { IsAsked self.old.seats session line.command }
         requires abreast { AreAbreast self.old }
         requires room { self.old.groups + 1 < 2 ^ 64 }
         // It is one line more of the play, and its text is written.
-        ensures runs { S.sees.tells → C.sees.tells → (clock : ℕ → ℕ) (start : Log) (base : ℕ)
-            (attempts : List Attempt) → Follows S.sees C.sees clock start base
+        ensures runs { S.sees.tells → C.sees.tells → (origin : Origin) (attempts : List Attempt) →
+            Follows S.sees C.sees origin
             (S.sees.fault_count self.old.store.shelf) attempts self.old →
-            RunsLine S.sees C.sees clock start base
-            (S.sees.fault_count self.new.store.shelf) attempts session (named line) result
-            O.sees.tells
-            (O.sees.taken out.old) (O.sees.taken out.new) self.old self.new }
+            RunsLine S.sees C.sees origin
+            (faults_of S.sees self.old.store.shelf self.new.store.shelf) attempts
+            (record { session = session; line = named line }) result
+            (output_of O.sees out.old out.new) self.old self.new }
         ensures groups { self.new.groups ≤ self.old.groups + 1 }
         // There are as many sessions, which keep up with the mailbox.
         ensures seats { length self.new.seats ≡ length self.old.seats }
@@ -88,12 +89,10 @@ impl<S: Shelf, C: Clock> Serial<S, C> {
         requires room { self.old.groups + length (L.left lines.old) < 2 ^ 64 }
         // Each line is a step of one play with its replies, up to the one that ended the run, and
         // what is left, at any moment too, keeps the play's log.
-        ensures runs { S.sees.tells → C.sees.tells → (clock : ℕ → ℕ) (start : Log) (base : ℕ) →
-            Follows S.sees C.sees clock start base
-            (S.sees.fault_count self.old.store.shelf) [] self.old →
-            Runs S.sees C.sees clock start base
-            (S.sees.fault_count self.new.store.shelf) (L.left lines.old) result O.sees.tells
-            (O.sees.taken out.old) (O.sees.taken out.new) self.old self.new }
+        ensures runs { S.sees.tells → C.sees.tells → (origin : Origin) →
+            Follows S.sees C.sees origin (S.sees.fault_count self.old.store.shelf) [] self.old →
+            Runs S.sees C.sees origin (S.sees.fault_count self.new.store.shelf)
+            (L.left lines.old) result (output_of O.sees out.old out.new) self.old self.new }
         // The counts of faults never fall, and an output that failed has its cause.
         ensures later { (S.sees.fault_count self.old.store.shelf
             ≤ S.sees.fault_count self.new.store.shelf)

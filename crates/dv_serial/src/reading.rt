@@ -5,7 +5,7 @@ ghost use Rattle.dv_model.specs.declared.types.Mailbox.{Mailbox};
 ghost use Rattle.dv_model.specs.Journals.{Log, Mail as Message};
 ghost use Rattle.dv_model.specs.Sessions.{answer, is_write, reads_mail};
 ghost use Rattle.dv_shelf.specs.Crashes.{LeavesOnly};
-ghost use Rattle.dv_keeping.specs.Debts.{Debt};
+ghost use Rattle.dv_writing.specs.Debts.{Debt};
 ghost use Rattle.dv_responses.specs.Damaged.{IsRead};
 ghost use Rattle.dv_responses.specs.Depth.{IsShallow};
 ghost use Rattle.dv_responses.specs.Met.{met_of};
@@ -17,9 +17,10 @@ ghost use Rattle.dv_plans.specs.Faults.{HasStoreCause};
 ghost use Rattle.dv_plans.specs.declared.fault.StoreFault.TheVariants as fault;
 ghost use Rattle.dv_store.specs.Rest.{IsAtRest, OnlyReads};
 ghost use Rattle.dv_playing.specs.Playing.{Attempt};
-ghost use Rattle.dv_serial.specs.Following.{Follows};
+ghost use Rattle.dv_serial.specs.Faults.{faults_of};
+ghost use Rattle.dv_serial.specs.Following.{Follows, Origin};
 ghost use Rattle.dv_store.specs.Faults.{IsFailure};
-ghost use Rattle.dv_serial.specs.Serves.{AreAbreast, HasFailures, IsServable, OnlyLooksAt, Serves, seat_at, with_seat};
+ghost use Rattle.dv_serial.specs.Serves.{AreAbreast, HasFailures, IsAllowed, OnlyLooksAt, Serves, seat_at, with_seat};
 ghost use Rattle.dv_serial.specs.Taking.{Takes};
 
 use crate::Serial;
@@ -149,20 +150,18 @@ impl<S: Shelf, C: Clock> Serial<S, C> {
         c: &Command,
         replies: &mut R,
     ) -> Result<(), NoMemory>
-        requires at { at < length self.old.seats }
-        requires line { IsServable c.now }
+        requires allowed { IsAllowed self.old.seats at c.now }
         requires read { is_write c.now ≡ false }
-        requires allowed { own_refusal (seat_at self.old.seats at).state c.now ≡ None }
         requires abreast { AreAbreast self.old }
         // It is one line more of the play, with its replies; the folder is only read.
-        ensures serves { S.sees.tells → C.sees.tells → (clock : ℕ → ℕ) (start : Log) (base : ℕ)
+        ensures serves { S.sees.tells → C.sees.tells → (origin : Origin)
             (attempts : Listed Attempt) → at + 1 < 2 ^ 32 →
-            Follows S.sees C.sees clock start base
+            Follows S.sees C.sees origin
             (S.sees.fault_count self.old.store.shelf) attempts self.old →
             Takes R.with replies.old replies.new result (λ told.
-            Serves S.sees C.sees clock start base
-            (S.sees.fault_count self.new.store.shelf) attempts (at + 1, c.now) told self.old
-            self.new) }
+            Serves S.sees C.sees origin
+            (faults_of S.sees self.old.store.shelf self.new.store.shelf) attempts
+            (at + 1, c.now) told self.old self.new) }
         ensures groups { self.new.groups ≡ self.old.groups }
         // There are as many sessions, which keep up with the mailbox, and the clock isn't read.
         ensures stays { (length self.new.seats ≡ length self.old.seats)

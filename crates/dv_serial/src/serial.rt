@@ -36,7 +36,8 @@ impl<S, C> Model for Serial<S, C> {
 
     ghost coded = { serving_code
         (state_code S.code C.code chain_type.the_row.coded
-        (coded_option turn_type.the_row.coded) file_type.the_row.coded)
+        (coded_option turn_type.the_row.coded) file_type.the_row.coded
+        mark_type.the_row.coded)
         mark_type.the_row.coded
         (coded_list session_type.the_row.coded) coded_ℕ };
 
@@ -53,7 +54,7 @@ impl<S, C> Serial<S, C> {
     pub fn new(alloc: Global, store: Store<S, C>, seats: List<Session>) -> Serial<S, C>
         ensures { result ≡ serving_over store seats }
     {
-        let mark = store.mark();
+        let mark = store.place();
         Serial {
             alloc,
             store,

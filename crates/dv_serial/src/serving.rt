@@ -1,19 +1,19 @@
 //! One line is served.
 
-ghost use Rattle.std.specs.Prelude.{◌≡◌, ◌+◌, ◌^◌, ◌<◌, ◌≤◌, ℕ, List, IfOk, None, OnErr, OnOk, length, true, false};
+ghost use Rattle.std.specs.Prelude.{◌≡◌, ◌+◌, ◌^◌, ◌<◌, ◌≤◌, ℕ, List, IfOk, OnErr, OnOk, length, true, false};
 ghost use Rattle.dv_model.specs.Journals.{Log};
 ghost use Rattle.dv_model.specs.Sessions.{is_write};
 ghost use Rattle.dv_shelf.specs.Crashes.{LeavesOnly};
-ghost use Rattle.dv_keeping.specs.Debts.{Debt};
+ghost use Rattle.dv_writing.specs.Debts.{Debt};
 ghost use Rattle.dv_answer.specs.Following.{Leads};
-ghost use Rattle.dv_answer.specs.Refusing.{own_refusal};
 ghost use Rattle.dv_plans.specs.Faults.{HasStoreCause};
 ghost use Rattle.dv_playing.specs.Playing.{Attempt};
 ghost use Rattle.dv_store.specs.Rest.{IsAtRest};
-ghost use Rattle.dv_serial.specs.Following.{Follows};
+ghost use Rattle.dv_serial.specs.Faults.{faults_of};
+ghost use Rattle.dv_serial.specs.Following.{Follows, Origin};
 ghost use Rattle.dv_serial.specs.Others.{LeavesOthers};
 ghost use Rattle.dv_serial.specs.Places.{play_of};
-ghost use Rattle.dv_serial.specs.Serves.{AreAbreast, HasFailures, IsSeat, IsServable, Serves, TakesUpTo, seat_at};
+ghost use Rattle.dv_serial.specs.Serves.{AreAbreast, HasFailures, IsAllowed, IsAsked, Serves, TakesUpTo};
 ghost use Rattle.dv_serial.specs.Taking.{Takes};
 ghost use Rattle.dv_serial.specs.Writes.{Commits};
 
@@ -32,18 +32,16 @@ impl<S: Shelf, C: Clock> Serial<S, C> {
     /// Writes what the command of a session changes, where it changes anything, and gives the UIDs
     /// of which the sessions are to be told.
     fn commit(&mut self, at: usize, c: &Command) -> Result<Touched, StoreFault>
-        requires at { (at < length self.old.seats) }
-        requires line { IsServable c.now }
+        requires allowed { IsAllowed self.old.seats at c.now }
         requires write { is_write c.now ≡ true }
-        requires allowed { own_refusal (seat_at self.old.seats at).state c.now ≡ None }
         requires room { self.old.groups + 1 < 2 ^ 64 }
         // The group is one entry more, or nothing is written; what is owed then, and what a crash
         // leaves at any moment. Files that the command doesn't write stay.
-        ensures commits { S.sees.tells → C.sees.tells → (clock : ℕ → ℕ) (start : Log) (base : ℕ)
+        ensures commits { S.sees.tells → C.sees.tells → (origin : Origin)
             (attempts : List Attempt) → at + 1 < 2 ^ 32 →
-            Follows S.sees C.sees clock start base
+            Follows S.sees C.sees origin
             (S.sees.fault_count self.old.store.shelf) attempts self.old →
-            Commits S.sees C.sees clock start attempts
+            Commits S.sees C.sees origin.clock origin.start attempts
             (at + 1, c.now) self.old result self.new
             × LeavesOthers c.now self.old.store.chain.live.mailbox result
             (S.sees.files self.old.store.shelf) (S.sees.files self.new.store.shelf) }
@@ -83,21 +81,18 @@ impl<S: Shelf, C: Clock> Serial<S, C> {
         c: &Command,
         replies: &mut R,
     ) -> Result<(), NoMemory>
-        requires at { at < length self.old.seats }
-        requires line { IsServable c.now }
+        requires allowed { IsAllowed self.old.seats at c.now }
         requires write { is_write c.now ≡ true }
-        requires allowed { own_refusal (seat_at self.old.seats at).state c.now ≡ None }
         requires abreast { AreAbreast self.old }
         requires room { self.old.groups + 1 < 2 ^ 64 }
         // It is one line more of the play, with its replies, and what a crash leaves.
-        ensures serves { S.sees.tells → C.sees.tells → (clock : ℕ → ℕ) (start : Log) (base : ℕ)
-            (attempts : List Attempt) → at + 1 < 2 ^ 32 →
-            Follows S.sees C.sees clock start base
+        ensures serves { S.sees.tells → C.sees.tells → (origin : Origin) (attempts : List Attempt) →
+            at + 1 < 2 ^ 32 → Follows S.sees C.sees origin
             (S.sees.fault_count self.old.store.shelf) attempts self.old →
             Takes R.with replies.old replies.new result (λ told.
-            Serves S.sees C.sees clock start base
-            (S.sees.fault_count self.new.store.shelf) attempts (at + 1, c.now) told self.old
-            self.new) }
+            Serves S.sees C.sees origin
+            (faults_of S.sees self.old.store.shelf self.new.store.shelf) attempts
+            (at + 1, c.now) told self.old self.new) }
         ensures groups { self.new.groups ≤ self.old.groups + 1 }
         // The sessions keep up with the mailbox; the disk's failure is told only where it failed.
         ensures seats { length self.new.seats ≡ length self.old.seats }
@@ -129,19 +124,19 @@ impl<S: Shelf, C: Clock> Serial<S, C> {
         c: &Command,
         replies: &mut R,
     ) -> Result<(), NoMemory>
-        requires seat { IsSeat number self.old.seats }
-        requires line { IsServable c.now }
+        requires asked { IsAsked self.old.seats number c.now }
         requires abreast { AreAbreast self.old }
         requires room { self.old.groups + 1 < 2 ^ 64 }
-        // It is one line more of the play, with its replies; a crash at any moment leaves the log
-        // behind some of the lines, or with the group of one that the disk failed.
-        ensures serves { S.sees.tells → C.sees.tells → (clock : ℕ → ℕ) (start : Log) (base : ℕ)
-            (attempts : List Attempt) → Follows S.sees C.sees clock start base
+        // It is one line more of the play, with its replies; the disk's failure tells the count
+        // behind the line, which rose. A crash at any moment leaves the log behind the lines
+        // before, or behind this one too.
+        ensures serves { S.sees.tells → C.sees.tells → (origin : Origin) (attempts : List Attempt) →
+            Follows S.sees C.sees origin
             (S.sees.fault_count self.old.store.shelf) attempts self.old →
             Takes R.with replies.old replies.new result (λ told.
-            Serves S.sees C.sees clock start base
-            (S.sees.fault_count self.new.store.shelf) attempts (number, c.now) told self.old
-            self.new) }
+            Serves S.sees C.sees origin
+            (faults_of S.sees self.old.store.shelf self.new.store.shelf) attempts
+            (number, c.now) told self.old self.new) }
         ensures groups { self.new.groups ≤ self.old.groups + 1 }
         // There are as many sessions, which keep up with the mailbox.
         ensures seats { length self.new.seats ≡ length self.old.seats }

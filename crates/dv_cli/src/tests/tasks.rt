@@ -16,7 +16,7 @@ const SECOND_SEEN: &[u8] =
 
 /// Four messages, of which the second has `\Seen` and the third an empty file, and the first bytes
 /// of one more record at place 140.
-const CUT: &[(Name, &[&[u8]])] = &[
+pub const CUT: &[(Name, &[&[u8]])] = &[
     (
         Name::Log,
         &[

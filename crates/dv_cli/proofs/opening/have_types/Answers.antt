@@ -19,8 +19,8 @@ returns-clause-resets g c =
 
 pub returns-clause-place : goal.returns-clause-place
 returns-clause-place g c = (
-  subst IsU32 (ap (λ (m : Mark). m.file_seq) c.mark-mark.ensures) c.is_number.ensures,
-  subst IsU32 (ap (λ (m : Mark). m.offset) c.mark-mark.ensures) c.is_number-2.ensures,
+  subst IsU32 (ap (λ (m : Mark). m.file_seq) c.place-mark.ensures) c.is_number.ensures,
+  subst IsU32 (ap (λ (m : Mark). m.offset) c.place-mark.ensures) c.is_number-2.ensures,
 )
 
 pub returns-clause-indexid : goal.returns-clause-indexid

@@ -1,5 +1,6 @@
 use Rattle.std.proofs.Common.{Ok, Err, arith}
 use Rattle.dv_chain.specs.declared.chain.Chain.{Chain}
+use Rattle.dv_store.proofs.Committing.{told_at}
 use Rattle.dv_cli.proofs.Created.{outside_none}
 use Rattle.dv_cli.proofs.Created.{begun_made, has_none, unopened_made}
 use Rattle.dv_cli.proofs.Timed.{read_once}
@@ -12,8 +13,9 @@ returns-in-Ok-clause-begins g c = λ tells timed settled new.
     let done = c.in-Ok.ensures in
     let types = c.have_types.ensures in
     let none = has_none (S.sees.files c.args.shelf) new in
-    begun_made S.sees C.sees (C.sees.upcoming c.args.clock) c.args.shelf new c.in-Ok.store (done.first timed) (done.opens tells none).0 done.fresh (done.files tells timed)
-    (done.quiet tells timed none settled) (record { valid = types.valid; resets = types.resets; place = types.place; indexid = types.indexid }) (done.clock timed)
+    let made = told_at done.made timed in
+    begun_made S.sees C.sees (C.sees.upcoming c.args.clock) c.args.shelf new c.in-Ok.store made.first (done.opens tells none).0 done.fresh (made.files tells)
+    (made.quiet tells none settled) (record { valid = types.valid; resets = types.resets; place = types.place; indexid = types.indexid }) (done.clock timed)
 
 pub returns-in-Err-clause-begins : goal.returns-in-Err-clause-begins
 returns-in-Err-clause-begins g c = λ tells timed settled new.
@@ -21,7 +23,8 @@ returns-in-Err-clause-begins g c = λ tells timed settled new.
     let C = g.C.Clock in
     let done = c.in-Err.ensures in
     let none = has_none (S.sees.files c.args.shelf) new in
-    unopened_made S.sees C.sees (C.sees.upcoming c.args.clock) c.args.shelf new c.in-Err.e done.err (done.files tells timed) (done.quiet tells timed none settled)
+    let made = told_at done.made timed in
+    unopened_made S.sees C.sees (C.sees.upcoming c.args.clock) c.args.shelf new c.in-Err.e done.err (made.files tells) (made.quiet tells none settled)
     (λ t f le left. g.met.S.Shelf.counts_now c.in-Err.e.0 t f le left) (omega (arith, g.met.C.Clock.readings_small c.args.clock 0 timed))
 
 pub returns-in-Ok-clause-clock : goal.returns-in-Ok-clause-clock

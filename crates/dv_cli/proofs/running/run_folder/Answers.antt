@@ -1,5 +1,8 @@
 use Rattle.std.proofs.Common.{◌*◌, length, refl}
 use Rattle.dv_chain.specs.declared.chain.Chain.{Chain}
+use Rattle.dv_serial.specs.Outputs.{output_of}
+use Rattle.dv_cli.specs.Spans.{times_of}
+use Rattle.dv_serial.specs.Faults.{faults_of}
 use Rattle.dv_cli.proofs.FoundTold.{served_told}
 use Rattle.dv_cli.proofs.Folders.{end_later, unopened_cause}
 use Rattle.dv_cli.proofs.Served.{runs_serving}
@@ -15,8 +18,8 @@ returns-in-Ok-clause-runs g c = λ tells timed settled is_true.
     let O = g.O.Sink in
     let served = c.serve_lines.ensures in
     let behind = c.serve_lines.result in
-    runs_serving S.sees (C.sees.upcoming c.args.clock) (C.sees.upcoming behind.clock) (S.sees.fault_count c.args.shelf) (S.sees.fault_count behind.shelf) c.args.load (g.L.Lines.left c.args.lines.now)
-    O.sees.tells (O.sees.taken c.args.out.now) (O.sees.taken c.serve_lines.new.out) c.args.shelf behind.shelf behind.end served.ends.0
+    runs_serving S.sees (times_of C.sees c.args.clock behind.clock) (faults_of S.sees c.args.shelf behind.shelf) c.args.load (g.L.Lines.left c.args.lines.now)
+    (output_of O.sees c.args.out.now c.serve_lines.new.out) c.args.shelf behind.shelf behind.end served.ends.0
     (served.runs tells timed (C.sees.upcoming c.args.clock) c.args.shelf (c.in-Ok.ensures.begins tells timed settled is_true) (S.sees.fault_count c.args.shelf) c.in-Ok.ensures.cause.later)
 
 pub returns-in-Ok-clause-cause : goal.returns-in-Ok-clause-cause

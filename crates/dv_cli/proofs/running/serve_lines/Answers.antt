@@ -1,4 +1,5 @@
 use Rattle.dv_shelf.specs.Clocks.{behind}
+use Rattle.dv_serial.specs.Following.{origin_of}
 use Rattle.dv_cli.proofs.Served.{serves_all, serves_none}
 use Rattle.dv_cli.proofs.running.serve_lines.Goals as goal
 
@@ -8,7 +9,7 @@ returns-in_default-clause-runs g c = λ tells timed clock old begun base later.
     let shelf = c.args.store.shelf in
     rw c.unserved.ensures
     (serves_none S.sees g.C.Clock.sees clock old c.args.store begun base c.args.load (S.sees.fault_count shelf) later (g.L.Lines.left c.args.lines.now) g.O.Sink.sees.tells (g.O.Sink.sees.taken c.args.out.now)
-    (g.met.S.Shelf.leaves_files shelf tells))
+    (g.met.S.Shelf.leaves_files shelf tells) (λ f left. g.met.S.Shelf.only_now shelf f tells left))
 
 pub returns-clause-runs : goal.returns-clause-runs
 returns-clause-runs g c = λ tells timed clock old begun base later.
@@ -19,4 +20,4 @@ returns-clause-runs g c = λ tells timed clock old begun base later.
     rw (c.end_behind-end.ensures, c.loaded_by-loaded.ensures, c.mark.ensures, c.count.ensures, c.parts-shelf.ensures)
     (serves_all S.sees g.C.Clock.sees clock old c.args.store begun base c.args.load S.sees.fault_count later (S.sees.fault_count new.store.shelf) (g.L.Lines.left c.args.lines.now) O.sees.tells (O.sees.taken c.args.out.now)
     (O.sees.taken served.new.out) c.args.sessions c.in-Ok.seats served.result c.new-serial.result new c.in-Ok.ensures c.new-serial.ensures
-    (λ follows. served.ensures.runs tells timed (behind clock begun.used) begun.start base follows) (g.met.S.Shelf.leaves_files new.store.shelf tells))
+    (λ follows. served.ensures.runs tells timed (origin_of (behind clock begun.used) begun.start base) follows) (g.met.S.Shelf.leaves_files new.store.shelf tells))

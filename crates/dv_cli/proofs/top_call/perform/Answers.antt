@@ -4,6 +4,9 @@ use Rattle.dv_formats.specs.Parsing.{parsed}
 use Rattle.dv_formats.specs.Scripts.{NamedLine}
 use Rattle.dv_cli.specs.declared.words.Task.{Task}
 use Rattle.dv_cli.specs.declared.words.Task.TheVariants as task
+use Rattle.dv_serial.specs.Outputs.{output_of, output_with}
+use Rattle.dv_cli.specs.Spans.{times_of}
+use Rattle.dv_serial.specs.Faults.{faults_of}
 use Rattle.dv_cli.specs.Tasks.{EndsBy, generated_by}
 use Rattle.dv_cli.specs.Wholes.{RunsTask}
 use Rattle.dv_cli.specs.Words.{task_of}
@@ -21,8 +24,8 @@ returns-in-Run-clause-runs g c = λ tells timed settled is_true lines answers.
     let t = task_of (map string_bytes c.args.words.now) in
     let run : t ≡ Some task.Run = sym c.task_of.ensures.is ∙ c.in-Some.is ∙ ap Some c.in-Run.is in
     let has = seen t g.I.Source.sees.tells (parsed (g.I.Source.sees.left c.args.script.now)) lines (Some task.Run) run answers in
-    subst (λ (x : Option Task). RunsTask S.sees (C.sees.upcoming c.args.clock) (C.sees.upcoming o.clock) (S.sees.fault_count c.args.shelf) (S.sees.fault_count o.shelf)
-    x lines o.end O.sees.tells (O.sees.taken c.args.out.now) (O.sees.taken c.run_script.new.out) c.args.shelf o.shelf) (sym run)
+    subst (λ (x : Option Task). RunsTask S.sees (times_of C.sees c.args.clock o.clock) (faults_of S.sees c.args.shelf o.shelf)
+    x lines o.end (output_of O.sees c.args.out.now c.run_script.new.out) c.args.shelf o.shelf) (sym run)
     (record { runs = c.run_script.ensures.runs tells timed has.0 settled is_true lines has.1; loads = λ none. absurd (none tt); silent = λ none. absurd (none tt) })
 
 -- the folder is rebuilt
@@ -50,8 +53,8 @@ returns-in-Generate-clause-runs g c = λ tells timed settled is_true lines answe
     let run =
     ran S.sees (C.sees.upcoming c.args.clock) (C.sees.upcoming o.clock) (S.sees.fault_count c.args.shelf) (S.sees.fault_count o.shelf) (Some load) (generated_by load) c.args.shelf o.shelf
     Rattle.std.proofs.Common.[] Rattle.std.proofs.Common.[] taken taken o.end (c.run_load.ensures.runs tells timed settled is_true) in
-    subst (λ (x : Option Task). RunsTask S.sees (C.sees.upcoming c.args.clock) (C.sees.upcoming o.clock) (S.sees.fault_count c.args.shelf) (S.sees.fault_count o.shelf)
-    x lines o.end O.sees.tells taken taken c.args.shelf o.shelf) (sym is)
-    (subst (λ (ls : List NamedLine). RunsTask S.sees (C.sees.upcoming c.args.clock) (C.sees.upcoming o.clock) (S.sees.fault_count c.args.shelf) (S.sees.fault_count o.shelf)
-    (Some (task.Generate load)) ls o.end O.sees.tells taken taken c.args.shelf o.shelf) (sym same)
+    subst (λ (x : Option Task). RunsTask S.sees (times_of C.sees c.args.clock o.clock) (faults_of S.sees c.args.shelf o.shelf)
+    x lines o.end (output_with O.sees.tells taken taken) c.args.shelf o.shelf) (sym is)
+    (subst (λ (ls : List NamedLine). RunsTask S.sees (times_of C.sees c.args.clock o.clock) (faults_of S.sees c.args.shelf o.shelf)
+    (Some (task.Generate load)) ls o.end (output_with O.sees.tells taken taken) c.args.shelf o.shelf) (sym same)
     (record { runs = inr run; loads = λ none. run; silent = λ none. refl }))

@@ -8,7 +8,10 @@ use Rattle.dv_script.specs.Sources.{ScriptFails}
 use Rattle.dv_cli.specs.Causes.{most_readings}
 use Rattle.dv_cli.specs.declared.ending.End.TheVariants as end
 use Rattle.dv_cli.specs.declared.words.Task.TheVariants as task
+use Rattle.dv_serial.specs.Outputs.{output_of}
 use Rattle.dv_cli.specs.Runs.{RunsOver}
+use Rattle.dv_cli.specs.Spans.{times_of}
+use Rattle.dv_serial.specs.Faults.{faults_of}
 use Rattle.dv_cli.proofs.Parsed.{same_lines}
 use Rattle.dv_cli.proofs.Reached.{folder_comes, folder_ends, folder_script, folder_takes, not_refused, read_comes, read_ends, read_faults, read_script, read_takes_none, reads_refused, reads_well}
 use Rattle.dv_cli.proofs.Takes.{run_takes, takes_none}
@@ -33,8 +36,7 @@ returns-in-Ok-open_script-clause-runs g c = λ tells clock_tells script_tells se
     let read = parsed (g.I.Source.sees.left c.args.script.now) in
     let says = sym (c.in-Ok.ensures.text script_tells) ∙ sym (ap parsed c.as_slice.ensures) ∙ c.in-Ok-open_script.ensures.lines in
     inr (subst (λ (ls : List NamedLine). RunsOver S.sees
-    (C.sees.upcoming c.args.clock) (C.sees.upcoming o.clock) (S.sees.fault_count c.args.shelf) (S.sees.fault_count o.shelf) None ls o.end O.sees.tells (O.sees.taken c.args.out.now)
-    (O.sees.taken c.run_folder.new.out) c.args.shelf o.shelf) (same_lines read _ lines says is) (c.run_folder.ensures.runs tells clock_tells settled true_folder))
+    (times_of C.sees c.args.clock o.clock) (faults_of S.sees c.args.shelf o.shelf) None ls o.end (output_of O.sees c.args.out.now c.run_folder.new.out) c.args.shelf o.shelf) (same_lines read _ lines says is) (c.run_folder.ensures.runs tells clock_tells settled true_folder))
 
 pub returns-in-Ok-open_script-clause-refused : goal.returns-in-Ok-open_script-clause-refused
 returns-in-Ok-open_script-clause-refused g c = λ script_tells fault bad.

@@ -1,4 +1,4 @@
-use Rattle.dv_playing.proofs.Plays.{leaves, serial, stands}
+use Rattle.dv_playing.proofs.Plays.{answered, leaves, serial, stands}
 use Rattle.dv_playing.proofs.laws.plays_are_serial.Goals as goal
 
 pub returns-clause-serial : goal.returns-clause-serial
@@ -9,3 +9,6 @@ returns-clause-left c = λ clock start base faults attempts line rest may write.
 
 pub returns-clause-stands : goal.returns-clause-stands
 returns-clause-stands c = stands
+
+pub returns-clause-answer : goal.returns-clause-answer
+returns-clause-answer c = answered

@@ -13,8 +13,8 @@ returns-in-Some-clause-serves g c =
     let old = c.args.self.now in
     let number = c.args.number in
     let at = number - 1 in
-    let low : 1 ≤ number = c.requires.seat.0 in
-    let high : number ≤ length old.seats = c.requires.seat.1 in
+    let low : 1 ≤ number = c.requires.asked.seat.0 in
+    let high : number ≤ length old.seats = c.requires.asked.seat.1 in
     let number_is : number ≡ at + 1 = omega arith in
     let less : at < length old.seats = omega arith in
     let within = rw (← c.self.view_is) at less in
@@ -22,6 +22,6 @@ returns-in-Some-clause-serves g c =
     let own = ap (λ (s : Serving g.row.S.Denot g.row.C.Denot). own_refusal (seat_at s.seats at).state c.args.c.now) (sym c.self.view_is)
     ∙ ap (λ (f : Follower). own_refusal f.state c.args.c.now) (sym seat)
     ∙ sym c.in-Some.ensures in
-    λ tells reads clock start base attempts follows.
-    seat_refused S.sees g.C.Clock.sees clock start base attempts (S.sees.fault_count old.store.shelf) old follows at number number_is c.args.c.now less (omega (arith, c.ranges.number.fits)) c.requires.line.command
-    g.R.Replies.with c.args.replies.now c.take.new.self c.in-Some.refusal c.take.result own (λ f left. g.met.S.Shelf.only_now old.store.shelf f tells left) c.take.ensures
+    λ tells reads origin attempts follows.
+    seat_refused S.sees g.C.Clock.sees origin.clock origin.start origin.base attempts (S.sees.fault_count old.store.shelf) old follows at number number_is c.args.c.now less (omega (arith, c.ranges.number.fits)) c.requires.asked.servable.command
+    g.R.Replies.with c.args.replies.now c.take.new.self c.in-Some.refusal c.take.result own (λ f left. g.met.S.Shelf.only_now old.store.shelf f tells left) c.take.ensures.ok

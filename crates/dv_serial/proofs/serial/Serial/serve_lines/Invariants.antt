@@ -1,8 +1,7 @@
 use Rattle.std.proofs.Common.{◌≡◌, ◌≤◌, ◌+◌, ◌*◌, ℕ, [], length, take}
 use Rattle.std.specs.Prelude.{All}
-use Rattle.dv_model.specs.Journals.{Log}
 use Rattle.dv_formats.specs.Scripts.{NamedLine}
-use Rattle.dv_serial.specs.Following.{Follows}
+use Rattle.dv_serial.specs.Following.{Follows, Origin}
 use Rattle.dv_serial.specs.Numbering.{AreSeen}
 use Rattle.dv_serial.specs.Serves.{AreAbreast, IsServable, TakesUpTo}
 use Rattle.dv_serial.proofs.Running.{RunsTo}
@@ -20,9 +19,9 @@ invariant-loop-seen g l = record {
   later : (g.S.Shelf.sees.fault_count l.initial.self.store.shelf ≤ g.S.Shelf.sees.fault_count l.self.store.shelf)
       × (g.O.Sink.sees.fault_count l.initial.out ≤ g.O.Sink.sees.fault_count l.out);
   readings : g.C.Clock.sees.tells → TakesUpTo (2 * given (g.L.Lines.left l.initial.lines) (g.L.Lines.left l.lines)) (g.C.Clock.sees.upcoming l.initial.self.store.clock) (g.C.Clock.sees.upcoming l.self.store.clock);
-  runs : g.S.Shelf.sees.tells → g.C.Clock.sees.tells → (clock : ℕ → ℕ) (start : Log) (base : ℕ)
-      → Follows g.S.Shelf.sees g.C.Clock.sees clock start base (g.S.Shelf.sees.fault_count l.initial.self.store.shelf) [] l.initial.self
-      → RunsTo g.S.Shelf.sees g.C.Clock.sees clock start base (g.L.Lines.left l.initial.lines) g.O.Sink.sees.tells (g.O.Sink.sees.taken l.initial.out) l.initial.self
+  runs : g.S.Shelf.sees.tells → g.C.Clock.sees.tells → (origin : Origin)
+      → Follows g.S.Shelf.sees g.C.Clock.sees origin (g.S.Shelf.sees.fault_count l.initial.self.store.shelf) [] l.initial.self
+      → RunsTo g.S.Shelf.sees g.C.Clock.sees origin.clock origin.start origin.base (g.L.Lines.left l.initial.lines) g.O.Sink.sees.tells (g.O.Sink.sees.taken l.initial.out) l.initial.self
       (g.S.Shelf.sees.fault_count l.self.store.shelf) (given (g.L.Lines.left l.initial.lines) (g.L.Lines.left l.lines)) (g.O.Sink.sees.taken l.out) l.self;
 }
 

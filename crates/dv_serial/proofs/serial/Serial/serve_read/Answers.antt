@@ -16,12 +16,13 @@ pub returns-in_err-met-in-Ok-clause-serves : goal.returns-in_err-met-in-Ok-claus
 returns-in_err-met-in-Ok-clause-serves g c =
     let S = g.S.Shelf in
     let p = err_from_is_err_and c.from_residual.result c.from_residual.ensures.1 in
-    λ tells reads clock start base attempts small follows.
+    λ tells reads origin attempts small follows.
     rw p.1 (record {
       replies = [];
       taken = tt;
-      holds = seat_ended S.sees g.C.Clock.sees clock start base attempts (S.sees.fault_count c.args.self.now.store.shelf) c.args.self.now follows c.args.at (c.args.at + 1) refl c.args.c.now c.requires.at small
-          c.requires.line.command c.requires.allowed c.requires.read c.add_data.new.self c.in-Ok.ensures.looks (c.in-Ok.ensures.reads tells);
+      holds = seat_ended S.sees g.C.Clock.sees origin.clock origin.start origin.base attempts (S.sees.fault_count c.args.self.now.store.shelf) c.args.self.now follows c.args.at (c.args.at + 1) refl c.args.c.now c.requires.allowed.seat small
+          c.requires.allowed.servable.command c.requires.allowed.allowed c.requires.read c.add_data.new.self c.in-Ok.ensures.looks (c.in-Ok.ensures.reads tells)
+          (S.sees.fault_count c.add_data.new.self.store.shelf) c.in-Ok.ensures.cause.later;
     })
 
 pub returns-in_ok-met-in-Ok-clause-serves : goal.returns-in_ok-met-in-Ok-clause-serves
@@ -29,14 +30,14 @@ returns-in_ok-met-in-Ok-clause-serves g c =
     let S = g.S.Shelf in
     let at = c.args.at in
     let did = c.in-Ok.ensures in
-    let less = subst (λ (fs : List Follower). at < length fs) (sym (ap (λ (s : Serving g.row.S.Denot g.row.C.Denot). s.seats) c.self.view_is ∙ did.looks.seats)) c.requires.at in
+    let less = subst (λ (fs : List Follower). at < length fs) (sym (ap (λ (s : Serving g.row.S.Denot g.row.C.Denot). s.seats) c.self.view_is ∙ did.looks.seats)) c.requires.allowed.seat in
     let seen = c.view.ensures ∙ ap (λ (f : Follower). f.state.view) (get_or_read c.self.inside.seats.items at _ less c.index.ensures new_follower) in
     let met_is = (rw (seen, c.live.ensures) at c.in_ok-met-in-Ok.ensures) ∙ ap (λ (s : Serving g.row.S.Denot g.row.C.Denot). met_of c.args.c.now (seat_at s.seats at).state.view s.store.chain.live.mailbox) c.self.view_is in
     let later = subst (λ (s : Serving g.row.S.Denot g.row.C.Denot). S.sees.fault_count c.args.self.now.store.shelf ≤ S.sees.fault_count s.store.shelf) c.finish.ensures.seats did.cause.later in
-    λ tells reads clock start base attempts small follows.
-    seat_told S.sees g.C.Clock.sees clock start base attempts (S.sees.fault_count c.args.self.now.store.shelf) c.args.self.now follows at (at + 1) refl c.args.c.now c.requires.at small
-    c.requires.line.command c.requires.allowed c.requires.read c.add_data.new.self did.looks (did.reads tells) g.R.Replies.with c.args.replies.now c.finish.new.replies (S.sees.fault_count c.finish.new.self.store.shelf) c.finish.new.self c.finish.result (λ mail view m. IsRead g.R.Replies.with c.args.replies.now c.add_data.new.replies mail c.args.c.now view m c.in-Ok.damaged) c.in_ok-met-in-Ok.met later met_is
-    (did.found tells (play_of clock start attempts).log follows.keeps.debt follows.keeps.rests)
+    λ tells reads origin attempts small follows.
+    seat_told S.sees g.C.Clock.sees origin.clock origin.start origin.base attempts (S.sees.fault_count c.args.self.now.store.shelf) c.args.self.now follows at (at + 1) refl c.args.c.now c.requires.allowed.seat small
+    c.requires.allowed.servable.command c.requires.allowed.allowed c.requires.read c.add_data.new.self did.looks (did.reads tells) g.R.Replies.with c.args.replies.now c.finish.new.replies (S.sees.fault_count c.finish.new.self.store.shelf) c.finish.new.self c.finish.result (λ mail view m. IsRead g.R.Replies.with c.args.replies.now c.add_data.new.replies mail c.args.c.now view m c.in-Ok.damaged) c.in_ok-met-in-Ok.met later met_is
+    (did.found tells (play_of origin.clock origin.start attempts).log follows.keeps.debt follows.keeps.rests)
     (λ mail m met read. c.finish.ensures.answer mail m c.args.replies.now met (subst (IsRead g.R.Replies.with c.args.replies.now c.add_data.new.replies mail c.args.c.now (seat_at c.add_data.new.self.seats at).state.view c.add_data.new.self.store.chain.live.mailbox) (sym c.as_slice.ensures) read))
     c.finish.ensures.abreast c.finish.ensures.seats c.finish.ensures.err
 
@@ -54,7 +55,7 @@ returns-in_ok-met-in-Ok-clause-cause g c =
     let mid = c.add_data.new.self in
     let new = c.finish.new.self in
     let m = mid.store.chain.live.mailbox in
-    let less = subst (λ (fs : List Follower). at < length fs) (sym (ap (λ (s : Serving g.row.S.Denot g.row.C.Denot). s.seats) c.self.view_is ∙ did.looks.seats)) c.requires.at in
+    let less = subst (λ (fs : List Follower). at < length fs) (sym (ap (λ (s : Serving g.row.S.Denot g.row.C.Denot). s.seats) c.self.view_is ∙ did.looks.seats)) c.requires.allowed.seat in
     let seen = c.view.ensures ∙ ap (λ (f : Follower). f.state.view) (get_or_read c.self.inside.seats.items at _ less c.index.ensures new_follower) in
     let met_is = (rw (seen, c.live.ensures) at c.in_ok-met-in-Ok.ensures) ∙ ap (λ (s : Serving g.row.S.Denot g.row.C.Denot). met_of c.args.c.now (seat_at s.seats at).state.view s.store.chain.live.mailbox) c.self.view_is in
     let later = subst (λ (s : Serving g.row.S.Denot g.row.C.Denot). S.sees.fault_count c.args.self.now.store.shelf ≤ S.sees.fault_count s.store.shelf) c.finish.ensures.seats did.cause.later in
@@ -68,10 +69,10 @@ pub returns-in-Err-clause-serves : goal.returns-in-Err-clause-serves
 returns-in-Err-clause-serves g c =
     let S = g.S.Shelf in
     let did = c.in-Err.ensures in
-    λ tells reads clock start base attempts small follows.
-    seat_failed S.sees g.C.Clock.sees clock start base attempts (S.sees.fault_count c.args.self.now.store.shelf) c.args.self.now follows c.args.at (c.args.at + 1) refl c.args.c.now c.requires.at small
-    c.requires.line.command c.requires.allowed c.requires.read c.add_data.new.self did.looks (did.reads tells) g.R.Replies.with c.args.replies.now c.take_fault.new.replies (S.sees.fault_count c.add_data.new.self.store.shelf) c.in-Err.fault c.take_fault.result (λ count e. did.touches count (disk_of c.in-Err.fault count e)) did.err did.cause
-    (fault_alone g.R.Replies.with c.args.replies.now c.add_data.new.replies c.take_fault.new.replies c.in-Err.fault c.take_fault.result did.err (λ count e. did.failed tells (play_of clock start attempts).log follows.keeps.debt follows.keeps.rests count (disk_of c.in-Err.fault count e)) c.take_fault.ensures)
+    λ tells reads origin attempts small follows.
+    seat_failed S.sees g.C.Clock.sees origin.clock origin.start origin.base attempts (S.sees.fault_count c.args.self.now.store.shelf) c.args.self.now follows c.args.at (c.args.at + 1) refl c.args.c.now c.requires.allowed.seat small
+    c.requires.allowed.servable.command c.requires.allowed.allowed c.requires.read c.add_data.new.self did.looks (did.reads tells) g.R.Replies.with c.args.replies.now c.take_fault.new.replies (S.sees.fault_count c.add_data.new.self.store.shelf) c.in-Err.fault c.take_fault.result (λ count e. did.touches count (disk_of c.in-Err.fault count e)) did.err did.cause
+    (fault_alone g.R.Replies.with c.args.replies.now c.add_data.new.replies c.take_fault.new.replies c.in-Err.fault c.take_fault.result did.err (λ count e. did.failed tells (play_of origin.clock origin.start attempts).log follows.keeps.debt follows.keeps.rests count (disk_of c.in-Err.fault count e)) c.take_fault.ensures)
 
 pub returns-in-Err-clause-cause : goal.returns-in-Err-clause-cause
 returns-in-Err-clause-cause g c =

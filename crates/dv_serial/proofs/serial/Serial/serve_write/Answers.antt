@@ -20,12 +20,12 @@ returns-in_err-met-clause-serves g c =
     let S = g.S.Shelf in
     let p = err_from_is_err_and c.from_residual.result c.from_residual.ensures.1 in
     let old = c.args.self.now in
-    λ tells reads clock start base attempts small follows.
+    λ tells reads origin attempts small follows.
     rw p.1 (record {
       replies = [];
       taken = tt;
-      holds = seat_still S.sees g.C.Clock.sees clock start base attempts (S.sees.fault_count old.store.shelf) old follows c.args.at (c.args.at + 1) refl c.args.c.now c.requires.at
-          small c.requires.line.command (λ f left. g.met.S.Shelf.only_now old.store.shelf f tells left);
+      holds = seat_still S.sees g.C.Clock.sees origin.clock origin.start origin.base attempts (S.sees.fault_count old.store.shelf) old follows c.args.at (c.args.at + 1) refl c.args.c.now c.requires.allowed.seat
+          small c.requires.allowed.servable.command (λ f left. g.met.S.Shelf.only_now old.store.shelf f tells left);
     })
 
 pub returns-in_err-tell_all-in-Ok-clause-serves : goal.returns-in_err-tell_all-in-Ok-clause-serves
@@ -36,16 +36,17 @@ returns-in_err-tell_all-in-Ok-clause-serves g c =
     let inside = c.self-in-Ok.inside in
     let mid : Serving g.row.S.Denot g.row.C.Denot = record { store = inside.store; mark = inside.mark; seats = inside.seats.items; groups = inside.groups } in
     let told = c.tell_all.new.seats in
-    λ tells reads clock start base attempts small follows.
-    let both = c.in-Ok.ensures.commits tells reads clock start base attempts small follows in
+    λ tells reads origin attempts small follows.
+    let both = c.in-Ok.ensures.commits tells reads origin attempts small follows in
     let others = subst (λ (s : Serving g.row.S.Denot g.row.C.Denot). LeavesOthers {A = List ℕ} c.args.c.now old.store.chain.live.mailbox (Ok c.in-Ok.touched) (S.sees.files old.store.shelf) (S.sees.files s.store.shelf)) (sym c.self-in-Ok.view_is) both.1 in
-    let done = subst (λ (s : Serving g.row.S.Denot g.row.C.Denot). IsDone S.sees g.C.Clock.sees clock start attempts (c.args.at + 1, c.args.c.now) c.in-Ok.touched old s) (sym c.self-in-Ok.view_is)
+    let done = subst (λ (s : Serving g.row.S.Denot g.row.C.Denot). IsDone S.sees g.C.Clock.sees origin.clock origin.start attempts (c.args.at + 1, c.args.c.now) c.in-Ok.touched old s) (sym c.self-in-Ok.view_is)
     both.0 in
     rw p.1 (record {
       replies = [];
       taken = tt;
-      holds = seat_untold S.sees g.C.Clock.sees clock start base attempts (S.sees.fault_count old.store.shelf) old follows c.args.at (c.args.at + 1) refl c.args.c.now c.requires.at
-          small c.requires.line.command c.requires.write mid c.in-Ok.touched done others (take inside.seats.len (told ++ drop (length told) inside.seats.items));
+      holds = seat_untold S.sees g.C.Clock.sees origin.clock origin.start origin.base attempts (S.sees.fault_count old.store.shelf) old follows c.args.at (c.args.at + 1) refl c.args.c.now c.requires.allowed.seat
+          small c.requires.allowed.servable.command c.requires.write mid c.in-Ok.touched done others (take inside.seats.len (told ++ drop (length told) inside.seats.items))
+          (S.sees.fault_count mid.store.shelf) (subst (λ (s : Serving g.row.S.Denot g.row.C.Denot). S.sees.fault_count old.store.shelf ≤ S.sees.fault_count s.store.shelf) (sym c.self-in-Ok.view_is) c.in-Ok.ensures.cause.later);
     })
 
 pub answer-requires-clause-abreast : goal.answer-requires-clause-abreast
@@ -61,7 +62,7 @@ answer-requires-clause-abreast g c =
     let has = told_states old.seats inside.seats.items slice.result.now told inside.seats.len same slice.ensures.len did.states in
     let leads = subst (λ (s : Serving g.row.S.Denot g.row.C.Denot). Leads old.store.chain.live.mailbox s.store.chain.live.mailbox c.in-Ok.touched) (sym c.self-in-Ok.view_is) c.in-Ok.ensures.leads in
     let all = told_abreast old.seats inside.seats.items slice.result.now told inside.seats.len same slice.ensures.len did.states old.store.chain.live.mailbox m c.requires.abreast (λ before. did.abreast old.store.chain.live.mailbox m before leads) in
-    abreast_at m seats c.args.at (subst (λ (n : ℕ). c.args.at < n) (sym has.count) c.requires.at) all
+    abreast_at m seats c.args.at (subst (λ (n : ℕ). c.args.at < n) (sym has.count) c.requires.allowed.seat) all
 
 pub returns-in_ok-tell_all-in-Ok-clause-serves : goal.returns-in_ok-tell_all-in-Ok-clause-serves
 returns-in_ok-tell_all-in-Ok-clause-serves g c =
@@ -79,18 +80,18 @@ returns-in_ok-tell_all-in-Ok-clause-serves g c =
     let has = told_states old.seats inside.seats.items slice.result.now told inside.seats.len same slice.ensures.len did.states in
     let leads = subst (λ (s : Serving g.row.S.Denot g.row.C.Denot). Leads old.store.chain.live.mailbox s.store.chain.live.mailbox c.in-Ok.touched) (sym c.self-in-Ok.view_is) c.in-Ok.ensures.leads in
     let all = told_abreast old.seats inside.seats.items slice.result.now told inside.seats.len same slice.ensures.len did.states old.store.chain.live.mailbox m c.requires.abreast (λ before. did.abreast old.store.chain.live.mailbox m before leads) in
-    let less = rw (← c.self.view_is) at c.requires.at in
+    let less = rw (← c.self.view_is) at c.requires.allowed.seat in
     let seen = c.view.ensures ∙ ap (λ (f : Follower). f.state.view) (get_or_read c.self.inside.seats.items at _ less c.index.ensures new_follower) in
     let met_is = (rw (seen, c.live.ensures) at c.in_ok-met.ensures) ∙ ap (λ (s : Serving g.row.S.Denot g.row.C.Denot). met_of c.args.c.now (seat_at s.seats at).state.view s.store.chain.live.mailbox) c.self.view_is in
     let later = subst (λ (s : Serving g.row.S.Denot g.row.C.Denot). S.sees.fault_count old.store.shelf ≤ S.sees.fault_count s.store.shelf) c.answer.ensures.seats
     (subst (λ (s : Serving g.row.S.Denot g.row.C.Denot). S.sees.fault_count old.store.shelf ≤ S.sees.fault_count s.store.shelf) (sym c.self-in-Ok.view_is) c.in-Ok.ensures.cause.later) in
-    λ tells reads clock start base attempts small follows.
-    let both = c.in-Ok.ensures.commits tells reads clock start base attempts small follows in
+    λ tells reads origin attempts small follows.
+    let both = c.in-Ok.ensures.commits tells reads origin attempts small follows in
     let others = subst (λ (s : Serving g.row.S.Denot g.row.C.Denot). LeavesOthers {A = List ℕ} c.args.c.now old.store.chain.live.mailbox (Ok c.in-Ok.touched) (S.sees.files old.store.shelf) (S.sees.files s.store.shelf)) (sym c.self-in-Ok.view_is) both.1 in
-    let done = subst (λ (s : Serving g.row.S.Denot g.row.C.Denot). IsDone S.sees g.C.Clock.sees clock start attempts (c.args.at + 1, c.args.c.now) c.in-Ok.touched old s) (sym c.self-in-Ok.view_is)
+    let done = subst (λ (s : Serving g.row.S.Denot g.row.C.Denot). IsDone S.sees g.C.Clock.sees origin.clock origin.start attempts (c.args.at + 1, c.args.c.now) c.in-Ok.touched old s) (sym c.self-in-Ok.view_is)
     both.0 in
-    seat_wrote S.sees g.C.Clock.sees clock start base attempts (S.sees.fault_count old.store.shelf) old follows at (c.args.at + 1) refl c.args.c.now c.requires.at
-    small c.requires.line.command c.requires.write mid c.in-Ok.touched done others seats g.R.Replies.with c.args.replies.now c.answer.new.replies (S.sees.fault_count c.answer.new.self.store.shelf) c.answer.new.self c.answer.result c.new-none.result c.in_ok-met.met later has all met_is
+    seat_wrote S.sees g.C.Clock.sees origin.clock origin.start origin.base attempts (S.sees.fault_count old.store.shelf) old follows at (c.args.at + 1) refl c.args.c.now c.requires.allowed.seat
+    small c.requires.allowed.servable.command c.requires.write mid c.in-Ok.touched done others seats g.R.Replies.with c.args.replies.now c.answer.new.replies (S.sees.fault_count c.answer.new.self.store.shelf) c.answer.new.self c.answer.result c.new-none.result c.in_ok-met.met later has all met_is
     c.answer.ensures.answer c.answer.ensures.abreast c.answer.ensures.seats c.answer.ensures.err
 
 pub returns-in_ok-tell_all-in-Ok-clause-abreast : goal.returns-in_ok-tell_all-in-Ok-clause-abreast
@@ -121,10 +122,10 @@ returns-in_ok-tell_all-in-Ok-clause-cause g c =
     let seats = take inside.seats.len (told ++ drop (length told) inside.seats.items) in
     let same = slice.ensures.value ∙ ap (λ (s : Serving g.row.S.Denot g.row.C.Denot). s.seats) c.self-in-Ok.view_is ∙ c.in-Ok.ensures.seats in
     let has = told_states old.seats inside.seats.items slice.result.now told inside.seats.len same slice.ensures.len c.in_ok-tell_all-in-Ok.ensures.states in
-    let less = rw (← c.self.view_is) at c.requires.at in
+    let less = rw (← c.self.view_is) at c.requires.allowed.seat in
     let seen = c.view.ensures ∙ ap (λ (f : Follower). f.state.view) (get_or_read c.self.inside.seats.items at _ less c.index.ensures new_follower) in
     let met_is = (rw (seen, c.live.ensures) at c.in_ok-met.ensures) ∙ ap (λ (s : Serving g.row.S.Denot g.row.C.Denot). met_of c.args.c.now (seat_at s.seats at).state.view s.store.chain.live.mailbox) c.self.view_is in
-    let met_told = met_is ∙ ap (λ (x : SessionState). met_of c.args.c.now x.view old.store.chain.live.mailbox) (sym (has.states at new_follower c.requires.at)) in
+    let met_told = met_is ∙ ap (λ (x : SessionState). met_of c.args.c.now x.view old.store.chain.live.mailbox) (sym (has.states at new_follower c.requires.allowed.seat)) in
     let later = subst (λ (s : Serving g.row.S.Denot g.row.C.Denot). S.sees.fault_count old.store.shelf ≤ S.sees.fault_count s.store.shelf) c.answer.ensures.seats
     (subst (λ (s : Serving g.row.S.Denot g.row.C.Denot). S.sees.fault_count old.store.shelf ≤ S.sees.fault_count s.store.shelf) (sym c.self-in-Ok.view_is) c.in-Ok.ensures.cause.later) in
     let mail : ℕ → Mail = λ uid. Damaged in
@@ -136,10 +137,10 @@ returns-in-Err-clause-serves g c =
     let S = g.S.Shelf in
     let old = c.args.self.now in
     let did = c.in-Err.ensures in
-    λ tells reads clock start base attempts small follows.
-    let both = did.commits tells reads clock start base attempts small follows in
-    seat_unwritten S.sees g.C.Clock.sees clock start base attempts (S.sees.fault_count old.store.shelf) old follows c.args.at (c.args.at + 1) refl c.args.c.now c.requires.at
-    small c.requires.line.command c.requires.write c.commit.new.self g.R.Replies.with c.args.replies.now c.take_fault.new.replies (S.sees.fault_count c.commit.new.self.store.shelf) c.in-Err.fault c.take_fault.result both.0 did.cause
+    λ tells reads origin attempts small follows.
+    let both = did.commits tells reads origin attempts small follows in
+    seat_unwritten S.sees g.C.Clock.sees origin.clock origin.start origin.base attempts (S.sees.fault_count old.store.shelf) old follows c.args.at (c.args.at + 1) refl c.args.c.now c.requires.allowed.seat
+    small c.requires.allowed.servable.command c.requires.write c.commit.new.self g.R.Replies.with c.args.replies.now c.take_fault.new.replies (S.sees.fault_count c.commit.new.self.store.shelf) c.in-Err.fault c.take_fault.result both.0 did.cause
     did.seats both.1 c.take_fault.ensures
 
 pub returns-in-Err-clause-cause : goal.returns-in-Err-clause-cause

@@ -1,0 +1,4 @@
+mod Growing
+mod Kept
+mod Written
+mod Acknowledged
