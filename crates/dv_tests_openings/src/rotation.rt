@@ -1,4 +1,4 @@
-ghost use Rattle.std.specs.Prelude.{◌<◌, IfOk};
+ghost use Rattle.std.specs.Prelude.{◌≡◌, ◌<◌, IfOk, OnOk};
 ghost use Rattle.dv_chain.specs.Openings.{HasBounds};
 ghost use Rattle.dv_rotation.specs.Texts.{IsTurnOf};
 
@@ -180,13 +180,25 @@ fn again(alloc: Global, chain: &mut Chain, shelf: &mut MemShelf, texts: &Turn) -
     Ok(finish(chain, shelf, texts).is_ok() && is_next(chain) && images_open(alloc, shelf)?)
 }
 
+// A rotation whose last replace fails leaves the chain.
+fn fails_last(chain: &mut Chain, shelf: &mut MemShelf, texts: &Turn) -> Result<(), Fail>
+    requires room { chain.old.log.file_seq < 4294967295 }
+    requires turn { IsTurnOf chain.old texts.now }
+    ensures { OnOk result (chain.new ≡ chain.old) }
+{
+    match rotate(chain, shelf, texts) {
+        Err(TurnEnd::Last) => Ok(()),
+        _ => Err(Fail::from("another end")),
+    }
+}
+
 #[test]
 fn a_last_replace_is_made_again(rt: HostRuntime) -> Result<(), Fail> {
     let alloc = rt.alloc();
     let mut shelf = folder(alloc, &LOG, &[7, 8], None)?.showing_failed();
     let mut chain = chain_of(alloc, &mut shelf)?;
     let texts = texts_of(alloc, &chain, &mut shelf)?;
-    assert!(rt; rotate(&mut chain, &mut shelf, &texts) == Err(TurnEnd::Last));
+    fails_last(&mut chain, &mut shelf, &texts)?;
     assert!(rt; again(alloc, &mut chain, &mut shelf, &texts)?);
     Ok(())
 }
