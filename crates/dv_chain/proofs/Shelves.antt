@@ -11,7 +11,7 @@ use Rattle.dv_shelf.specs.Crashes.{Elapses, Follows, FollowsNone, LeavesOnly, On
 use Rattle.dv_shelf.specs.Folders.{ChangesOnly, Folder, IsEither, with_file}
 use Rattle.dv_shelf.proofs.FolderLemmas.{with_else}
 use Rattle.dv_shelf.proofs.Moments.{goes_on, joined, started, weaker}
-use Rattle.dv_chain.specs.Openings.{HasCause, OnlyLooks}
+use Rattle.dv_chain.specs.Openings.{HasCause, OnlyLooks, UnlessDisk}
 use Rattle.dv_chain.specs.Walks.{NoDisk, OnDisk}
 use Rattle.dv_shelf.specs.Sees.{SeesFolder}
 
@@ -71,6 +71,16 @@ cause_still {A = A} before now first result cause none = record { later = cause.
     by_result (Err fault.BadIndex) none = tt
     by_result (Err (fault.Gap index log)) none = tt
     by_result (Ok x) none = tt
+
+-- the fault alone says whether the disk failed
+pub unless_so : (A B P : Type 0) (e : OpenFault) → UnlessDisk {A = A} (Err e) P → UnlessDisk {A = B} (Err e) P
+unless_so A B P (fault.Disk faults) is = tt
+unless_so A B P fault.NoMemory is = is
+unless_so A B P fault.NoLog is = is
+unless_so A B P fault.BadLogHeader is = is
+unless_so A B P (fault.BadRecord offset) is = is
+unless_so A B P fault.BadIndex is = is
+unless_so A B P (fault.Gap index log) is = is
 
 module _ {S : Type 0} (sees : SeesFolder S) where
   abbrev Looks : S → S → Type 0

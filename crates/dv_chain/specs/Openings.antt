@@ -34,6 +34,11 @@ FaultFound (fault.Gap index log) P = P (found.Gap index log)
 FaultFound fault.NoMemory P = ⊤
 FaultFound (fault.Disk faults) P = ⊤
 
+-- this holds, unless the disk failed
+abbrev pub UnlessDisk : {A : Type 0} → Result A OpenFault → Type 0 → Type 0
+UnlessDisk (Err (fault.Disk faults)) P = ⊤
+UnlessDisk result P = P
+
 -- what is answered is found
 abbrev pub Answers : {A : Type 0} → (A → Found) → Result A OpenFault → (Found → Type 0) → Type 0
 Answers of (Ok x) P = P (of x)

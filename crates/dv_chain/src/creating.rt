@@ -1,13 +1,13 @@
 //! A mailbox folder that is made: its log stands alone in it.
 
-ghost use Rattle.std.specs.Prelude.{◌≡◌, ◌≤◌, [], ◌∷◌, IfErr, IfOk, OnOk};
+ghost use Rattle.std.specs.Prelude.{◌≡◌, ◌≤◌, [], ◌∷◌, IfErr, IfOk};
 ghost use Rattle.dv_model.specs.Appends.{validity_record};
 ghost use Rattle.dv_shelf.specs.Crashes.{IsSettled, LeavesOnly};
 ghost use Rattle.dv_logfile.specs.Layout.{log_text, new_header};
 ghost use Rattle.dv_openings.specs.Openings.{IsFound};
 ghost use Rattle.dv_openings.specs.Rebuilds.{stamp_of};
 ghost use Rattle.dv_chain.specs.Creations.{HasNone, IsFirst, IsOldOrCreated, LeavesCreated, first_log};
-ghost use Rattle.dv_chain.specs.Openings.{HasBounds, HasCause, IsChainOf, IsOutside, found_of};
+ghost use Rattle.dv_chain.specs.Openings.{HasBounds, HasCause, IsChainOf, IsOutside, UnlessDisk, found_of};
 ghost use Rattle.dv_chain.specs.Rest.{Nothing, Rests};
 
 use crate::Chain;
@@ -88,7 +88,7 @@ pub fn create<S: Shelf>(alloc: Global, shelf: &mut S, now: u32) -> Result<Chain,
     ensures found { S.sees.tells → HasNone (S.sees.files shelf.old) →
         IfOk result (λ chain. IsFound (S.sees.files shelf.new) (found_of chain)) }
     ensures chain { S.sees.tells → IfOk result (IsChainOf (S.sees.files shelf.new)) }
-    // What it leaves of the files, and what a crash leaves, at any moment and behind Ok.
+    // What it leaves of the files, and what a crash leaves, at any moment and behind it.
     ensures files { S.sees.tells →
         LeavesCreated (S.sees.files shelf.old) now (S.sees.files shelf.new)
         result }
@@ -96,7 +96,7 @@ pub fn create<S: Shelf>(alloc: Global, shelf: &mut S, now: u32) -> Result<Chain,
         LeavesOnly S.sees shelf.old shelf.new
         (IsOldOrCreated (S.sees.files shelf.old) now) }
     ensures settled { S.sees.tells → IsSettled S.sees shelf.old →
-        OnOk result (IsSettled S.sees shelf.new) }
+        UnlessDisk result (IsSettled S.sees shelf.new) }
     // Behind Ok the chain is at rest, and owes nothing.
     ensures rests { S.sees.tells → HasNone (S.sees.files shelf.old) →
         IsSettled S.sees shelf.old →

@@ -1,11 +1,11 @@
 //! The end of a log, which is closed again where it was cut or stands open.
 
-ghost use Rattle.std.specs.Prelude.{◌≡◌, ◌++◌, ◌||◌, ◌≤◌, Some, length, nat_eq, nat_le, slice_index, take, IfErr, IfOk, OnOk};
+ghost use Rattle.std.specs.Prelude.{◌≡◌, ◌++◌, ◌||◌, ◌≤◌, Some, length, nat_eq, nat_le, slice_index, take, IfErr, IfOk};
 ghost use Rattle.dv_model.specs.declared.types.OpenFault.TheVariants as fault;
 ghost use Rattle.dv_shelf.specs.Crashes.{IsSettled, LeavesOnly};
 ghost use Rattle.dv_shelf.specs.declared.shelf.Name.TheVariants.{Log};
 ghost use Rattle.dv_logfile.specs.Layout.{closing};
-ghost use Rattle.dv_chain.specs.Openings.{HasCause, IsMended, LeavesMended};
+ghost use Rattle.dv_chain.specs.Openings.{HasCause, IsMended, LeavesMended, UnlessDisk};
 
 use crate::file::File;
 use dv_model::{Bytes, List, OpenFault};
@@ -47,7 +47,7 @@ pub fn mend<S: Shelf>(alloc: Global, shelf: &mut S, log: &File) -> Result<(), Op
         LeavesOnly S.sees shelf.old shelf.new
         (IsMended (S.sees.files shelf.old) log.now) }
     ensures settled { S.sees.tells → IsSettled S.sees shelf.old →
-        OnOk result (IsSettled S.sees shelf.new) }
+        UnlessDisk result (IsSettled S.sees shelf.new) }
     ensures mail_reads { S.sees.mail_reads shelf.new ≡ S.sees.mail_reads shelf.old }
     ensures cause { HasCause (S.sees.fault_count shelf.old) (S.sees.fault_count shelf.new) result }
 {

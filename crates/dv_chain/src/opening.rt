@@ -1,4 +1,4 @@
-ghost use Rattle.std.specs.Prelude.{◌≡◌, Some, IfErr, IfOk, IfSome, OnOk};
+ghost use Rattle.std.specs.Prelude.{◌≡◌, Some, IfErr, IfOk, IfSome};
 ghost use Rattle.dv_model.specs.declared.types.OpenFault.TheVariants as fault;
 ghost use Rattle.dv_model.specs.Mailboxes.{IsValid};
 ghost use Rattle.dv_shelf.specs.Crashes.{IsSettled, LeavesOnly};
@@ -6,7 +6,7 @@ ghost use Rattle.dv_shelf.specs.Folders.{counted};
 ghost use Rattle.dv_shelf.specs.declared.shelf.Name.TheVariants as name;
 ghost use Rattle.dv_openings.specs.Openings.{IsFound};
 ghost use Rattle.dv_chain.specs.Files.{HasHeader, IsWhole};
-ghost use Rattle.dv_chain.specs.Openings.{Answers, AreFilesOf, AreWhole, FaultFound, HasBounds, HasCause, IsChainOf, IsEndOf, IsIndexOf, IsLogOf, IsOutside, IsQuiet, IsRotatedOf, LeavesFolder, OnlyLooks, found_of};
+ghost use Rattle.dv_chain.specs.Openings.{Answers, AreFilesOf, AreWhole, FaultFound, HasBounds, HasCause, IsChainOf, IsEndOf, IsIndexOf, IsLogOf, IsOutside, IsQuiet, IsRotatedOf, LeavesFolder, OnlyLooks, UnlessDisk, found_of};
 ghost use Rattle.dv_chain.specs.Rest.{Nothing, Rests};
 
 use crate::Chain;
@@ -177,13 +177,13 @@ pub fn open<S: Shelf>(alloc: Global, shelf: &mut S) -> Result<Chain, OpenFault>
     ensures found { S.sees.tells → Answers found_of result (IsFound (S.sees.files shelf.old)) }
     ensures chain { S.sees.tells → IfOk result (IsChainOf (S.sees.files shelf.old)) }
     ensures bounds { IfOk result HasBounds }
-    // What it leaves of the files, and what a crash leaves, at any moment and behind Ok.
+    // What it leaves of the files, and what a crash leaves, at any moment and behind it.
     ensures files { S.sees.tells →
         LeavesFolder (S.sees.files shelf.old) (S.sees.files shelf.new) result }
     ensures quiet { S.sees.tells → IsSettled S.sees shelf.old →
         LeavesOnly S.sees shelf.old shelf.new (IsQuiet (S.sees.files shelf.old)) }
     ensures settled { S.sees.tells → IsSettled S.sees shelf.old →
-        OnOk result (IsSettled S.sees shelf.new) }
+        UnlessDisk result (IsSettled S.sees shelf.new) }
     // Behind Ok the chain is at rest, and owes nothing.
     ensures rests { S.sees.tells → IsSettled S.sees shelf.old →
         IfOk result (λ chain. Rests S.sees Nothing chain shelf.new) }

@@ -8,7 +8,8 @@ use Rattle.dv_model.specs.declared.types.Key.TheVariants as key
 use Rattle.dv_model.specs.declared.types.Key.TheVariants.{rolls-All, rolls-Has, rolls-Lacks, rolls-Keyword, rolls-Uid, rolls-Larger, rolls-Header, rolls-Not, rolls-Or, rolls-And}
 use Rattle.dv_model.specs.Texts.{spaced}
 use Rattle.dv_formats.specs.Scripts.{AreKeys, AreSought, IsKey, IsWord, key_levels}
-use Rattle.dv_formats.specs.Parsing.{is_stop, key_at, key_layer, one_of, plain_key, search_of, several, valued_key, word_key}
+use Rattle.dv_formats.specs.Parsing.{◌>>=◌, ended, is_stop, key_at, key_layer, one_of, plain_key, search_of, several, valued_key, word_key}
+use Rattle.dv_commands.specs.Keys.{key_of}
 use Rattle.dv_commands.proofs.KeyWords.{all_again, has_again, header_again, keyword_again, lacks_again, larger_again, nested_again, not_again, or_again, uid_again}
 use Rattle.dv_commands.proofs.Words.{IsBehind, Stops, one_again, spaced_long}
 
@@ -130,3 +131,9 @@ unfolding search_of
 sought_again by_uid k b is =
     let keys = several_sought k b is in
     rw keys.1 (ap (λ x. Some (command.Search by_uid x)) keys.2)
+
+-- the whole text is one key
+pub whole_key_again : (k : Key) (b : List ℕ) → IsKey k key_levels b → key_of b ≡ Some k
+whole_key_again k b is =
+    let read : key_at key_levels b ≡ Some (k, []) = ap (key_at key_levels) (sym (append-nil b)) ∙ key_again k key_levels b is [] tt in
+    ap (λ r. r >>= λ found. ended found.1 found.0) read

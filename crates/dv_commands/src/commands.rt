@@ -1,12 +1,13 @@
 ghost use Rattle.std.specs.Prelude.{◌≡◌, Some, None};
 ghost use Rattle.dv_formats.specs.Parsing.{append_of, command_of, fetch_of, how_at, modifier_at, plain_command, search_of, set_command, store_of, uid_command};
+ghost use Rattle.dv_commands.specs.Keys.{key_of};
 ghost use Rattle.dv_commands.specs.Reads.{Gives};
 
 use crate::items::read_items;
-use crate::keys::{one_of, read_keys};
+use crate::keys::{one_of, read_key, read_keys};
 use crate::leaves::{read_flags, read_number, read_set};
 use crate::text::{ahead_of, behind, expect, split_list, split_word};
-use dv_model::{Bytes, Command, How, List};
+use dv_model::{Bytes, Command, How, Key, List};
 use dv_sets::ParseEnd;
 use std::alloc::Global;
 
@@ -86,6 +87,19 @@ fn read_search(alloc: Global, by_uid: bool, b: &[u8]) -> Result<Command, ParseEn
     }
     let key = one_of(keys);
     Ok(Command::Search { by_uid, key })
+}
+
+/// The search key that is the whole of a text (RFC 3501, section 9, search-key): one key, and keys
+/// in keys nest in at most 32 levels. Where the text is anything else, `Bad`; so several keys need
+/// parentheses.
+pub fn parse_key(alloc: Global, b: &[u8]) -> Result<Key, ParseEnd>
+    ensures { Gives (λ key. key) result (key_of b.now) }
+{
+    let (key, rest) = read_key(alloc, MAX_LEVELS, b)?;
+    if !rest.is_empty() {
+        return Err(ParseEnd::Bad);
+    }
+    Ok(key)
 }
 
 // A command that names messages.

@@ -133,10 +133,10 @@ pub fn one_of(keys: Items<Key>) -> Key
     }
 }
 
-// A key that nests in at most so many levels.
+/// A key that nests in at most so many levels, and what stands behind it.
 #[cycle(key)]
 #[tactic(auto, unfolding(dv_formats::specs::Parsing::key_at, dv_formats::specs::Parsing::key_layer))]
-fn read_key(alloc: Global, levels: u32, b: &[u8]) -> Result<(Key, &[u8]), ParseEnd>
+pub fn read_key(alloc: Global, levels: u32, b: &[u8]) -> Result<(Key, &[u8]), ParseEnd>
     ensures { Gives (λ x. (x.0, x.1.now)) result (key_at levels b.now) }
 {
     if levels == 0 {

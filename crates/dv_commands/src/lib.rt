@@ -8,7 +8,7 @@ mod law;
 mod leaves;
 mod text;
 
-pub use commands::{parse_append, parse_command};
-pub use law::{command_is_read, printed_command_is_read};
+pub use commands::{parse_append, parse_command, parse_key};
+pub use law::{command_is_read, key_is_read, printed_command_is_read};
 pub use leaves::{is_field_name, read_decimal, read_number};
 pub use text::{behind, expect, split_at_byte, split_word};

@@ -14,6 +14,7 @@ use Rattle.dv_model.specs.declared.types.Key.TheVariants.{rolls-All, rolls-Has, 
 use Rattle.dv_model.specs.Texts.{spaced}
 use Rattle.dv_formats.specs.Scripts.{AreKeys, AreSought, IsKey, IsWord, flag_key, is_quotable, key_levels}
 use Rattle.dv_formats.specs.Parsing.{◌>>=◌, after, at_word, before, ended, from, header_key, is_byte, is_field_name, is_name, is_stop, key_at, key_flag, key_layer, keyword_key, larger_key, number_of, one_of, plain_key, search_of, set_of, several, uid_key, valued_key, word_key}
+use Rattle.dv_commands.specs.Keys.{key_of}
 use Rattle.dv_commands.proofs.Base.{after_is, after_then, bind_some, if_some, parted, some_is}
 use Rattle.dv_commands.proofs.Grammar.{name_sound, set_sound}
 use Rattle.dv_commands.proofs.Names.{field_sound}
@@ -250,3 +251,15 @@ sought_sound by_uid b c e =
     by_end : (x : List Key × List ℕ) → AreFronts (λ k w. IsKey k key_levels w) (length b) b x → ended x.1 (command.Search by_uid (one_of x.0)) ≡ Some c → (k : Key) × AreSought k b × (c ≡ command.Search by_uid k)
     by_end (ks, []) are f = (one_of ks, by_keys ks are.words are.each are.some (are.text ∙ append-nil (spaced are.words)), sym (some_is (command.Search by_uid (one_of ks)) c f))
     by_end (ks, n ∷ rest) are f = absurd cc
+
+-- the whole text is one key
+pub whole_key_sound : (b : List ℕ) (k : Key) → key_of b ≡ Some k → IsKey k key_levels b
+whole_key_sound b k e =
+    let read = bind_some (key_at key_levels b) (λ found. ended found.1 found.0) k e in
+    by_end read.0 (key_sound key_levels b read.0 read.1) read.2
+  where
+    by_end : (x : Key × List ℕ) → KeyIs key_levels b x → ended x.1 x.0 ≡ Some k → IsKey k key_levels b
+    by_end (found, []) is f =
+        let same : b ≡ is.0 = is.2 ∙ append-nil is.0 in
+        subst (λ (key : Key). IsKey key key_levels b) (some_is found k f) (subst (IsKey found key_levels) (sym same) is.1)
+    by_end (found, n ∷ rest) is f = absurd cc

@@ -3,8 +3,10 @@
 
 ghost use Rattle.std.specs.Prelude.{◌≡◌, ◌++◌, ℕ, List, Some, Ok, Err, codes};
 ghost use Rattle.dv_model.specs.declared.types.Command.{Command};
+ghost use Rattle.dv_model.specs.declared.types.Key.{Key};
 ghost use Rattle.dv_formats.specs.Parsing.{ScriptFault, append_of, command_of, parsed};
-ghost use Rattle.dv_formats.specs.Scripts.{IsAppendStart, IsBadLine, IsCommand, IsScript, IsShortLiteral, IsTooLong, NamedLine};
+ghost use Rattle.dv_formats.specs.Scripts.{IsAppendStart, IsBadLine, IsCommand, IsKey, IsScript, IsShortLiteral, IsTooLong, NamedLine, key_levels};
+ghost use Rattle.dv_commands.specs.Keys.{key_of};
 
 /// A command that is read of a line is one of the grammar, with this text; so none other is taken.
 pub fn read_command_is_of_the_grammar()
@@ -13,6 +15,12 @@ pub fn read_command_is_of_the_grammar()
     // What is read behind the word of an APPEND is its first line, in the grammar.
     ensures append { (b : List ℕ) (start : (ℕ × List (List ℕ)) × ℕ) → append_of b ≡ Some start
         → IsAppendStart start.0.0 start.0.1 start.1 (codes "APPEND " ++ b) }
+{}
+
+/// A search key that is read of a whole text is one of the grammar, with this text; so no other
+/// text is taken.
+pub fn read_key_is_of_the_grammar()
+    ensures { (b : List ℕ) (key : Key) → key_of b ≡ Some key → IsKey key key_levels b }
 {}
 
 /// A script that is read is one of the grammar, with these lines: in its bytes, its lines and its

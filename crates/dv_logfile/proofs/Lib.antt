@@ -10,3 +10,4 @@ pub mod Reading
 pub mod OneLog
 pub mod OneScan
 pub mod Spots
+pub mod Settling

@@ -3,3 +3,4 @@ pub mod Gates
 pub mod Reading
 pub mod Commits
 pub mod Scans
+pub mod Settling

@@ -4,6 +4,7 @@ ghost use Rattle.dv_logfile.specs.Layout.{IsGroupText, last_end, longest_log};
 ghost use Rattle.dv_logfile.specs.Gates.{HasDiskCause};
 ghost use Rattle.dv_logfile.specs.Reading.{IsAtRest};
 ghost use Rattle.dv_logfile.specs.Commits.{WritesSynced};
+ghost use Rattle.dv_logfile.specs.Settling.{StaysSettled};
 
 use crate::counting::{CLOSING, record_count};
 use dv_model::{Bytes, Mark};
@@ -72,6 +73,7 @@ impl LogFile {
             IsAtRest Debt.None self.old.end text.now (S.sees.may_leave shelf.old) →
             ReadsGroup S.sees
             text.now self.old self.new result shelf.old shelf.new }
+        ensures settled { S.sees.tells → StaysSettled S.sees shelf.old shelf.new }
 
         // No message file is read; a fault of the disk has its cause.
         ensures mail_reads { S.sees.mail_reads shelf.new ≡ S.sees.mail_reads shelf.old }
@@ -117,6 +119,7 @@ impl LogFile {
             IsAtRest self.old.debt self.old.end text (S.sees.may_leave shelf.old) →
             ReadsHealed S.sees
             text self.old self.new result shelf.old shelf.new }
+        ensures settled { S.sees.tells → StaysSettled S.sees shelf.old shelf.new }
 
         // No message file is read; a fault of the disk has its cause.
         ensures mail_reads { S.sees.mail_reads shelf.new ≡ S.sees.mail_reads shelf.old }

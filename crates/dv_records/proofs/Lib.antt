@@ -13,3 +13,4 @@ pub mod Valid
 pub mod Written
 pub mod Decoded
 pub mod Checked
+pub mod Rooms

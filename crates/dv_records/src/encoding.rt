@@ -1,5 +1,5 @@
-ghost use Rattle.std.specs.Prelude.{◌≡◌, ◌^◌, ◌<◌, ◌++◌, OnOk, OnErr};
-ghost use Rattle.dv_model.specs.Spelling.{IsRecord, code_of, type_of, payload_text, reset_text, written};
+ghost use Rattle.std.specs.Prelude.{◌≡◌, ℕ, ◌+◌, ◌*◌, ◌^◌, ◌<◌, ◌≤◌, ◌++◌, List as Listed, All, OnOk, OnErr, flat_map, length};
+ghost use Rattle.dv_model.specs.Spelling.{IsPayload, IsRecord, code_of, type_of, payload_text, reset_text, written};
 ghost use Rattle.dv_records.specs.Short.{HasShortTexts};
 
 use crate::types;
@@ -102,23 +102,28 @@ pub fn encode(alloc: Global, r: &Record, out: &mut Bytes) -> Result<(), NoMemory
 }
 
 // About how many bytes the payload of a record with this body has.
-fn payload_room(body: &Body) -> usize {
-    let (items, size) = match body {
-        Body::Expunge(pairs) => (pairs.len(), 8),
-        Body::Append(rows) => (rows.len(), 8),
-        Body::FlagUpdate(changes) => (changes.len(), 12),
-        Body::KeywordUpdate { pairs, .. } => (pairs.len(), 8),
-        Body::KeywordReset(pairs) => (pairs.len(), 8),
-        Body::ExpungeGuid(rows) => (rows.len(), 20),
-        Body::ExtRecordUpdate(bytes) => (bytes.len(), 1),
-        Body::Carried { bytes, .. } => (bytes.len(), 1),
-        _ => (1, 40),
-    };
-    items.saturating_mul(size)
+fn payload_room(body: &Body) -> usize
+    ensures { (b : Listed ℕ) → IsPayload body.now b → result ≤ length b + 40 }
+{
+    match body {
+        Body::Expunge(pairs) => pairs.len().saturating_mul(8),
+        Body::Append(rows) => rows.len().saturating_mul(8),
+        Body::FlagUpdate(changes) => changes.len().saturating_mul(12),
+        Body::KeywordUpdate { pairs, .. } => pairs.len().saturating_mul(8),
+        Body::KeywordReset(pairs) => pairs.len().saturating_mul(8),
+        Body::ExpungeGuid(rows) => rows.len().saturating_mul(20),
+        Body::ExtRecordUpdate(bytes) => bytes.len(),
+        Body::Carried { bytes, .. } => bytes.len(),
+        _ => 40,
+    }
 }
 
-/// About how many bytes the spellings of records have. Memory and time alone go by it.
-pub fn room_for(records: &[Record]) -> usize {
+/// About how many bytes the spellings of records have: at most forty a record more than they have.
+/// Memory and time alone go by it.
+pub fn room_for(records: &[Record]) -> usize
+    ensures { All IsRecord records.now →
+        result ≤ length (flat_map written records.now) + 40 * length records.now }
+{
     let mut room: usize = 0;
     for r in records {
         room = room.saturating_add(8).saturating_add(payload_room(&r.body));

@@ -5,3 +5,4 @@ pub mod Supplied
 pub mod Rows
 pub mod Fetched
 pub mod Met
+pub mod Rooms

@@ -4,4 +4,5 @@ pub mod Found
 pub mod Looking
 pub mod Meeting
 pub mod Ready
+pub mod Largest
 pub mod Texts

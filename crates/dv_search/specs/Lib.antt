@@ -3,3 +3,4 @@ pub mod Laws
 pub mod Nesting
 pub mod Prepared
 pub mod Sought
+pub mod Stars

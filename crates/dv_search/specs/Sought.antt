@@ -11,3 +11,8 @@ use Rattle.dv_search.specs.declared.sought.Sought.{Sought}
 pub record IsSought (k : Key) (view : View) (sought : Sought) : Type 0 where
   pub ready : IsPrepared (largest_uid view) k sought.key
   pub reads : sought.reads ≡ needs_mail k
+
+-- it was made of this key for any rows: where no `*` stands in the key, their largest UID doesn't matter
+pub record IsReady (k : Key) (sought : Sought) : Type 0 where
+  pub ready : IsPrepared 0 k sought.key
+  pub reads : sought.reads ≡ needs_mail k

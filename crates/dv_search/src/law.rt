@@ -1,4 +1,5 @@
 ghost use Rattle.dv_search.specs.Laws.{SearchSaysFound, SoughtIsShallow};
+ghost use Rattle.dv_search.specs.Stars.{LargestIsForStars};
 
 /// The SEARCH line has the numbers, or the UIDs, of the rows that a search finds.
 pub fn search_says_found()
@@ -9,4 +10,10 @@ pub fn search_says_found()
 /// 6.4.4).
 pub fn sought_is_shallow()
     ensures { SoughtIsShallow }
+{}
+
+/// What a key finds in which no `*` stands doesn't depend on the largest UID (RFC 3501, section
+/// 6.4.8).
+pub fn largest_is_for_stars()
+    ensures { LargestIsForStars }
 {}

@@ -10,12 +10,14 @@ mod mail;
 mod prepared;
 mod search;
 mod sought;
+mod stars;
 mod text;
 
 pub use facts::MailFacts;
 pub use known::Mail;
-pub use law::{search_says_found, sought_is_shallow};
+pub use law::{largest_is_for_stars, search_says_found, sought_is_shallow};
 pub use levels::is_shallow;
 pub use mail::needs_mail;
 pub use search::eval;
 pub use sought::Sought;
+pub use stars::names_star;

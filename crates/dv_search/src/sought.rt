@@ -1,18 +1,20 @@
-ghost use Rattle.std.specs.Prelude.{◌≡◌, ◌≤◌, ℕ, List, Option, IfOk};
+ghost use Rattle.std.specs.Prelude.{◌≡◌, ◌≤◌, ℕ, List, Option, IfOk, false};
 ghost use Rattle.std.specs.Option.{option_copied};
 ghost use Rattle.dv_model.specs.declared.types.Key.{Key as Searched};
+ghost use Rattle.dv_model.specs.Searches.{meets, needs_mail};
 ghost use Rattle.dv_model.specs.Sessions.{candidate};
 ghost use Rattle.dv_model.specs.Views.{View as Seen};
 ghost use Rattle.dv_search.specs.Facts.{AreKnown, is_found};
 ghost use Rattle.dv_search.specs.Nesting.{levels_of, most_levels};
-ghost use Rattle.dv_search.specs.Sought.{IsSought};
+ghost use Rattle.dv_search.specs.Sought.{IsReady, IsSought};
+ghost use Rattle.dv_search.specs.Stars.{names_star, row_in};
 
 use crate::facts::MailFacts;
-use crate::keys::{Candidate, is_found};
+use crate::keys::{Candidate, is_found, meets};
 use crate::mail::needs_mail;
 use crate::prepared::prepared;
 use dv_apply::Live;
-use dv_model::{Key, NoMemory, Shown};
+use dv_model::{Bytes, Key, NoMemory, Shown};
 use dv_sets::largest_uid;
 use dv_view::View;
 use std::alloc::Global;
@@ -63,5 +65,40 @@ impl Sought {
             facts,
         };
         is_found(alloc, &self.key, &c, self.reads)
+    }
+
+    /// Makes a key ready for rows of any view, where no `*` stands in it. `NoMemory` is the only
+    /// error. The time is that of the key and of sorting its ranges.
+    pub fn of(alloc: Global, k: &Key) -> Result<Sought, NoMemory>
+        // Keys nest as deep as the grammar of a SEARCH lets them, so that the stack is short.
+        requires { levels_of k.now ≤ most_levels }
+        ensures { IfOk result (IsReady k.now) }
+    {
+        let reads = needs_mail(k);
+        let key = prepared(alloc, k, 0)?;
+        Ok(Sought { key, reads })
+    }
+
+    /// Whether a row meets the key, by what is shown of it alone; the places of its keywords are
+    /// read in these names. `NoMemory` is the only error. The time is in proportion to the key;
+    /// each range of UIDs is found by halves.
+    pub fn is_met_by<'a>(
+        &self,
+        alloc: Global,
+        names: &'a [Bytes],
+        shown: &'a Shown,
+    ) -> Result<bool, NoMemory>
+        // So it is for each key that it was made of in which no `*` stands and that reads no
+        // messages, whatever the largest UID is.
+        ensures { (k : Searched) → IsReady k self.now → needs_mail k ≡ false
+            → names_star k ≡ false → (largest : ℕ) → IfOk result (λ met. met
+            ≡ meets k (row_in names.now largest shown.now)) }
+    {
+        let c = Candidate {
+            shown,
+            names,
+            facts: None,
+        };
+        meets(alloc, &self.key, &c)
     }
 }

@@ -1,4 +1,4 @@
-ghost use Rattle.std.specs.Prelude.{◌≡◌, ◌+◌, ◌-◌, ◌++◌, IfOk, OnOk, map};
+ghost use Rattle.std.specs.Prelude.{◌≡◌, ◌+◌, ◌-◌, ◌++◌, IfOk, OnOk, map, min, sum_by};
 ghost use Rattle.std.specs.List.{range_with_len};
 ghost use Rattle.std.specs.List.Sorted.{IsNonDecreasingBy};
 ghost use Rattle.dv_sets.specs.Intervals.{AreInside, is_covered, numbers_where};
@@ -25,7 +25,9 @@ fn add_numbers(from: u32, to: u32, numbers: &mut List<u32>) -> Result<(), NoMemo
 }
 
 // How many places the intervals have at most. Memory alone goes by it.
-fn most_places(intervals: &[Interval], count: u32) -> u32 {
+fn most_places(intervals: &[Interval], count: u32) -> u32
+    ensures { result ≡ min (sum_by (λ interval. interval.to - interval.from) intervals.now) count }
+{
     let mut most: u32 = 0;
     for interval in intervals {
         most = most.saturating_add(interval.to.saturating_sub(interval.from));

@@ -19,3 +19,4 @@ pub mod Filing
 pub mod Next
 pub mod Carried
 pub mod Left
+pub mod Settling

@@ -3,6 +3,7 @@
 ghost use Rattle.std.specs.Prelude.{◌≡◌};
 ghost use Rattle.dv_model.specs.Journals.{Log};
 ghost use Rattle.dv_shelf.specs.Causes.{HasCause};
+ghost use Rattle.dv_logfile.specs.Settling.{StaysSettled};
 ghost use Rattle.dv_writing.specs.Debts.{Debt, Fits, Stands};
 ghost use Rattle.dv_writing.specs.Repairing.{IsOwing};
 ghost use Rattle.dv_writing.specs.Steps.{AreSteps};
@@ -36,6 +37,7 @@ pub fn carry_out<S: Shelf>(
         IsWriteOf log write owed.old chain.old (S.sees.files shelf.old) text.now steps →
         WritesStore S.sees log debt write text.now steps (held shelf.old chain.old owed.old)
         (held shelf.new chain.new owed.new) result }
+    ensures settled { S.sees.tells → StaysSettled S.sees shelf.old shelf.new }
     // The header of a log that was rotated.
     ensures turned { S.sees.tells →
         HasTurned steps.turn chain.old chain.new (S.sees.files shelf.new) }

@@ -5,6 +5,7 @@ ghost use Rattle.dv_shelf.specs.Folders.{contents};
 ghost use Rattle.dv_shelf.specs.declared.shelf.Name.TheVariants as name;
 ghost use Rattle.dv_logfile.specs.Commits.{ShutsGate};
 ghost use Rattle.dv_logfile.specs.Gates.{HasDiskCause};
+ghost use Rattle.dv_logfile.specs.Settling.{StaysSettled};
 ghost use Rattle.dv_chain.specs.Openings.{HasBounds};
 ghost use Rattle.dv_chain.specs.Rest.{IsPending, Nothing, Owed, Rests};
 ghost use Rattle.dv_writing.specs.Commits.{AdvancesChain, CommitsGroup, HealsChain, HealsFolder, IsReady};
@@ -42,6 +43,7 @@ pub fn commit<S: Shelf>(
         Rests S.sees Nothing chain.old shelf.old →
         CommitsGroup S.sees
         text.now after chain.old chain.new result shelf.old shelf.new }
+    ensures settled { S.sees.tells → StaysSettled S.sees shelf.old shelf.new }
     // The log's bytes before the group stay.
     ensures front { S.sees.tells →
         chain.old.log.end < length (contents (S.sees.files shelf.old) name.Log) →
@@ -71,6 +73,7 @@ pub fn heal<S: Shelf>(chain: &mut Chain, shelf: &mut S) -> Result<(), Failed>
     ensures opens { S.sees.tells → (owed : Owed) → Rests S.sees owed chain.old shelf.old →
         HealsFolder S.sees
         owed chain.old chain.new result shelf.old shelf.new }
+    ensures settled { S.sees.tells → StaysSettled S.sees shelf.old shelf.new }
     // No message file is read; a fault of the disk has its cause.
     ensures mail_reads { S.sees.mail_reads shelf.new ≡ S.sees.mail_reads shelf.old }
     ensures cause { HasCause (S.sees.fault_count shelf.old) (S.sees.fault_count shelf.new) result }

@@ -4,6 +4,7 @@ ghost use Rattle.std.specs.Prelude.{◌≡◌, OnOk};
 ghost use Rattle.dv_model.specs.declared.types.Mailbox.{Mailbox};
 ghost use Rattle.dv_model.specs.Journals.{Log};
 ghost use Rattle.dv_shelf.specs.Causes.{HasCause};
+ghost use Rattle.dv_logfile.specs.Settling.{StaysSettled};
 ghost use Rattle.dv_writing.specs.Debts.{Nothing, Stands};
 ghost use Rattle.dv_writing.specs.Groups.{KeepsNext};
 ghost use Rattle.dv_writing.specs.Quiet.{IsQuiet};
@@ -28,6 +29,7 @@ fn check_files<S: Shelf>(chain: &Chain, shelf: &mut S, renewal: &Renewal) -> Res
         Stands S.sees log Nothing chain.now shelf.old →
         MayRenew log chain.now.live.mailbox (kind.Check renewal.now) →
         IsQuiet S.sees log chain.now shelf.old shelf.new }
+    ensures settled { S.sees.tells → StaysSettled S.sees shelf.old shelf.new }
     // No message file is read; an error has its cause.
     ensures mail_reads { S.sees.mail_reads shelf.new ≡ S.sees.mail_reads shelf.old }
     ensures cause { HasCause (S.sees.fault_count shelf.old) (S.sees.fault_count shelf.new) result }
@@ -51,6 +53,7 @@ pub fn write_files<S: Shelf>(chain: &Chain, shelf: &mut S, files: &Files) -> Res
         Stands S.sees log Nothing chain.now shelf.old →
         MayRenew log chain.now.live.mailbox files.now →
         IsQuiet S.sees log chain.now shelf.old shelf.new }
+    ensures settled { S.sees.tells → StaysSettled S.sees shelf.old shelf.new }
     // Behind Ok whatever a crash leaves keeps the mailbox with the group of a write, too.
     ensures next { S.sees.tells → (log : Log) (write : Write) (after : Mailbox) →
         Stands S.sees log Nothing chain.now shelf.old →

@@ -4,6 +4,7 @@ ghost use Rattle.std.specs.Prelude.{◌≡◌, None, IsOk};
 ghost use Rattle.dv_model.specs.Journals.{Log};
 ghost use Rattle.dv_shelf.specs.Causes.{HasCause};
 ghost use Rattle.dv_logfile.specs.declared.commit.Debt.TheVariants as log_debt;
+ghost use Rattle.dv_logfile.specs.Settling.{StaysSettled};
 ghost use Rattle.dv_writing.specs.Debts.{Debt, Fits, Stands};
 ghost use Rattle.dv_writing.specs.Repairing.{IsOwing, KeepsTurn, Repairs, RepairsFiles};
 ghost use Rattle.dv_writing.specs.Repairing.{RepairsQuietly};
@@ -39,6 +40,7 @@ pub fn repair<S: Shelf>(
         Stands S.sees log due chain.old shelf.old →
         RepairsQuietly S.sees log due
         chain.old chain.new result shelf.old shelf.new }
+    ensures settled { S.sees.tells → StaysSettled S.sees shelf.old shelf.new }
     // No message file is read; an error has its cause.
     ensures mail_reads { S.sees.mail_reads shelf.new ≡ S.sees.mail_reads shelf.old }
     ensures cause { HasCause (S.sees.fault_count shelf.old) (S.sees.fault_count shelf.new) result }

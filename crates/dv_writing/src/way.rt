@@ -3,6 +3,7 @@
 ghost use Rattle.std.specs.Prelude.{◌≡◌, IfSome};
 ghost use Rattle.dv_model.specs.Journals.{Log};
 ghost use Rattle.dv_shelf.specs.Causes.{HasCause};
+ghost use Rattle.dv_logfile.specs.Settling.{StaysSettled};
 ghost use Rattle.dv_rotation.specs.Texts.{ClosesLog};
 ghost use Rattle.dv_writing.specs.Debts.{Debt, Fits, Stands};
 ghost use Rattle.dv_writing.specs.Repairing.{IsOwing};
@@ -32,6 +33,7 @@ pub fn make_way<S: Shelf>(
         IfSome turn (λ t. ClosesLog chain.old t (S.sees.files shelf.old)) →
         MakesWayQuietly S.sees log debt turn (held shelf.old chain.old owed.old)
         (held shelf.new chain.new owed.new) result }
+    ensures settled { S.sees.tells → StaysSettled S.sees shelf.old shelf.new }
     // The files: the log, and where a rotation is due the index and the rotated log.
     ensures files { S.sees.tells →
         MakesWayIn turn result (S.sees.files shelf.old) (S.sees.files shelf.new) }

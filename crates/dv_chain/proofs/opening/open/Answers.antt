@@ -1,10 +1,12 @@
 use Rattle.std.proofs.Common.{Err, refl, subst}
 use Rattle.std.proofs.lemmas.Result.{err_from_is_err_and}
+use Rattle.dv_shelf.specs.Crashes.{IsSettled}
 use Rattle.dv_shelf.specs.Folders.{Folder}
+use Rattle.dv_chain.specs.declared.chain.Chain.{Chain}
 use Rattle.dv_chain.specs.Openings.{LeavesMended}
 use Rattle.dv_chain.proofs.Opened.{chain_of, fault_leaves, opened_quiet, still_there}
 use Rattle.dv_chain.proofs.Rests.{opened_put, opened_rests}
-use Rattle.dv_chain.proofs.Shelves.{settled_still}
+use Rattle.dv_chain.proofs.Shelves.{settled_still, unless_so}
 use Rattle.dv_chain.proofs.opening.open.Goals as goal
 
 pub returns-in_err-mend-clause-files : goal.returns-in_err-mend-clause-files
@@ -27,6 +29,13 @@ returns-in_err-mend-clause-quiet g c = λ tells settled.
     let there = still_there S.sees c.args.shelf.now c.find.new.shelf c.in_ok-log.log end.is looks in
     let still = settled_still S.sees c.args.shelf.now c.find.new.shelf settled looks in
     opened_quiet S.sees c.args.shelf.now c.find.new.shelf c.mend.new.shelf c.in_ok-log.log end.is settled looks (c.mend.ensures.since tells there still)
+
+pub returns-in_err-mend-clause-settled : goal.returns-in_err-mend-clause-settled
+returns-in_err-mend-clause-settled g c = λ tells settled.
+    let S = g.S.Shelf in
+    let p = err_from_is_err_and c.from_residual-in_err-mend.result c.from_residual-in_err-mend.ensures.1 in
+    let still = settled_still S.sees c.args.shelf.now c.find.new.shelf settled (c.find.ensures.looks tells) in
+    rw (p.1, p.2) (unless_so (Unit {0}) Chain (IsSettled S.sees c.mend.new.shelf) c.in_err-mend.field-0.0 (c.in_err-mend.ensures.settled tells still))
 
 pub returns-clause-chain : goal.returns-clause-chain
 returns-clause-chain g c = λ tells.

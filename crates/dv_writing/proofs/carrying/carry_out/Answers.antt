@@ -1,4 +1,4 @@
-use Rattle.std.proofs.Common.{◌∙◌, ap, subst, sym}
+use Rattle.std.proofs.Common.{◌∙◌, ap, subst, sym, arith}
 use Rattle.std.proofs.lemmas.Result.{err_from_is_err_and}
 use Rattle.dv_shelf.specs.declared.shelf.Name.TheVariants as name
 use Rattle.dv_chain.specs.declared.chain.Chain.{Chain}
@@ -9,6 +9,7 @@ use Rattle.dv_writing.proofs.Ready.{no_debt}
 use Rattle.dv_writing.proofs.Next.{may_renew}
 use Rattle.dv_writing.proofs.Carried.{after_there, carry_done, carry_failed, carry_halted, carry_stopped, files_there, log_unnamed, next_here, pending_there, stores_done, stores_failed, stores_halted, stores_stopped, turned_behind, turned_here, turned_stopped}
 use Rattle.dv_writing.proofs.Writing.{group_written}
+use Rattle.dv_logfile.proofs.Settling.{settled_then}
 use Rattle.dv_writing.proofs.carrying.carry_out.Goals as goal
 
 pub make_way-requires-clause-due : goal.make_way-requires-clause-due
@@ -144,3 +145,33 @@ returns-in-Ok-clause-turned g c = λ tells.
     let mid = c.make_way.new.chain in
     turned_behind c.args.owed.now c.args.steps.turn c.args.chain.now mid c.requires.steps.due c.in_ok-make_way.ensures.value.ok.0 (S.sees.files c.make_way.new.shelf) (S.sees.files c.write_files.new.shelf)
     (c.in_ok-write_files.ensures.others tells name.Log (log_unnamed mid.live.mailbox c.args.steps.files)) c.commit.new.chain (S.sees.files c.commit.new.shelf) (c.in_ok-make_way.ensures.files tells).turned (c.in-Ok.ensures.front tells)
+
+pub returns-in_err-write_files-clause-settled : goal.returns-in_err-write_files-clause-settled
+returns-in_err-write_files-clause-settled g c = λ tells.
+    let way = c.in_ok-make_way.ensures in
+    let files = c.in_err-write_files.ensures in
+    settled_then g.S.Shelf.sees c.args.shelf.now c.make_way.new.shelf c.write_files.new.shelf way.cause.later files.cause.later (way.settled tells) (files.settled tells)
+
+pub returns-clause-settled : goal.returns-clause-settled
+returns-clause-settled g c = λ tells.
+    let S = g.S.Shelf in
+    let way = c.in_ok-make_way.ensures in
+    let files = c.in_ok-write_files.ensures in
+    let group = c.in-Err.ensures in
+    let mid = c.make_way.new.shelf in
+    let between = c.write_files.new.shelf in
+    let new = c.commit.new.shelf in
+    settled_then S.sees c.args.shelf.now mid new way.cause.later (omega (arith, files.cause.later, group.cause.later)) (way.settled tells)
+    (settled_then S.sees mid between new files.cause.later group.cause.later (files.settled tells) (group.settled tells))
+
+pub returns-in-Ok-clause-settled : goal.returns-in-Ok-clause-settled
+returns-in-Ok-clause-settled g c = λ tells.
+    let S = g.S.Shelf in
+    let way = c.in_ok-make_way.ensures in
+    let files = c.in_ok-write_files.ensures in
+    let group = c.in-Ok.ensures in
+    let mid = c.make_way.new.shelf in
+    let between = c.write_files.new.shelf in
+    let new = c.commit.new.shelf in
+    settled_then S.sees c.args.shelf.now mid new way.cause.later (omega (arith, files.cause.later, group.cause.later)) (way.settled tells)
+    (settled_then S.sees mid between new files.cause.later group.cause.later (files.settled tells) (group.settled tells))

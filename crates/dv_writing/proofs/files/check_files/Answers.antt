@@ -6,6 +6,8 @@ use Rattle.dv_mails.specs.Writing.{IsSweeping, IsSwept}
 use Rattle.dv_writing.specs.Removals.{IsFree}
 use Rattle.dv_writing.proofs.Quiet.{quiet_both}
 use Rattle.dv_writing.proofs.Filing.{check_others, check_written, sweep_unnamed}
+use Rattle.dv_logfile.proofs.Settling.{rose_settled, settled_then}
+use Rattle.dv_writing.proofs.Settling.{renewed_settled, swept_settled}
 use Rattle.dv_writing.proofs.files.check_files.Goals as goal
 
 pub clear-requires : goal.clear-requires
@@ -49,3 +51,18 @@ returns-clause-quiet g c = λ tells log stands renews.
     let S = g.S.Shelf in
     let first = c.in_ok-clear.ensures.quiet tells log stands in
     quiet_both S.sees log c.args.chain.now c.args.shelf.now c.clear.new.shelf c.renew.new.shelf first (c.renew.ensures.quiet tells log first.stands renews)
+
+pub returns-in_err-clear-clause-settled : goal.returns-in_err-clear-clause-settled
+returns-in_err-clear-clause-settled g c = λ tells.
+    rose_settled g.S.Shelf.sees c.args.shelf.now c.clear.new.shelf c.in_err-clear.ensures.cause.rose
+
+pub returns-clause-settled : goal.returns-clause-settled
+returns-clause-settled g c = λ tells.
+    let S = g.S.Shelf in
+    let old = c.args.shelf.now in
+    let mid = c.clear.new.shelf in
+    let new = c.renew.new.shelf in
+    let first = c.in_ok-clear.ensures in
+    settled_then S.sees old mid new first.cause.later c.renew.ensures.cause.later
+    (swept_settled S.sees old mid c.as_slice.result.now _ first.cause (first.leaves tells))
+    (renewed_settled S.sees mid new c.args.renewal.now.index c.args.renewal.now.cache c.renew.result c.renew.ensures.cause (c.renew.ensures.leaves tells))

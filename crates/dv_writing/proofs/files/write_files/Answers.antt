@@ -1,10 +1,12 @@
 use Rattle.std.proofs.Common.{◌≡◌, ◌∙◌, OnOk, Ok, subst, sym}
 use Rattle.dv_shelf.specs.declared.shelf.Failed.{Failed}
+use Rattle.dv_shelf.specs.declared.shelf.Name.TheVariants as name
 use Rattle.dv_writing.specs.declared.steps.Files.{Files}
 use Rattle.dv_writing.specs.declared.steps.Files.TheVariants as kind
 use Rattle.dv_writing.specs.Steps.{HasFiles, MayRenew}
 use Rattle.dv_writing.proofs.Filing.{message_others, message_written, none_quiet, none_written}
 use Rattle.dv_writing.proofs.Next.{mail_given, may_renew, next_keeps}
+use Rattle.dv_writing.proofs.Settling.{put_settled}
 use Rattle.dv_writing.proofs.files.write_files.Goals as goal
 
 pub returns-in-Nothing-clause-quiet : goal.returns-in-Nothing-clause-quiet
@@ -60,3 +62,8 @@ returns-in-Check-clause-next g c = λ tells log write after stands gives are.
     next_keeps S.sees log write m after c.args.files.now new result (λ text is. absurd (let no : kind.Check c.in-Check.renewal ≡ kind.Message text = sym c.in-Check.is ∙ is in cc))
     (subst (λ (s : Files). OnOk result (HasFiles S.sees m s new)) (sym c.in-Check.is) (c.check_files.ensures.written tells))
     (c.check_files.ensures.quiet tells log stands (subst (MayRenew log m) c.in-Check.is (may_renew log write.received m write.command c.args.files.now are))).stands.keeps gives are
+
+pub returns-in-Message-clause-settled : goal.returns-in-Message-clause-settled
+returns-in-Message-clause-settled g c = λ tells.
+    let S = g.S.Shelf in
+    put_settled S.sees c.args.shelf.now c.put_message.new.shelf (name.Mail c.args.chain.now.live.mailbox.next_uid) c.in-Message.text c.put_message.result c.put_message.ensures.cause (c.put_message.ensures.leaves tells)

@@ -1,9 +1,12 @@
 use Rattle.std.proofs.Common.{Err, Ok, Option, ap, subst}
 use Rattle.std.proofs.lemmas.Result.{err_from_is_err_and}
+use Rattle.dv_shelf.specs.declared.shelf.Name.TheVariants.{Log}
+use Rattle.dv_logfile.proofs.Settling.{rose_settled}
 use Rattle.dv_chain.specs.declared.chain.Chain.{Chain}
 use Rattle.dv_rotation.specs.declared.texts.Turn.{Turn}
 use Rattle.dv_writing.specs.Debts.{Fits, owed_of}
 use Rattle.dv_writing.proofs.Repaired.{finished_quiet, healed_quiet, heals_log, turn_stays}
+use Rattle.dv_writing.proofs.Settling.{put_settled}
 use Rattle.dv_writing.proofs.repairs.repair.Goals as goal
 
 pub returns-in_err-finish-in-Some-clause-quiet : goal.returns-in_err-finish-in-Some-clause-quiet
@@ -40,3 +43,11 @@ returns-in-None-clause-turns g c = λ tells none made.
     let new = S.sees.files c.heal.new.shelf in
     let bytes = heals_log c.args.chain.now.log old new c.heal.result (c.heal.ensures.bytes tells) (λ due. ap S.sees.files (c.heal.ensures.nothing due).1) in
     turn_stays made c.args.chain.now c.heal.new.chain c.heal.result old new c.heal.ensures.value bytes
+
+pub returns-in_err-finish-in-Some-clause-settled : goal.returns-in_err-finish-in-Some-clause-settled
+returns-in_err-finish-in-Some-clause-settled g c = λ tells.
+    rose_settled g.S.Shelf.sees c.args.shelf.now c.finish.new.shelf c.in_err-finish-in-Some.ensures.cause.rose
+
+pub returns-in_ok-finish-in-Some-clause-settled : goal.returns-in_ok-finish-in-Some-clause-settled
+returns-in_ok-finish-in-Some-clause-settled g c = λ tells.
+    put_settled g.S.Shelf.sees c.args.shelf.now c.finish.new.shelf Log c.in-Some.made.new _ c.in_ok-finish-in-Some.ensures.cause (c.in_ok-finish-in-Some.ensures.leaves tells)

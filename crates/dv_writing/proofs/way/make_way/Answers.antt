@@ -6,6 +6,8 @@ use Rattle.std.specs.Prelude.{IfSome}
 use Rattle.dv_writing.specs.Ways.{IsDue}
 use Rattle.dv_writing.proofs.Making.{failed_in, paid_in, quiet_failed, quiet_paid, quiet_turned, turned_in, way_failed, way_paid, way_turned}
 use Rattle.dv_writing.proofs.Ready.{due_room, due_turn, repaired_is}
+use Rattle.dv_logfile.proofs.Settling.{settled_then}
+use Rattle.dv_writing.proofs.Settling.{turned_settled}
 use Rattle.dv_writing.proofs.way.make_way.Goals as goal
 
 pub returns-in_err-repair-clause-value : goal.returns-in_err-repair-clause-value
@@ -80,3 +82,11 @@ pub returns-in-None-clause-files : goal.returns-in-None-clause-files
 returns-in-None-clause-files g c = λ tells.
     let S = g.S.Shelf in
     rw c.in-None.is (paid_in _ tt c.args.owed.now c.args.chain.now.log (S.sees.files c.args.shelf.now) (S.sees.files c.repair.new.shelf) (c.in_ok-repair.ensures.files tells))
+
+pub returns-in-Some-clause-settled : goal.returns-in-Some-clause-settled
+returns-in-Some-clause-settled g c = λ tells.
+    let S = g.S.Shelf in
+    let mid = c.repair.new.shelf in
+    let new = c.turn_over.new.shelf in
+    settled_then S.sees c.args.shelf.now mid new c.in_ok-repair.ensures.cause.later c.turn_over.ensures.cause.later (c.in_ok-repair.ensures.settled tells)
+    (turned_settled S.sees mid new c.in-Some.made c.turn_over.new.owed c.turn_over.result c.turn_over.ensures.cause (c.turn_over.ensures.leaves tells))

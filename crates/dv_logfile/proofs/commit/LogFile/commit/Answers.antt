@@ -3,6 +3,7 @@ use Rattle.dv_model.specs.declared.types.Record.{Record}
 use Rattle.dv_logfile.specs.Layout.{Spelled, closing}
 use Rattle.dv_logfile.proofs.Commits.{first_bytes, first_crash, second_bytes, second_crash, both_bytes, both_crash, group_read}
 use Rattle.dv_logfile.proofs.Groups.{spelled_eight, group_long}
+use Rattle.dv_logfile.proofs.Settling.{rose_settled, settled_then, synced_settled}
 use Rattle.dv_logfile.proofs.commit.LogFile.commit.Goals as goal
 
 pub split_at-requires : goal.split_at-requires
@@ -71,3 +72,29 @@ pub returns-clause-reading : goal.returns-clause-reading
 returns-clause-reading g c = λ tells rest.
     let value = returns-clause-value g c in
     group_read c.args.text.now c.requires.group c.args.self.now _ c.requires.room rest _ value.debt value.end tt (returns-clause-crash g c tells)
+
+-- ---- a settled shelf stays so
+
+pub returns-in-Err-clause-settled : goal.returns-in-Err-clause-settled
+returns-in-Err-clause-settled g c = λ tells.
+    rose_settled g.S.Shelf.sees c.args.shelf.now c.write_synced.new.shelf c.in-Err.ensures.cause.rose
+
+pub returns-in-Err-write_synced-clause-settled : goal.returns-in-Err-write_synced-clause-settled
+returns-in-Err-write_synced-clause-settled g c = λ tells.
+    let S = g.S.Shelf in
+    let mid = c.write_synced.new.shelf in
+    let new = c.write_synced-2.new.shelf in
+    let first = c.in-Ok.ensures in
+    let second = c.in-Err-write_synced.ensures in
+    settled_then S.sees c.args.shelf.now mid new first.cause.later second.cause.later
+    (synced_settled S.sees _ _ _ c.args.shelf.now mid first.cause (first.writes tells)) (rose_settled S.sees mid new second.cause.rose)
+
+pub returns-clause-settled : goal.returns-clause-settled
+returns-clause-settled g c = λ tells.
+    let S = g.S.Shelf in
+    let mid = c.write_synced.new.shelf in
+    let new = c.write_synced-2.new.shelf in
+    let first = c.in-Ok.ensures in
+    let second = c.in-Ok-write_synced.ensures in
+    settled_then S.sees c.args.shelf.now mid new first.cause.later second.cause.later
+    (synced_settled S.sees _ _ _ c.args.shelf.now mid first.cause (first.writes tells)) (synced_settled S.sees _ _ _ mid new second.cause (second.writes tells))
