@@ -8,5 +8,6 @@ pub mod Naming
 pub mod Passed
 pub mod Readied
 pub mod Planned
+pub mod Dated
 pub mod Made
 pub mod Timed

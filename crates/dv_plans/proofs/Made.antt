@@ -1,5 +1,5 @@
 -- The plan that is made of what was read and of the group.
-use Rattle.std.proofs.Common.{◌≡◌, ℕ, ◌+◌, ◌≤◌, Bool, false, List, length, Option, Some, None, true, is_some, refl, sym, ◌∙◌, ap, subst}
+use Rattle.std.proofs.Common.{◌≡◌, ℕ, ◌+◌, ◌≤◌, List, length, Option, Some, None, true, is_some, refl, sym, ◌∙◌, ap, subst}
 use Rattle.std.specs.Prelude.{IfSome}
 use Rattle.dv_model.specs.declared.types.Command.{Command}
 use Rattle.dv_model.specs.declared.types.Command.TheVariants as command
@@ -32,7 +32,7 @@ use Rattle.dv_plans.specs.declared.groups.Written.{Written}
 use Rattle.dv_plans.specs.declared.plan.Plan.{Plan}
 use Rattle.dv_plans.specs.declared.times.Times.{Times}
 use Rattle.dv_plans.specs.Befores.{IsBefore, IsRead}
-use Rattle.dv_plans.specs.Begins.{AtReading, IsMadeAt, turns}
+use Rattle.dv_plans.specs.Begins.{IsMadeAt, turns}
 use Rattle.dv_plans.specs.Files.{AreFilesMade, IsAppended}
 use Rattle.dv_plans.specs.Groups.{IsGroupReady}
 use Rattle.dv_plans.specs.Guids.{guid_from, removed_of}
@@ -42,11 +42,6 @@ use Rattle.dv_plans.proofs.Naming.{guids_found, log_guids}
 use Rattle.dv_plans.proofs.Passed.{Passes, passes, same_size, uid_left}
 use Rattle.dv_plans.proofs.Planned.{due_same, files_of_log, files_same, rows_are}
 use Rattle.dv_plans.proofs.Readied.{group_ready, pending_ready, room_left}
-
--- a time that counts for an append alone is that of some reading, the clock's where it tells
-pub dated_at : (tells : Type 0) (appends : Bool) (received known : ℕ) → (tells → appends ≡ true → received ≡ known) → AtReading tells known (λ at. appends ≡ true → received ≡ at)
-dated_at tells true received known same = record { at = received; clock = λ reads. same reads refl; is = λ append. refl }
-dated_at tells false received known same = record { at = known; clock = λ reads. refl; is = λ append. absurd cc }
 
 -- the time when a message came counts for an append alone
 pub files_at : (c : Command) (chain : Chain) (received other : ℕ) (folder : Folder) (steps : Files) → (is_append c ≡ true → received ≡ other) → AreFilesMade chain received folder c steps → AreFilesMade chain other folder c steps
@@ -81,7 +76,7 @@ module _ (c : Command) (view : View) (chain : Chain) (uids : List ℕ) (owed : O
   guid = guid_from before.guids
 
   abbrev plan : Plan
-  plan = record { group = written.group; text = written.text; steps = record { turn = before.turn; files = before.files; prepared = written.prepared } }
+  plan = record { group = written.group; text = written.text; steps = record { turn = before.turn; files = before.files; prepared = written.prepared }; received = times.received }
 
   sizes : HasSizes guid
   sizes uid = (guids_found before.guids is.guids.guids uid).size

@@ -2,7 +2,7 @@
 use Rattle.std.specs.Prelude.{◌≡◌, ◌⊎◌, ◌+◌, ◌&&◌, ℕ, Bool, true, false, Option, Some, IfSome, is_none, Result, Ok, Err}
 use Rattle.dv_model.specs.declared.types.Command.{Command}
 use Rattle.dv_model.specs.declared.types.Mark.{Mark}
-use Rattle.dv_model.specs.Journals.{is_rotation_due}
+use Rattle.dv_model.specs.Journals.{IsU32, is_rotation_due}
 use Rattle.dv_model.specs.Sessions.{is_append}
 use Rattle.dv_shelf.specs.Clocks.{behind}
 use Rattle.dv_chain.specs.declared.chain.Chain.{Chain}
@@ -34,9 +34,10 @@ readings_of c owed chain = count_of (turns owed chain) + count_of (is_append c)
 abbrev pub received_at : Bool → (ℕ → ℕ) → ℕ
 received_at turns upcoming = upcoming (count_of turns)
 
--- there is a reading, which is this one where the clock tells, with which this holds
+-- there is a reading of 32 bits, which is this one where the clock tells, with which this holds
 pub record AtReading (tells : Type 0) (reading : ℕ) (Holds : ℕ → Type 0) : Type 0 where
   pub at : ℕ
+  pub small : IsU32 at
   pub clock : tells → at ≡ reading
   pub is : Holds at
 

@@ -1,9 +1,10 @@
 -- The plan of a command's write.
-use Rattle.std.specs.Prelude.{◌≡◌, ◌≤◌, ℕ, is_some, List, ◌++◌, length, Option, Some, IfSome, Result, Ok, ⊤}
+use Rattle.std.specs.Prelude.{◌≡◌, ◌≤◌, ℕ, true, is_some, List, ◌++◌, length, Option, Some, IfSome, Result, Ok, ⊤}
 use Rattle.dv_model.specs.declared.types.Command.{Command}
 use Rattle.dv_model.specs.declared.types.Mailbox.{Mailbox}
 use Rattle.dv_model.specs.Effects.{applied}
 use Rattle.dv_model.specs.Journals.{IsEntry, IsGuid, IsU32, Log}
+use Rattle.dv_model.specs.Sessions.{is_append}
 use Rattle.dv_model.specs.Spelling.{group_text}
 use Rattle.dv_model.specs.Views.{View}
 use Rattle.dv_shelf.specs.Folders.{Folder}
@@ -57,11 +58,12 @@ PlansEach c view owed received chain folder plan = (log : Log) (author : ℕ)
     (record { author = author; command = c; view = view; received = received })
     owed chain folder plan
 
--- and the files are those of a message that is received at this reading
+-- and the files are those of a message that is received at this reading, as the plan says
 pub record PlansAt (c : Command) (view : View) (owed : Option Turn) (chain next : Chain)
     (folder behind : Folder) (plan : Plan) (received : ℕ) : Type 0 where
   pub each : PlansEach c view owed received next behind plan
   pub files : AreFilesMade chain received folder c plan.steps.files
+  pub came : is_append c ≡ true → plan.received ≡ received
 
 -- the new log of its rotation is made at this reading
 abbrev pub TurnsAt : Chain → ℕ → Plan → Type 0

@@ -7,8 +7,8 @@ ghost use Rattle.dv_view.specs.Orders.{IsOrdered};
 use dv_apply::Live;
 use dv_view::View;
 
-/// A number of 32 bits is one.
-fn is_number(n: u32)
+/// A number of 32 bits is one. Nothing is computed.
+pub fn is_number(n: u32)
     ensures { IsU32 n }
 {}
 

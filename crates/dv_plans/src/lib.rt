@@ -17,6 +17,7 @@ mod sends;
 mod times;
 mod turns;
 
+pub use bounds::is_number;
 pub use changes::plan_group;
 pub use fault::StoreFault;
 pub use guids::message_guid;

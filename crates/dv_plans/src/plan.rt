@@ -36,6 +36,8 @@ pub struct Plan {
     pub text: Bytes,
     /// What is done behind what is owed.
     pub steps: Steps,
+    /// When the message came, where one is appended, in seconds since 1970; else 0.
+    pub received: u32,
 }
 
 /// The plan of a command that writes something and meets no limit, where the messages that it
@@ -87,5 +89,6 @@ pub fn make_plan<S: Shelf, C: Clock>(
             files: before.files,
             prepared: written.prepared,
         },
+        received: times.received,
     })
 }

@@ -1,6 +1,7 @@
 //! The readings of the clock that a write takes.
 
 ghost use Rattle.std.specs.Prelude.{◌≡◌, ◌+◌, IfSome, is_some, true};
+ghost use Rattle.dv_model.specs.Journals.{IsU32};
 ghost use Rattle.dv_shelf.specs.Clocks.{behind};
 ghost use Rattle.dv_plans.specs.Begins as begins;
 ghost use Rattle.dv_plans.specs.Begins.{count_of, received_at};
@@ -58,6 +59,7 @@ pub fn read_times<C: Clock>(clock: &mut C, turns: bool, appends: bool) -> Times
         IfSome result.turn (λ now. now ≡ C.sees.upcoming clock.old 0) }
     ensures received { C.sees.tells → appends ≡ true →
         result.received ≡ received_at turns (C.sees.upcoming clock.old) }
+    ensures small { IsU32 result.received }
     ensures clock { C.sees.tells → C.sees.upcoming clock.new
         ≡ behind (C.sees.upcoming clock.old) (count_of turns + count_of appends) }
 {

@@ -9,9 +9,9 @@ use Rattle.dv_shelf.specs.Sees.{SeesFolder}
 use Rattle.dv_formats.specs.Scripts.{NamedLine}
 use Rattle.dv_playing.specs.Laws.{lines_of}
 use Rattle.dv_playing.specs.Playing.{Attempt, begin, replies_to}
-use Rattle.dv_serial.specs.Faults.{Faults}
+use Rattle.dv_serving.specs.Faults.{Faults}
 use Rattle.dv_serial.specs.Following.{IsLeft}
-use Rattle.dv_serial.specs.Outputs.{Output}
+use Rattle.dv_serving.specs.Outputs.{Output}
 use Rattle.dv_serial.specs.Places.{GivesBehind, play_of}
 use Rattle.dv_cli.specs.declared.ending.End.{End}
 use Rattle.dv_cli.specs.declared.ending.End.TheVariants as end
@@ -20,11 +20,12 @@ use Rattle.dv_cli.specs.declared.words.Task.{Task}
 use Rattle.dv_cli.specs.declared.words.Task.TheVariants as task
 use Rattle.dv_cli.specs.Causes.{Counts}
 use Rattle.dv_cli.specs.Endings.{Concludes}
-use Rattle.dv_cli.specs.Runs.{EndsAt, IsUnopened, RunsOver, ServesLines}
+use Rattle.dv_cli.specs.Runs.{EndsAt, RunsOver, ServesLines}
+use Rattle.dv_beginning.specs.Leaving.{IsUnopened}
 use Rattle.dv_cli.specs.Spans.{Times}
 use Rattle.dv_cli.specs.Tasks.{RepliesTold, load_in, replies_of}
 use Rattle.dv_cli.specs.Wholes.{IsRun, IsUnread, shelf_faults}
-use Rattle.dv_cli.proofs.Starting.{quiet_same}
+use Rattle.dv_beginning.proofs.Starting.{quiet_same}
 use Rattle.dv_power_cuts.specs.Acknowledging.{Acknowledges, KeepsAnswered, WritesBehind}
 use Rattle.dv_power_cuts.proofs.Kept.{kept_behind, kept_none}
 use Rattle.dv_power_cuts.proofs.Written.{concluded, writes_behind}
@@ -35,6 +36,7 @@ told_of None told is = absurd is
 told_of (Some task.Run) told is = is
 told_of (Some task.Rebuild) told is = absurd is
 told_of (Some (task.Generate load)) told is = absurd is
+told_of (Some (task.Resync client)) told is = absurd is
 
 -- no line is left, or the first of the rest
 left_of : (load : Option Load) (e : End) (clock : ℕ → ℕ) (base : ℕ) (start : Log) (answered left : List Attempt) (rest : List Line) → EndsAt load e clock base start answered left rest

@@ -12,7 +12,7 @@ use Rattle.dv_playing.specs.Laws.{IsAttempt, MayWrite, lines_of}
 use Rattle.dv_playing.specs.Playing.{Attempt, Play, Served, Step, begin, file_readings, group_here, played, replies_to, step, with_group_here}
 use Rattle.dv_playing.proofs.Plays.{all_played}
 use Rattle.dv_playing.proofs.Steps.{IsPlayed, begins, step_played}
-use Rattle.dv_serial.proofs.Places.{with_group}
+use Rattle.dv_serving.proofs.Places.{with_group}
 use Rattle.dv_serial.proofs.Running.{may_be_left, served_log}
 
 -- ---- one line

@@ -19,8 +19,9 @@ use Rattle.dv_playing.specs.Playing.{Attempt, Failed, Play, Served, begin, file_
 use Rattle.dv_playing.proofs.Plays.{goes_on, length_replies}
 use Rattle.dv_playing.proofs.Steps.{IsPlayed, end_is, longer_sound, many_entries, on}
 use Rattle.dv_serial.specs.Following.{IsLeft, MayBeLeft}
-use Rattle.dv_serial.specs.Places.{GivesBehind, GivesPlay, GivesWith, IsLastFailed, next_file, play_of}
-use Rattle.dv_serial.proofs.Places.{with_group}
+use Rattle.dv_serial.specs.Places.{GivesBehind, IsLastFailed, play_of}
+use Rattle.dv_serving.specs.Places.{GivesPlay, GivesWith, next_file}
+use Rattle.dv_serving.proofs.Places.{with_group}
 use Rattle.dv_serial.proofs.Running.{served_log}
 use Rattle.dv_power_cuts.specs.Acknowledging.{KeepsAnswered}
 use Rattle.dv_power_cuts.proofs.Growing.{all_front, front_shorter, goes_from, goes_with, log_with_line, played_from, with_line_is}

@@ -6,7 +6,7 @@ use Rattle.dv_formats.specs.Scripts.{NamedLine}
 use Rattle.dv_playing.specs.Playing.{Attempt, begin, replies_to, step}
 use Rattle.dv_serial.specs.Places.{play_of}
 use Rattle.dv_serial.specs.Runs.{IsTried}
-use Rattle.dv_serial.specs.Scripts.{replies_text}
+use Rattle.dv_serving.specs.Scripts.{replies_text}
 use Rattle.dv_serial.proofs.Running.{replies_length}
 use Rattle.dv_cli.specs.declared.ending.End.{End}
 use Rattle.dv_cli.specs.declared.ending.End.TheVariants as end

@@ -12,12 +12,12 @@ use Rattle.dv_shelf.specs.Streams.{Appends, AppendsFront}
 use Rattle.dv_formats.specs.Scripts.{NamedLine}
 use Rattle.dv_interleavings.specs.Promises.{GoesOn}
 use Rattle.dv_writing.specs.Keeping.{Gives}
-use Rattle.dv_serial.specs.Outputs.{Output}
-use Rattle.dv_serial.specs.Scripts.{answer_text, numbered, replies_text}
+use Rattle.dv_serving.specs.Outputs.{Output}
+use Rattle.dv_serving.specs.Scripts.{answer_text, numbered, replies_text}
 use Rattle.dv_cli.specs.declared.ending.End.{End}
 use Rattle.dv_cli.specs.Endings.{text_of}
-use Rattle.dv_cli.specs.Runs.{IsUnopened}
-use Rattle.dv_cli.specs.Starts.{Starts}
+use Rattle.dv_beginning.specs.Leaving.{IsUnopened}
+use Rattle.dv_beginning.specs.Starts.{Starts}
 
 -- ---- what is kept
 

@@ -2,8 +2,9 @@ ghost use Rattle.std.specs.Prelude.{◌≡◌, List, map, string_bytes};
 ghost use Rattle.dv_shelf.specs.Crashes.{IsSettled};
 ghost use Rattle.dv_formats.specs.Parsing.{parsed};
 ghost use Rattle.dv_formats.specs.Scripts.{NamedLine};
-ghost use Rattle.dv_serial.specs.NextRuns.{IsTrueFolder};
-ghost use Rattle.dv_serial.specs.Outputs.{output_of};
+ghost use Rattle.dv_serving.specs.NextRuns.{IsTrueFolder};
+ghost use Rattle.dv_serving.specs.Outputs.{output_of};
+ghost use Rattle.dv_serving.specs.Readings.{AtReadings};
 ghost use Rattle.dv_stopping.specs.Stops.{leavings};
 ghost use Rattle.dv_cli.specs.Tasks.{Answers, replies_of};
 ghost use Rattle.dv_cli.specs.Words.{task_of};
@@ -33,14 +34,16 @@ pub fn run_until_cut<S: Shelf + Send, I: Source, O: Sink, C: Clock + Send, G: Ga
     // that was found, or made, it has the group of each line whose answer with a mark was written,
     // in order, once, and at most one group more. The bytes that the output has taken are the
     // answers to these lines in turn, and behind them a last line, or a front of one or of the next
-    // answer. Where the folder wasn't opened no line was answered.
-    ensures acknowledges { S.sees.tells → C.sees.tells → IsSettled S.sees shelf →
+    // answer. Where the folder wasn't opened no line was answered. A mailbox that is made has a
+    // reading of the clock, which need not tell it.
+    ensures acknowledges { S.sees.tells → IsSettled S.sees shelf →
         IsTrueFolder (S.sees.files shelf) → (lines : List NamedLine) →
         Answers (task_of (map string_bytes words.now)) I.sees.tells
         (parsed (I.sees.left script.old)) lines →
-        Acknowledges (C.sees.upcoming clock) (S.sees.files shelf) 0 lines result.status
+        AtReadings C.sees.tells (C.sees.upcoming clock) (λ readings.
+        Acknowledges readings (S.sees.files shelf) 0 lines result.status
         (replies_of (task_of (map string_bytes words.now)) (output_of O.sees out.old out.new))
-        (leavings S.sees result.shelf) }
+        (leavings S.sees result.shelf)) }
 {
     let stopping = Stopping::new(shelf, calls);
     run(alloc, words, stopping, script, out, clock, gate)

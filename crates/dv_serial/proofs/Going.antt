@@ -11,7 +11,8 @@ use Rattle.dv_playing.specs.Playing.{Attempt, Play, begin, refused_here, stepped
 use Rattle.dv_playing.proofs.Plays.{goes_on}
 use Rattle.dv_store.specs.Rest.{IsAtRest}
 use Rattle.dv_serial.specs.Following.{IsAt, Keeps}
-use Rattle.dv_serial.specs.Places.{GivesPlay, StandsAt, next_file, play_of}
+use Rattle.dv_serial.specs.Places.{play_of}
+use Rattle.dv_serving.specs.Places.{GivesPlay, StandsAt, next_file}
 use Rattle.dv_serial.specs.Servings.{Serving}
 use Rattle.dv_serial.proofs.Failing.{owed_longer}
 use Rattle.dv_shelf.specs.Sees.{SeesFolder}

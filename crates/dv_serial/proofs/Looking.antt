@@ -1,4 +1,4 @@
--- What is looked up for a session is of the log's messages, and it is met and supplied where the session stands.
+-- What is looked up is met and supplied where the session stands.
 use Rattle.std.proofs.Common.{◌≡◌, ℕ, ◌++◌, Bool, true, false, List, take, drop, length, Result, Ok, Err, refl, sym, ◌∙◌, ap, subst, length-set}
 use Rattle.std.specs.Prelude.{All, OnOk}
 use Rattle.std.proofs.lemmas.List.{take_at}
@@ -27,31 +27,6 @@ use Rattle.dv_serial.specs.Servings.{Serving}
 use Rattle.dv_serial.proofs.Seated.{abreast_with}
 use Rattle.dv_shelf.specs.Sees.{SeesFolder}
 
--- a write reads no message
-pub writes_unread : (c : Command) → is_write c ≡ true → reads_mail c ≡ false
-writes_unread (command.Fetch by_uid set items) write = absurd cc
-writes_unread (command.Search by_uid key) write = absurd cc
-writes_unread c write = refl
-
-pub unread_supplied : (mail : ℕ → Mail) (c : Command) (x : SessionState) (m : Mailbox) (facts : List MailFacts) → reads_mail c ≡ false → AreSupplied mail c x.view m facts
-unread_supplied mail c x m facts unread = λ reads. let no : ◌≡◌ {A = Bool} true false = sym reads ∙ unread in absurd cc
-
-module _ {S C : Type 0} (sees : SeesFolder S) where
-  module _ (log : Log) (debt : Debt) (store : State S C) (there : sees.may_leave store.shelf (sees.files store.shelf)) (rest : IsAtRest sees log debt store) where
-    pub known_here : RestKnows (sees.files store.shelf) log store
-    known_here = rest_knows sees log debt store there rest
-
-    pub messages_known : AreMessages (sees.files store.shelf) store.chain.live.mailbox log.mail
-    messages_known row within = ((rest.stands.keeps (sees.files store.shelf) there).messages row within).held
-
-  -- nothing was read
-  pub reads_nothing : (store : State S C) → ((c : Folder) → sees.left_since store.shelf (sees.moment store.shelf) c → sees.may_leave store.shelf c) → OnlyReads sees store store
-  reads_nothing store now = record {
-    looks = record { same = refl; crash = λ c left. left; since = started sees store.shelf (sees.may_leave store.shelf) now };
-    file = λ is. is;
-    rests = λ log debt rest. rest;
-  }
-
 -- ---- where only the folder was read
 
 module _ {S C : Type 0} (old mid : Serving S C) (looks : OnlyLooksAt old mid) where
@@ -78,11 +53,6 @@ module _ {S C : Type 0} (at : ℕ) (mid new : Serving S C) (only : with_seat at 
   answered_abreast all abreast =
       subst (λ (s : Serving S C). AreAbreast s) only
       (abreast_with mid.store.chain.live.mailbox mid.seats at (seat_at new.seats at) all (subst (λ (s : Serving S C). IsAbreast s.store.chain.live.mailbox (seat_at new.seats at)) (sym only) abreast))
-
--- what holds anyway holds behind Ok
-pub on_ok : {A E : Type 0} (result : Result A E) (P : Type 0) → P → OnOk result P
-on_ok (Ok x) P p = p
-on_ok (Err e) P p = tt
 
 -- as many sessions are there, and the clock isn't read
 pub answered_stays : {S C : Type 0} (at : ℕ) (old mid new : Serving S C) → OnlyLooksAt old mid → with_seat at (seat_at new.seats at) mid ≡ new → (length new.seats ≡ length old.seats) × (new.store.clock ≡ old.store.clock)

@@ -11,6 +11,7 @@ use Rattle.dv_model.specs.Sessions.{Answer, State as SessionState, answer}
 use Rattle.dv_model.specs.Transcripts.{Line, touches_disk, unavailable_count, with_state}
 use Rattle.dv_shelf.specs.Clocks.{behind}
 use Rattle.dv_shelf.specs.Folders.{Folder}
+use Rattle.dv_logfile.proofs.Settling.{looked_settled}
 use Rattle.dv_chain.specs.declared.chain.Chain.{Chain}
 use Rattle.dv_rotation.specs.declared.texts.Turn.{Turn}
 use Rattle.dv_rotation.specs.Texts.{place_of}
@@ -18,18 +19,20 @@ use Rattle.dv_answer.specs.Following.{Follower, IsAbreast}
 use Rattle.dv_playing.specs.Laws.{IsAttempt, IsLine, MayPlay, MayWrite, RiseFrom, failures_of}
 use Rattle.dv_playing.specs.Playing.{Attempt, Failed, Outcome, Play, Rotation, Served, Step, behind_failure, group_here, is_empty, refused_here, step, told, with_group_here}
 use Rattle.dv_store.specs.Rest.{IsAtRest, OnlyReads}
-use Rattle.dv_serial.specs.Faults.{Faults, TellsFailure, faults_between}
+use Rattle.dv_serving.specs.Faults.{Faults, TellsFailure, faults_between}
+use Rattle.dv_serving.specs.Readings.{AreReadings}
 use Rattle.dv_serial.specs.Following.{AreSeated, EndsAt, Follows, Keeps, Leaves, origin_of, with_line}
 use Rattle.dv_serial.specs.Others.{KeepsOthers}
-use Rattle.dv_serial.specs.Places.{IsOwedBehind, StandsAt, play_of}
+use Rattle.dv_serial.specs.Places.{IsOwedBehind, play_of}
+use Rattle.dv_serving.specs.Places.{StandsAt}
 use Rattle.dv_serial.specs.Serves.{IsServed, OnlyLooksAt, seat_at, with_seat}
 use Rattle.dv_serial.specs.Servings.{Serving}
 use Rattle.dv_serial.specs.Writes.{StandsAs}
-use Rattle.dv_serial.proofs.Counting.{AreAvailable, answer_available, counts_none, failures_on, one_available, rose_none, rose_since, told_failures}
+use Rattle.dv_serving.proofs.Counting.{AreAvailable, answer_available, counts_none, failures_on, one_available, rose_none, rose_since, told_failures}
 use Rattle.dv_serial.proofs.Crashing.{first_between, looks_between, stays_between}
 use Rattle.dv_serial.proofs.Failing.{owed_longer}
 use Rattle.dv_serial.proofs.Going.{WritesNothing, at_on, refused_stays, same_writes_nothing}
-use Rattle.dv_serial.proofs.Refusals.{refused_available}
+use Rattle.dv_serving.proofs.Refusals.{refused_available}
 use Rattle.dv_serial.proofs.Seated.{seated_with, state_at}
 use Rattle.dv_serial.proofs.Untouched.{same_others}
 use Rattle.dv_serial.proofs.Stepping.{attempt, failed_step, may_on, play_on, refused_step, served_step}
@@ -66,6 +69,7 @@ module _ {S C : Type 0} (sees : SeesFolder S) (ticks : SeesTime C) (clock : ℕ 
     rests = is.rests;
     readings = is.readings;
     since = is.since;
+    settled = is.settled;
   }
 
   -- the log is kept where the play of the lines stands, but for its sessions
@@ -85,7 +89,7 @@ module _ {S C : Type 0} (sees : SeesFolder S) (ticks : SeesTime C) (clock : ℕ 
 
   pub stands_leaves : (first lines : List Attempt) (play : Play) (states : ℕ → SessionState) (old new : Serving S C) → play_of clock start lines ≡ record play { states = states }
       → StandsAs sees ticks clock start first lines play old new → Leaves sees clock start first lines old new
-  stands_leaves first lines play states old new same is = record { keeps = stands_keeps first lines play states old new same is; since = is.since }
+  stands_leaves first lines play states old new same is = record { keeps = stands_keeps first lines play states old new same is; since = is.since; settled = is.settled }
 
   module _ (base : ℕ) (attempts : List Attempt) where
     abbrev here : Play
@@ -103,6 +107,7 @@ module _ {S C : Type 0} (sees : SeesFolder S) (ticks : SeesTime C) (clock : ℕ 
         rests = follows.keeps.rests;
         readings = follows.readings;
         since = stays_between sees clock start attempts old follows.keeps now;
+        settled = λ stayed settled. settled;
       }
 
       -- the folder is only read
@@ -115,15 +120,16 @@ module _ {S C : Type 0} (sees : SeesFolder S) (ticks : SeesTime C) (clock : ℕ 
               rotates = keeps.at.rotates;
               groups = keeps.at.groups ∙ sym looks.groups;
               mailbox = keeps.at.mailbox ∙ sym (ap (λ (x : Chain). x.live.mailbox) chain);
-              mark = keeps.at.mark ∙ sym looks.mark;
+              mark = keeps.at.mark ∙ sym looks.store.mark;
               place = subst (λ (x : Chain). StandsAt here.begun here.mark (place_of x) mid.store.owed) (sym chain)
                   (subst (λ (x : Option Turn). StandsAt here.begun here.mark (place_of old.store.chain) x) (sym looks.store.owed) keeps.at.place);
             };
             debt = keeps.debt;
             owed = subst (λ (x : Chain). IsOwedBehind clock start attempts (place_of x) keeps.debt) (sym chain) keeps.owed;
             rests = reads.rests here.log keeps.debt keeps.rests;
-            readings = ap ticks.upcoming looks.store.clock ∙ follows.readings;
+            readings = λ reads. ap ticks.upcoming looks.store.clock ∙ follows.readings reads;
             since = looks_between sees clock start attempts old keeps mid.store.shelf reads.looks.since;
+            settled = looked_settled sees old.store.shelf mid.store.shelf reads.looks.same reads.looks.crash;
           }
 
     -- a line that writes nothing
@@ -134,8 +140,9 @@ module _ {S C : Type 0} (sees : SeesFolder S) (ticks : SeesTime C) (clock : ℕ 
       debt = is.debt;
       owed = owed_longer clock start attempts (attempt line outcome) (place_of new.store.chain) nothing.log nothing.mailbox nothing.mark is.debt is.owed;
       rests = subst (λ (p : Play). IsAtRest sees p.log is.debt new.store) (sym same) is.rests;
-      readings = is.readings ∙ ap (λ (p : Play). behind clock p.used) (sym same);
+      readings = λ reads. is.readings reads ∙ ap (λ (p : Play). behind clock p.used) (sym same);
       since = first_between sees old.store.shelf new.store.shelf clock start attempts (with_line attempts line outcome) is.since;
+      settled = is.settled;
     }
 
     -- ---- memory ended it
@@ -169,11 +176,11 @@ module _ {S C : Type 0} (sees : SeesFolder S) (ticks : SeesTime C) (clock : ℕ 
 
     -- where the step stands
     served_on : (faults : Faults) (line : Line) (outcome : Outcome) (play : Play) (states : ℕ → SessionState) (replies : List Reply) (old new : Serving S C) → step clock here (attempt line outcome) ≡ record { replies = replies; play = record play { states = states } }
-        → MayPlay clock start base faults.now (with_line attempts line outcome) → RiseFrom base (failures_of attempts) faults.before → TellsFailure faults outcome → AreSeated new.store.chain.live.mailbox states new.seats
+        → MayPlay clock start base faults.now (with_line attempts line outcome) → AreReadings clock → RiseFrom base (failures_of attempts) faults.before → TellsFailure faults outcome → AreSeated new.store.chain.live.mailbox states new.seats
         → KeepsOthers clock start (with_line attempts line outcome) (sees.files old.store.shelf) (sees.files new.store.shelf)
         → StandsAs sees ticks clock start attempts (with_line attempts line outcome) play old new
         → IsServed sees ticks (origin_of clock start base) faults attempts line replies old new
-    served_on faults line outcome play states replies old new steps may before told seated others is =
+    served_on faults line outcome play states replies old new steps may small before told seated others is =
         let same : play_of clock start (with_line attempts line outcome) ≡ record play { states = states } = play_on clock start base attempts (attempt line outcome) ∙ ap (λ (s : Step). s.play) steps in
         record {
           outcome = outcome;
@@ -183,10 +190,12 @@ module _ {S C : Type 0} (sees : SeesFolder S) (ticks : SeesTime C) (clock : ℕ 
             may = may;
             failures = failures_on base attempts (attempt line outcome ∷ []) faults before (told_failures faults (attempt line outcome) told);
             keeps = stands_keeps attempts (with_line attempts line outcome) play states old new same is;
-            readings = is.readings ∙ ap (λ (p : Play). behind clock p.used) (sym same);
+            small = small;
+            readings = λ reads. is.readings reads ∙ ap (λ (p : Play). behind clock p.used) (sym same);
             seats = subst (λ (p : Play). AreSeated new.store.chain.live.mailbox p.states new.seats) (sym same) seated;
           };
           since = is.since;
+          settled = is.settled;
           others = others;
         }
 
@@ -211,7 +220,7 @@ module _ {S C : Type 0} (sees : SeesFolder S) (ticks : SeesTime C) (clock : ℕ 
           let available : AreAvailable (r ∷ []) = one_available r (refused_available here line r refused) in
           let stays = refused_stays clock start attempts (attempt line Served) r refused in
           subst (λ (rs : List Reply). IsServed sees ticks (origin_of clock start base) (faults_between before faults) attempts line rs old new) (sym lines)
-          (served_on (faults_between before faults) line Served here here.states (r ∷ []) old new steps (may_quietly (r ∷ []) here steps available) follows.failures later (seated_same new seats mailbox) others
+          (served_on (faults_between before faults) line Served here here.states (r ∷ []) old new steps (may_quietly (r ∷ []) here steps available) follows.small follows.failures later (seated_same new seats mailbox) others
           (stands_on line Served here old new refl (same_writes_nothing here (play_of clock start (with_line attempts line Served)) stays) is))
 
       module _ (allowed : refused_here here line ≡ None) where
@@ -225,7 +234,7 @@ module _ {S C : Type 0} (sees : SeesFolder S) (ticks : SeesTime C) (clock : ℕ 
             (served_on (faults_between before faults) line (Failed count rotation) (behind_failure here line rotation) here.states (reply.Unavailable count ∷ []) old new steps
             (may_on clock start base attempts before faults (attempt line (Failed count rotation)) follows.may (failed_attempt count rotation is_count rose)
             (subst (λ (n : ℕ). RoseBy n before faults) (sym (ap (λ (s : Step). unavailable_count (s.replies ∷ [])) steps)) rose))
-            follows.failures (rose, is_count)
+            follows.small follows.failures (rose, is_count)
             (seated_same new seats mailbox) others is)
           where
             failed_attempt : (n : ℕ) (turned : Rotation) → n ≡ faults → Rose before faults → IsAttempt base (attempt line (Failed n turned))
@@ -236,7 +245,7 @@ module _ {S C : Type 0} (sees : SeesFolder S) (ticks : SeesTime C) (clock : ℕ 
             → StandsAs sees ticks clock start attempts (with_line attempts line Served) (with_group_here clock here line) old mid
             → AreSeated mid.store.chain.live.mailbox here.states mid.seats → IsAbreast mid.store.chain.live.mailbox (seat_at new.seats at)
             → record { replies = replies; next = (seat_at new.seats at).state }
-            ≡ answer (with_group_here clock here line).log.mail (seat_at mid.seats at).state line.1 old.store.chain.live.mailbox mid.groups mid.store.chain.live.mailbox mid.mark
+            ≡ answer (with_group_here clock here line).log.mail (seat_at mid.seats at).state line.1 old.store.chain.live.mailbox mid.groups mid.store.chain.live.mailbox mid.store.mark
             → with_seat at (seat_at new.seats at) mid ≡ new → IsServed sees ticks (origin_of clock start base) (faults_between before faults) attempts line replies old new
         told_serves at mid new replies number less others is seated abreast answered only =
             let play : Play = with_group_here clock here line in
@@ -245,7 +254,7 @@ module _ {S C : Type 0} (sees : SeesFolder S) (ticks : SeesTime C) (clock : ℕ 
             let a : Answer = answer play.log.mail (here.states line.0) line.1 here.mailbox (length play.log.entries) play.mailbox play.mark in
             let steps : step clock here (attempt line Served) ≡ told here line play = served_step clock here line allowed in
             let same : record { replies = replies; next = f.state } ≡ a =
-            answered_so play.log.mail (seat_at mid.seats at).state (here.states line.0) line old.store.chain.live.mailbox m here.mailbox mid.groups play.mailbox (length play.log.entries) mid.mark play.mark (record { replies = replies; next = f.state })
+            answered_so play.log.mail (seat_at mid.seats at).state (here.states line.0) line old.store.chain.live.mailbox m here.mailbox mid.groups play.mailbox (length play.log.entries) mid.store.mark play.mark (record { replies = replies; next = f.state })
             (state_at m here.states mid.seats seated at less ∙ ap here.states (sym number)) (sym follows.keeps.at.mailbox) (sym is.at.groups) (sym is.at.mailbox) (sym is.at.mark) answered in
             let states_are : with_state here.states (at + 1) f.state ≡ with_state play.states line.0 a.next =
             ap (λ (st : ℕ → SessionState). with_state st (at + 1) f.state) (sym (group_states clock here line))
@@ -255,6 +264,6 @@ module _ {S C : Type 0} (sees : SeesFolder S) (ticks : SeesTime C) (clock : ℕ 
             (subst (λ (n : Serving S C). IsServed sees ticks (origin_of clock start base) (faults_between before faults) attempts line a.replies old n) only
             (served_on (faults_between before faults) line Served play (with_state play.states line.0 a.next) a.replies old (with_seat at f mid) steps
             (may_quietly a.replies (told here line play).play steps (answer_available play.log.mail (here.states line.0) line.1 here.mailbox (length play.log.entries) play.mailbox play.mark))
-            follows.failures later
+            follows.small follows.failures later
             (subst (λ (st : ℕ → SessionState). AreSeated m st (with_seat at f mid).seats) states_are (seated_with m here.states mid.seats seated at f less abreast)) others
             (stands_seats attempts (with_line attempts line Served) play old mid (with_seat at f mid).seats is)))

@@ -17,22 +17,22 @@ use Rattle.dv_plans.specs.declared.fault.StoreFault.TheVariants as fault
 use Rattle.dv_plans.specs.Faults.{HasStoreCause}
 use Rattle.dv_playing.specs.Laws.{IsAbove, IsLine, MayWrite}
 use Rattle.dv_playing.specs.Playing.{Attempt, DueAgain, Failed, Play, Rotation, Served, Step, behind_failure, group_here, is_empty, refused_here, step, told, with_group_here}
-use Rattle.dv_store.specs.Commits as writing
 use Rattle.dv_store.specs.Faults.{IsFailure}
 use Rattle.dv_store.specs.Rest.{OnlyReads}
-use Rattle.dv_serial.specs.Faults.{TellsFailure, faults_between}
+use Rattle.dv_serving.specs.Faults.{TellsFailure, faults_between}
 use Rattle.dv_serial.specs.Following.{EndsAt, Follows, HasStates, origin_of, with_line}
-use Rattle.dv_serial.specs.Lines.{IsFaultLine}
-use Rattle.dv_serial.specs.Others.{KeepsOthers, LeavesOthers}
+use Rattle.dv_serving.specs.Lines.{IsFaultLine}
+use Rattle.dv_serial.specs.Others.{KeepsOthers}
+use Rattle.dv_serving.specs.Commits.{LeavesOthers, MayChangeHere}
 use Rattle.dv_serial.specs.Places.{play_of}
 use Rattle.dv_serial.specs.Serves.{OnlyLooksAt, Serves, seat_at, with_seat}
 use Rattle.dv_serial.specs.Servings.{Serving}
 use Rattle.dv_serial.specs.Writes.{Commits, IsDone, StandsAs}
-use Rattle.dv_serial.proofs.Counting.{rose_since}
-use Rattle.dv_serial.proofs.Crashing.{write_touches}
+use Rattle.dv_serving.proofs.Counting.{rose_since}
+use Rattle.dv_serving.proofs.Crashing.{write_touches}
 use Rattle.dv_serial.proofs.Going.{WritesNothing}
 use Rattle.dv_serial.proofs.Outcomes.{ends_behind, ends_here, ends_stands, failed_serves, refused_serves, seated_same, stands_on, stands_read, stands_seats, stands_still, told_serves}
-use Rattle.dv_serial.proofs.Refusals.{own_refuses}
+use Rattle.dv_serving.proofs.Refusals.{own_refuses}
 use Rattle.dv_serial.proofs.Seated.{seated_told}
 use Rattle.dv_serial.proofs.Stepping.{attempt, failed_stays, failed_step, play_on, read_stays, served_step}
 use Rattle.dv_serial.proofs.Untouched.{same_others, write_others}
@@ -104,13 +104,13 @@ module _ {S C : Type 0} (sees : SeesFolder S) (ticks : SeesTime C) (clock : ℕ 
       -- it is answered
       pub read_told : {E : Type 0} (at : ℕ) (new : Serving S C) (result : Result (List Reply) E) → line.0 ≡ at + 1 → at < length mid.seats → IsAbreast mid.store.chain.live.mailbox (seat_at new.seats at)
           → IfOk result (λ replies. record { replies = replies; next = (seat_at new.seats at).state }
-          ≡ answer here.log.mail (seat_at mid.seats at).state line.1 old.store.chain.live.mailbox mid.groups mid.store.chain.live.mailbox mid.mark)
+          ≡ answer here.log.mail (seat_at mid.seats at).state line.1 old.store.chain.live.mailbox mid.groups mid.store.chain.live.mailbox mid.store.mark)
           → with_seat at (seat_at new.seats at) mid ≡ new → OnErr result (new ≡ mid) → IsResult result new
       read_told at new (Ok replies) number less abreast answered only stays =
           told_serves sees ticks clock start base attempts before faults line old follows good later allowed at mid new replies number less (same_others clock start (sees.files old.store.shelf) (sees.files mid.store.shelf) (with_line attempts line Served) reads.looks.same)
           (stands_on sees ticks clock start base attempts line Served (with_group_here clock here line) old mid (read_stays clock here line read) told_nothing stands)
           (seated_same sees ticks clock start base attempts before faults line old follows good later mid looks.seats same_mailbox) abreast
-          (subst (λ (p : Play). record { replies = replies; next = (seat_at new.seats at).state } ≡ answer p.log.mail (seat_at mid.seats at).state line.1 old.store.chain.live.mailbox mid.groups mid.store.chain.live.mailbox mid.mark)
+          (subst (λ (p : Play). record { replies = replies; next = (seat_at new.seats at).state } ≡ answer p.log.mail (seat_at mid.seats at).state line.1 old.store.chain.live.mailbox mid.groups mid.store.chain.live.mailbox mid.store.mark)
           (sym (read_stays clock here line read)) answered)
           only
       read_told at new (Err e) number less abreast answered only stays =
@@ -129,16 +129,16 @@ module _ {S C : Type 0} (sees : SeesFolder S) (ticks : SeesTime C) (clock : ℕ 
   module _ (write : is_write line.1 ≡ true) (mid : Serving S C) where
     -- nothing is written
     pub write_failed : {A E : Type 0} (f : StoreFault) (result : Result (List Reply) E) → Commits sees ticks clock start attempts line old (Err f) mid → HasStoreCause {A = A} before faults (Err f) → mid.seats ≡ old.seats
-        → LeavesOthers {A = A} line.1 old.store.chain.live.mailbox (Err f) (sees.files old.store.shelf) (sees.files mid.store.shelf) → IfOk result (IsFaultLine f) → IsResult result mid
+        → LeavesOthers {A = A} here line (Err f) (sees.files old.store.shelf) (sees.files mid.store.shelf) → IfOk result (IsFaultLine f) → IsResult result mid
     write_failed (fault.Disk count) (Ok lines) commits cause seats others is =
         failed_serves sees ticks clock start base attempts before faults line old follows good later commits.allowed count commits.rotation mid lines (write_touches line write) cause.rose.0 cause.rose.1 seats commits.mailbox is
-        (write_others clock start (sees.files old.store.shelf) (sees.files mid.store.shelf) attempts line (Failed count commits.rotation) old.store.chain.live.mailbox write follows.keeps.at.mailbox others) commits.stands
+        (write_others clock start (sees.files old.store.shelf) (sees.files mid.store.shelf) attempts line (Failed count commits.rotation) others) commits.stands
     write_failed (fault.Disk count) (Err e) commits cause seats others is =
         let steps = failed_step clock here line count commits.rotation commits.allowed (write_touches line write) in
         ends_behind sees ticks clock start base attempts (faults_between before faults) line (Failed count commits.rotation) (behind_failure here line commits.rotation) here.states old mid (ap (λ (s : Step). s.play) steps)
         (record { line = good; count = rose_so count commits.rotation cause.rose })
         (inl (ap (λ (s : Step). s.play.log) steps))
-        (write_others clock start (sees.files old.store.shelf) (sees.files mid.store.shelf) attempts line (Failed count commits.rotation) old.store.chain.live.mailbox write follows.keeps.at.mailbox others) (told_so count commits.rotation cause.rose) commits.stands
+        (write_others clock start (sees.files old.store.shelf) (sees.files mid.store.shelf) attempts line (Failed count commits.rotation) others) (told_so count commits.rotation cause.rose) commits.stands
       where
         told_so : (n : ℕ) (turned : Rotation) → (n ≡ faults) × Rose before faults → TellsFailure (faults_between before faults) (Failed n turned)
         told_so n turned both = (both.1, both.0)
@@ -155,7 +155,7 @@ module _ {S C : Type 0} (sees : SeesFolder S) (ticks : SeesTime C) (clock : ℕ 
     write_failed fault.NoMemory (Err e) commits cause seats others is = ends_here sees ticks clock start base attempts (faults_between before faults) line old mid later others commits
 
     module _ (touched : List ℕ) (done : IsDone sees ticks clock start attempts line touched old mid)
-        (others : (n : Name) → (writing.MayWrite line.1 old.store.chain.live.mailbox n → ⊥) → sees.files mid.store.shelf n ≡ sees.files old.store.shelf n) (seats : List Follower) where
+        (others : (n : Name) → (MayChangeHere here line n → ⊥) → sees.files mid.store.shelf n ≡ sees.files old.store.shelf n) (seats : List Follower) where
       -- some sessions were told
       abbrev part : Serving S C
       part = record mid { seats = seats }
@@ -170,7 +170,7 @@ module _ {S C : Type 0} (sees : SeesFolder S) (ticks : SeesTime C) (clock : ℕ 
       steps = served_step clock here line done.allowed
 
       kept : KeepsOthers clock start (with_line attempts line Served) (sees.files old.store.shelf) (sees.files mid.store.shelf)
-      kept = write_others clock start (sees.files old.store.shelf) (sees.files mid.store.shelf) attempts line Served old.store.chain.live.mailbox write follows.keeps.at.mailbox others
+      kept = write_others clock start (sees.files old.store.shelf) (sees.files mid.store.shelf) attempts line Served others
 
       -- it wrote nothing, or its group is the last
       left_log : ((step clock here (attempt line Served)).play.log ≡ here.log) ⊎ ((Served ≡ Served) × MayWrite here line)
@@ -189,7 +189,7 @@ module _ {S C : Type 0} (sees : SeesFolder S) (ticks : SeesTime C) (clock : ℕ 
       pub write_told : {E : Type 0} (at : ℕ) (new : Serving S C) (result : Result (List Reply) E) → line.0 ≡ at + 1 → at < length seats → HasStates old.seats seats → All (IsAbreast mid.store.chain.live.mailbox) seats
           → IsAbreast mid.store.chain.live.mailbox (seat_at new.seats at)
           → IfOk result (λ replies. record { replies = replies; next = (seat_at new.seats at).state }
-          ≡ answer group.log.mail (seat_at seats at).state line.1 old.store.chain.live.mailbox mid.groups mid.store.chain.live.mailbox mid.mark)
+          ≡ answer group.log.mail (seat_at seats at).state line.1 old.store.chain.live.mailbox mid.groups mid.store.chain.live.mailbox mid.store.mark)
           → with_seat at (seat_at new.seats at) part ≡ new → OnErr result (new ≡ part) → IsResult result new
       write_told at new (Ok replies) number less has all abreast answered only stays =
           told_serves sees ticks clock start base attempts before faults line old follows good later done.allowed at part new replies number less kept part_stands

@@ -15,6 +15,8 @@ use Rattle.dv_shelf.specs.Crashes.{LeavesOnly}
 use Rattle.dv_shelf.specs.Folders.{Folder}
 use Rattle.dv_shelf.specs.Streams.{Appends, AppendsFront}
 use Rattle.dv_shelf.proofs.Moments.{joined, weaker}
+use Rattle.dv_logfile.specs.Settling.{StaysSettled}
+use Rattle.dv_logfile.proofs.Settling.{settled_then}
 use Rattle.dv_formats.specs.Scripts.{NamedLine, sessions_of}
 use Rattle.dv_playing.specs.Laws.{IsAttempt, MayPlay, MayWrite, RiseFrom, failures_of, lines_of}
 use Rattle.dv_playing.proofs.Failures.{rise_more}
@@ -22,21 +24,22 @@ use Rattle.dv_playing.specs.Playing.{Attempt, Failed, Outcome, Play, Served, beg
 use Rattle.dv_playing.proofs.Plays.{replies_go_on}
 use Rattle.dv_serial.specs.declared.lines.LineEnd.{LineEnd}
 use Rattle.dv_serial.specs.declared.lines.LineEnd.TheVariants as line_end
-use Rattle.dv_serial.specs.Faults.{Faults, faults_between}
+use Rattle.dv_serving.specs.Faults.{Faults, faults_between}
 use Rattle.dv_serial.specs.Following.{EndsAt, Follows, Keeps, MayBeLeft, origin_of}
 use Rattle.dv_serial.specs.Others.{KeepsOthers, MayTouch}
 use Rattle.dv_serial.specs.Places.{GivesBetween, MayGive, play_of}
 use Rattle.dv_serial.specs.Runs.{IsTried, Runs, RunsLine}
-use Rattle.dv_serial.specs.Scripts.{answer_text, numbered, numbered_by, replies_text}
-use Rattle.dv_serial.specs.Serves.{IsServed, TakesUpTo}
+use Rattle.dv_serving.specs.Scripts.{answer_text, numbered, numbered_by, replies_text}
+use Rattle.dv_serial.specs.Serves.{IsServed}
+use Rattle.dv_serving.specs.Readings.{TakesUpTo}
 use Rattle.dv_serial.specs.Servings.{Serving}
-use Rattle.dv_serial.proofs.Counting.{failures_on, rose_more}
+use Rattle.dv_serving.proofs.Counting.{failures_on, rose_more}
 use Rattle.dv_serial.proofs.Crashing.{between_may, more_may}
-use Rattle.dv_serial.proofs.Places.{without_group}
+use Rattle.dv_serving.proofs.Places.{without_group}
 use Rattle.dv_serial.proofs.Stepping.{reads_none}
 use Rattle.dv_serial.proofs.Turns.{IsNext, numbers_more, numbers_parts}
 use Rattle.dv_shelf.specs.Sees.{SeesFolder, SeesTime}
-use Rattle.dv_serial.specs.Outputs.{output_with}
+use Rattle.dv_serving.specs.Outputs.{output_with}
 
 -- ---- a line that was served and isn't answered
 
@@ -86,12 +89,12 @@ served_log clock play a served write =
 
 -- ---- texts
 
-no_texts : (lines : List NamedLine) → replies_text lines [] ≡ []
+pub no_texts : (lines : List NamedLine) → replies_text lines [] ≡ []
 no_texts [] = refl
 no_texts (line ∷ lines) = refl
 
 -- the text of one line more
-texts_more : (lines : List NamedLine) (all : List (List Reply)) (replies : List Reply) (line : NamedLine)
+pub texts_more : (lines : List NamedLine) (all : List (List Reply)) (replies : List Reply) (line : NamedLine)
     → length all < length lines → line ≡ get_or lines (length all) line
     → replies_text lines (all ++ replies ∷ []) ≡ replies_text lines all ++ answer_text line replies
 texts_more [] all replies line less is = absurd (omega (arith, less))
@@ -125,18 +128,6 @@ pub of_error : (P : Result (Unit {0}) LineEnd → Type 0) (result : Result (Unit
 of_error P (Ok done) e err same p = absurd cc
 of_error P (Err x) e err same p = subst (λ (y : LineEnd). P (Err y)) (sym same) p
 
--- ---- readings of the clock
-
-pub takes_none : (upcoming : ℕ → ℕ) → TakesUpTo 0 upcoming upcoming
-takes_none upcoming = (0, omega arith, fun_ext (λ k. ap upcoming (omega arith)))
-
-pub takes_more : (m n most : ℕ) (old mid new : ℕ → ℕ) → TakesUpTo m old mid → TakesUpTo n mid new → m + n ≤ most → TakesUpTo most old new
-takes_more m n most old mid new first second less = (
-  first.0 + second.0,
-  omega (arith, first.1, second.1, less),
-  fun_ext (λ k. ap (λ (f : ℕ → ℕ). f k) second.2 ∙ ap (λ (f : ℕ → ℕ). f (second.0 + k)) first.2 ∙ ap old (omega arith)),
-)
-
 -- ---- files that stay
 
 touch_longer : (clock : ℕ → ℕ) (start : Log) (attempts more : List Attempt) (n : Name) → MayTouch clock start attempts n → MayTouch clock start (attempts ++ more) n
@@ -145,8 +136,7 @@ touch_longer clock start attempts more n touch = record {
   back = touch.back ++ more;
   attempt = touch.attempt;
   parts = ap (λ l. l ++ more) touch.parts ∙ append_assoc touch.front (touch.attempt ∷ touch.back) more;
-  write = touch.write;
-  writes = touch.writes;
+  changes = touch.changes;
 }
 
 -- over some lines, and then over more
@@ -165,23 +155,29 @@ module _ {S C : Type 0} (sees : SeesFolder S)
     pub numbers : lines_of answered ≡ map (numbered_by (sessions_of lines)) (take count lines)
     pub follows : Follows sees ticks (origin_of clock start base) faults answered new
     pub since : LeavesOnly sees old.store.shelf new.store.shelf (MayGive clock start answered)
+    pub settled : StaysSettled sees old.store.shelf new.store.shelf
     pub others : KeepsOthers clock start answered (sees.files old.store.shelf) (sees.files new.store.shelf)
     pub output : told → Appends taken taken_now (replies_text lines (replies_to clock (begin start) answered))
 
+  -- the count of faults doesn't fall
+  abbrev pub Counted : Serving S C → Serving S C → Type 0
+  Counted mid new = (sees.fault_count old.store.shelf ≤ sees.fault_count mid.store.shelf) × (sees.fault_count mid.store.shelf ≤ sees.fault_count new.store.shelf)
+
   -- none is yet
-  pub to_none : (faults : ℕ) → Follows sees ticks (origin_of clock start base) faults [] old
+  abbrev pub to_none : (faults : ℕ) → Follows sees ticks (origin_of clock start base) faults [] old
       → LeavesOnly sees old.store.shelf old.store.shelf (MayGive clock start []) → RunsTo faults 0 taken old
   to_none faults follows since = record {
     answered = [];
     numbers = refl;
     follows = follows;
     since = since;
+    settled = λ stayed settled. settled;
     others = λ n none. refl;
     output = λ tells. sym (ap (λ t. taken ++ t) (no_texts lines) ∙ append-nil taken);
   }
 
   -- behind the last one
-  pub to_done : (faults count : ℕ) (taken_now : List ℕ) (new : Serving S C) (done : Unit {0}) → length lines ≤ count → RunsTo faults count taken_now new
+  abbrev pub to_done : (faults count : ℕ) (taken_now : List ℕ) (new : Serving S C) (done : Unit {0}) → length lines ≤ count → RunsTo faults count taken_now new
       → Runs sees ticks (origin_of clock start base) faults lines (Ok done) (output_with told taken taken_now) old new
   to_done faults count taken_now new done all so_far = record {
     answered = so_far.answered;
@@ -193,6 +189,7 @@ module _ {S C : Type 0} (sees : SeesFolder S)
     failures = subst (λ (all : List Attempt). RiseFrom base (failures_of all) faults) (sym (append-nil so_far.answered)) so_far.follows.failures;
     keeps = subst (λ (all : List Attempt). Keeps sees clock start all new) (sym (append-nil so_far.answered)) so_far.follows.keeps;
     since = subst (λ (all : List Attempt). LeavesOnly sees old.store.shelf new.store.shelf (MayGive clock start all)) (sym (append-nil so_far.answered)) so_far.since;
+    settled = so_far.settled;
     others = subst (λ (all : List Attempt). KeepsOthers clock start all (sees.files old.store.shelf) (sees.files new.store.shelf)) (sym (append-nil so_far.answered)) so_far.others;
     readings = so_far.follows.readings;
     output = so_far.output;
@@ -202,24 +199,24 @@ module _ {S C : Type 0} (sees : SeesFolder S)
 
   module _ (before faults count session : ℕ) (line : NamedLine) (taken_then taken_now : List ℕ) (mid new : Serving S C)
       (next : IsNext lines count session line) (so_far : RunsTo before count taken_then mid) where
-    abbrev answered : List Attempt
+    abbrev pub answered : List Attempt
     answered = so_far.answered
 
-    abbrev behind_lines : List transcripts.Line
+    abbrev pub behind_lines : List transcripts.Line
     behind_lines = (session, line.1) ∷ map (numbered_by (sessions_of lines)) (drop (count + 1) lines)
 
-    all_lines : numbered lines ≡ lines_of answered ++ behind_lines
+    pub all_lines : numbered lines ≡ lines_of answered ++ behind_lines
     all_lines = numbers_parts lines count session line next ∙ ap (λ ls. ls ++ behind_lines) (sym so_far.numbers)
 
-    answered_length : length answered ≡ count
+    pub answered_length : length answered ≡ count
     answered_length =
         sym (length-map answered (λ (a : Attempt). a.line)) ∙ ap length so_far.numbers
         ∙ length-map (take count lines) (numbered_by (sessions_of lines)) ∙ length-take-le count lines (omega (arith, next.less))
 
-    replied : length (replies_to clock (begin start) answered) ≡ count
+    pub replied : length (replies_to clock (begin start) answered) ≡ count
     replied = replies_length clock (begin start) answered ∙ answered_length
 
-    may_later : before ≤ faults → MayPlay clock start base faults answered
+    pub may_later : before ≤ faults → MayPlay clock start base faults answered
     may_later later = record {
       sound = so_far.follows.may.sound;
       new = so_far.follows.may.new;
@@ -227,20 +224,23 @@ module _ {S C : Type 0} (sees : SeesFolder S)
       few = rose_more (unavailable_count (replies_to clock (begin start) answered)) base before faults so_far.follows.may.few later;
     }
 
-    since_both : (more : List Attempt) → LeavesOnly sees mid.store.shelf new.store.shelf (GivesBetween clock start answered (answered ++ more))
+    pub since_both : (more : List Attempt) → LeavesOnly sees mid.store.shelf new.store.shelf (GivesBetween clock start answered (answered ++ more))
         → LeavesOnly sees old.store.shelf new.store.shelf (MayGive clock start (answered ++ more))
     since_both more since =
         joined sees old.store.shelf mid.store.shelf new.store.shelf (MayGive clock start (answered ++ more))
         (more_may sees old.store.shelf mid.store.shelf clock start answered more so_far.since)
         (weaker sees mid.store.shelf new.store.shelf (GivesBetween clock start answered (answered ++ more)) (MayGive clock start (answered ++ more)) since (λ c. between_may clock start answered more c))
 
-    others_both : (more : List Attempt) → KeepsOthers clock start (answered ++ more) (sees.files mid.store.shelf) (sees.files new.store.shelf) → KeepsOthers clock start (answered ++ more) (sees.files old.store.shelf) (sees.files new.store.shelf)
+    pub settled_both : Counted mid new → StaysSettled sees mid.store.shelf new.store.shelf → StaysSettled sees old.store.shelf new.store.shelf
+    settled_both counted one = settled_then sees old.store.shelf mid.store.shelf new.store.shelf counted.0 counted.1 so_far.settled one
+
+    pub others_both : (more : List Attempt) → KeepsOthers clock start (answered ++ more) (sees.files mid.store.shelf) (sees.files new.store.shelf) → KeepsOthers clock start (answered ++ more) (sees.files old.store.shelf) (sees.files new.store.shelf)
     others_both more others = keep_both clock start answered more (sees.files old.store.shelf) (sees.files mid.store.shelf) (sees.files new.store.shelf) so_far.others others
 
     -- memory ended it
-    pub to_ended : EndsAt sees (origin_of clock start base) (faults_between before faults) answered (session, line.1) mid new → (told → taken_now ≡ taken_then) → before ≤ faults
+    abbrev pub to_ended : EndsAt sees (origin_of clock start base) (faults_between before faults) answered (session, line.1) mid new → (told → taken_now ≡ taken_then) → before ≤ faults → Counted mid new
         → Runs sees ticks (origin_of clock start base) faults lines (Err line_end.NoMemory) (output_with told taken taken_now) old new
-    to_ended ends none later = record {
+    to_ended ends none later counted = record {
       answered = answered;
       left = ends.left;
       rest = behind_lines;
@@ -250,13 +250,14 @@ module _ {S C : Type 0} (sees : SeesFolder S)
       failures = failures_on base answered ends.left (faults_between before faults) so_far.follows.failures ends.failures;
       keeps = ends.leaves.keeps;
       since = since_both ends.left ends.leaves.since;
+      settled = settled_both counted ends.leaves.settled;
       others = others_both ends.left ends.others;
-      readings = tt;
+      readings = λ reads. tt;
       output = λ tells. none tells ∙ so_far.output tells;
     }
 
     -- memory ended the run before it was begun
-    pub to_unbegun : before ≤ faults → Runs sees ticks (origin_of clock start base) faults lines (Err line_end.NoMemory) (output_with told taken taken_then) old mid
+    abbrev pub to_unbegun : before ≤ faults → Runs sees ticks (origin_of clock start base) faults lines (Err line_end.NoMemory) (output_with told taken taken_then) old mid
     to_unbegun later = record {
       answered = answered;
       left = [];
@@ -267,23 +268,25 @@ module _ {S C : Type 0} (sees : SeesFolder S)
       failures = subst (λ (all : List Attempt). RiseFrom base (failures_of all) faults) (sym (append-nil answered)) (rise_more base before faults (failures_of answered) so_far.follows.failures later);
       keeps = subst (λ (all : List Attempt). Keeps sees clock start all mid) (sym (append-nil answered)) so_far.follows.keeps;
       since = subst (λ (all : List Attempt). LeavesOnly sees old.store.shelf mid.store.shelf (MayGive clock start all)) (sym (append-nil answered)) so_far.since;
+      settled = so_far.settled;
       others = subst (λ (all : List Attempt). KeepsOthers clock start all (sees.files old.store.shelf) (sees.files mid.store.shelf)) (sym (append-nil answered)) so_far.others;
-      readings = tt;
+      readings = λ reads. tt;
       output = so_far.output;
     }
 
     -- it was served
     module _ (replies : List Reply) (served : IsServed sees ticks (origin_of clock start base) (faults_between before faults) answered (session, line.1) replies mid new) where
-      abbrev one : Attempt
+      abbrev pub one : Attempt
       one = record { line = (session, line.1); outcome = served.outcome }
 
       -- and answered
-      pub to_more : (told → Appends taken_then taken_now (answer_text line replies)) → RunsTo faults (count + 1) taken_now new
-      to_more output = record {
+      abbrev pub to_more : (told → Appends taken_then taken_now (answer_text line replies)) → Counted mid new → RunsTo faults (count + 1) taken_now new
+      to_more output counted = record {
         answered = answered ++ one ∷ [];
         numbers = map-append (λ (a : Attempt). a.line) answered (one ∷ []) ∙ ap (λ ls. ls ++ (session, line.1) ∷ []) so_far.numbers ∙ sym (numbers_more lines count session line next);
         follows = served.follows;
         since = since_both (one ∷ []) served.since;
+        settled = settled_both counted served.settled;
         others = others_both (one ∷ []) served.others;
         output = λ tells. output tells ∙ ap (λ t. t ++ answer_text line replies) (so_far.output tells) ∙ append_assoc taken (replies_text lines (replies_to clock (begin start) answered)) (answer_text line replies) ∙ ap (λ t. taken ++ t) (sym text);
       }
@@ -295,9 +298,9 @@ module _ {S C : Type 0} (sees : SeesFolder S)
               ∙ ap (λ (rs : List Reply). replies_text lines (replies_to clock (begin start) answered) ++ answer_text line rs) served.answers
 
       -- or the output failed
-      pub to_failed : (n : ℕ) → (told → AppendsFront taken_then taken_now (answer_text line replies)) → before ≤ faults
+      abbrev pub to_failed : (n : ℕ) → (told → AppendsFront taken_then taken_now (answer_text line replies)) → before ≤ faults → Counted mid new
           → Runs sees ticks (origin_of clock start base) faults lines (Err (line_end.Sink n)) (output_with told taken taken_now) old new
-      to_failed n output later = record {
+      to_failed n output later counted = record {
         answered = answered;
         left = one ∷ [];
         rest = behind_lines;
@@ -307,8 +310,9 @@ module _ {S C : Type 0} (sees : SeesFolder S)
         failures = served.follows.failures;
         keeps = served.follows.keeps;
         since = since_both (one ∷ []) served.since;
+        settled = settled_both counted served.settled;
         others = others_both (one ∷ []) served.others;
-        readings = tt;
+        readings = λ reads. tt;
         output = λ tells. (answer_text line (step clock (play_of clock start answered) one).replies, tried, front tells);
       }
         where
@@ -326,14 +330,14 @@ module _ {S C : Type 0} (sees : SeesFolder S)
   -- what becomes of the next line
 
   module _ (before faults count session : ℕ) (line : NamedLine) (taken_then taken_now : List ℕ) (mid new : Serving S C)
-      (next : IsNext lines count session line) (so_far : RunsTo before count taken_then mid) (later : before ≤ faults) where
+      (next : IsNext lines count session line) (so_far : RunsTo before count taken_then mid) (later : before ≤ faults) (counted : Counted mid new) where
     -- the run goes on
-    pub goes_on : (done : Unit {0}) → RunsLine sees ticks (origin_of clock start base) (faults_between before faults) so_far.answered (record { session = session; line = line }) (Ok done) (output_with told taken_then taken_now) mid new
+    abbrev pub goes_on : (done : Unit {0}) → RunsLine sees ticks (origin_of clock start base) (faults_between before faults) so_far.answered (record { session = session; line = line }) (Ok done) (output_with told taken_then taken_now) mid new
         → RunsTo faults (count + 1) taken_now new
-    goes_on done one = to_more before faults count session line taken_then taken_now mid new next so_far one.replies one.served one.output
+    goes_on done one = to_more before faults count session line taken_then taken_now mid new next so_far one.replies one.served one.output counted
 
     -- or ends
-    pub stops : (e : LineEnd) → RunsLine sees ticks (origin_of clock start base) (faults_between before faults) so_far.answered (record { session = session; line = line }) (Err e) (output_with told taken_then taken_now) mid new
+    abbrev pub stops : (e : LineEnd) → RunsLine sees ticks (origin_of clock start base) (faults_between before faults) so_far.answered (record { session = session; line = line }) (Err e) (output_with told taken_then taken_now) mid new
         → Runs sees ticks (origin_of clock start base) faults lines (Err e) (output_with told taken taken_now) old new
-    stops line_end.NoMemory one = to_ended before faults count session line taken_then taken_now mid new next so_far one.0 one.1 later
-    stops (line_end.Sink n) one = to_failed before faults count session line taken_then taken_now mid new next so_far one.replies one.served n one.output later
+    stops line_end.NoMemory one = to_ended before faults count session line taken_then taken_now mid new next so_far one.0 one.1 later counted
+    stops (line_end.Sink n) one = to_failed before faults count session line taken_then taken_now mid new next so_far one.replies one.served n one.output later counted

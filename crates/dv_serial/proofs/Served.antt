@@ -23,23 +23,23 @@ use Rattle.dv_plans.specs.declared.fault.StoreFault.TheVariants as fault
 use Rattle.dv_plans.specs.Faults.{HasStoreCause}
 use Rattle.dv_playing.specs.Laws.{IsLine}
 use Rattle.dv_playing.specs.Playing.{Attempt, Play, refused_here, with_group_here}
-use Rattle.dv_store.specs.Commits.{MayWrite}
 use Rattle.dv_store.specs.Faults.{IsFailure}
 use Rattle.dv_store.specs.Rest.{OnlyReads}
-use Rattle.dv_serial.specs.Faults.{faults_between}
+use Rattle.dv_serving.specs.Faults.{faults_between}
 use Rattle.dv_serial.specs.Following.{EndsAt, Follows, HasStates, origin_of}
-use Rattle.dv_serial.specs.Lines.{IsFaultLine, fault_lines}
-use Rattle.dv_serial.specs.Others.{LeavesOthers}
+use Rattle.dv_serving.specs.Lines.{IsFaultLine, fault_lines}
+use Rattle.dv_serving.specs.Commits.{LeavesOthers, MayChangeHere}
 use Rattle.dv_serial.specs.Places.{play_of}
 use Rattle.dv_serial.specs.Serves.{OnlyLooksAt, Serves, seat_at, with_seat}
 use Rattle.dv_serial.specs.Servings.{Serving}
-use Rattle.dv_serial.specs.Taking.{Takes, given}
+use Rattle.dv_serving.specs.Taking.{Takes, given}
 use Rattle.dv_serial.specs.Writes.{Commits, IsDone}
-use Rattle.dv_serial.proofs.Looking.{looked_met, looked_same, unread_supplied, writes_unread}
-use Rattle.dv_serial.proofs.Refusals.{reads_allowed}
+use Rattle.dv_serial.proofs.Looking.{looked_met, looked_same}
+use Rattle.dv_serving.proofs.Looking.{unread_supplied, writes_unread}
+use Rattle.dv_serving.proofs.Refusals.{reads_allowed}
 use Rattle.dv_serial.proofs.Results.{ended_still, own_result, read_ended, read_failed, read_told, write_ended, write_failed, write_told}
 use Rattle.dv_serial.proofs.Seated.{state_at}
-use Rattle.dv_serial.proofs.Taken.{always, given_answer, given_err, given_has}
+use Rattle.dv_serving.proofs.Taken.{always, given_answer, given_err, given_has}
 use Rattle.dv_shelf.specs.Sees.{SeesFolder, SeesTime}
 
 module _ {S C : Type 0} (sees : SeesFolder S) (ticks : SeesTime C) (clock : ℕ → ℕ) (start : Log) (base : ℕ) (attempts : List Attempt)
@@ -92,11 +92,11 @@ module _ {S C : Type 0} (sees : SeesFolder S) (ticks : SeesTime C) (clock : ℕ 
     pub seat_told : {E R : Type 0} (with : R → List Reply → R) (said said_now : R) (faults : ℕ) (new : Serving S C) (result : Result (Unit {0}) E) (P : (ℕ → Mail) → View → Mailbox → Type 0) (met : Met) → before ≤ faults → met ≡ met_of c (seat_at mid.seats at).state.view mid.store.chain.live.mailbox
         → P here.log.mail (seat_at old.seats at).state.view old.store.chain.live.mailbox
         → ((mail : ℕ → Mail) (m : Mailbox) → met ≡ met_of c (seat_at mid.seats at).state.view m → P mail (seat_at mid.seats at).state.view mid.store.chain.live.mailbox
-        → OnOk result (IsAnswered with said said_now (seat_at new.seats at).state (answer mail (seat_at mid.seats at).state c m mid.groups mid.store.chain.live.mailbox mid.mark)))
+        → OnOk result (IsAnswered with said said_now (seat_at new.seats at).state (answer mail (seat_at mid.seats at).state c m mid.groups mid.store.chain.live.mailbox mid.store.mark)))
         → IsAbreast new.store.chain.live.mailbox (seat_at new.seats at) → with_seat at (seat_at new.seats at) mid ≡ new → OnErr result (new ≡ mid)
         → Takes with said said_now result (λ r. Serves sees ticks (origin_of clock start base) (faults_between before faults) attempts line r old new)
     seat_told with said said_now faults new result P met later is supplied answered abreast only stays =
-        let a = answer here.log.mail (seat_at mid.seats at).state c old.store.chain.live.mailbox mid.groups mid.store.chain.live.mailbox mid.mark in
+        let a = answer here.log.mail (seat_at mid.seats at).state c old.store.chain.live.mailbox mid.groups mid.store.chain.live.mailbox mid.store.mark in
         let both = answered here.log.mail old.store.chain.live.mailbox (looked_met old mid looks c (seat_at mid.seats at).state met is) (looked_same old mid looks (P here.log.mail) at supplied) in
         record {
           replies = a.replies;
@@ -113,7 +113,7 @@ module _ {S C : Type 0} (sees : SeesFolder S) (ticks : SeesTime C) (clock : ℕ 
 
   module _ (write : is_write c ≡ true) (mid : Serving S C) where
     pub seat_unwritten : {A E R : Type 0} (with : R → List Reply → R) (said said_now : R) (faults : ℕ) (f : StoreFault) (result : Result (Unit {0}) E) → Commits sees ticks clock start attempts line old (Err f) mid → HasStoreCause {A = A} before faults (Err f) → mid.seats ≡ old.seats
-        → LeavesOthers {A = A} c old.store.chain.live.mailbox (Err f) (sees.files old.store.shelf) (sees.files mid.store.shelf) → OnOk result ((said_now ≡ with said (fault_lines f)) × IsFaultLine f (fault_lines f))
+        → LeavesOthers {A = A} here line (Err f) (sees.files old.store.shelf) (sees.files mid.store.shelf) → OnOk result ((said_now ≡ with said (fault_lines f)) × IsFaultLine f (fault_lines f))
         → Takes with said said_now result (λ told. Serves sees ticks (origin_of clock start base) (faults_between before faults) attempts line told old mid)
     seat_unwritten with said said_now faults f result commits cause seats others is = record {
       replies = fault_lines f;
@@ -123,20 +123,20 @@ module _ {S C : Type 0} (sees : SeesFolder S) (ticks : SeesTime C) (clock : ℕ 
     }
 
     module _ (touched : List ℕ) (done : IsDone sees ticks clock start attempts line touched old mid)
-        (others : (n : Name) → (MayWrite c old.store.chain.live.mailbox n → ⊥) → sees.files mid.store.shelf n ≡ sees.files old.store.shelf n) (seats : List Follower) where
+        (others : (n : Name) → (MayChangeHere here line n → ⊥) → sees.files mid.store.shelf n ≡ sees.files old.store.shelf n) (seats : List Follower) where
       pub seat_untold : (faults : ℕ) → before ≤ faults → EndsAt sees (origin_of clock start base) (faults_between before faults) attempts line old (record mid { seats = seats })
       seat_untold faults later = write_ended sees ticks clock start base attempts before faults line old follows good later write mid touched done others seats
 
       pub seat_wrote : {E R : Type 0} (with : R → List Reply → R) (said said_now : R) (faults : ℕ) (new : Serving S C) (result : Result (Unit {0}) E) (facts : List MailFacts) (met : Met) → before ≤ faults → HasStates old.seats seats → All (IsAbreast mid.store.chain.live.mailbox) seats
           → met ≡ met_of c (seat_at old.seats at).state.view old.store.chain.live.mailbox
           → ((mail : ℕ → Mail) (m : Mailbox) → met ≡ met_of c (seat_at seats at).state.view m → AreSupplied mail c (seat_at seats at).state.view mid.store.chain.live.mailbox facts
-          → OnOk result (IsAnswered with said said_now (seat_at new.seats at).state (answer mail (seat_at seats at).state c m mid.groups mid.store.chain.live.mailbox mid.mark)))
+          → OnOk result (IsAnswered with said said_now (seat_at new.seats at).state (answer mail (seat_at seats at).state c m mid.groups mid.store.chain.live.mailbox mid.store.mark)))
           → IsAbreast new.store.chain.live.mailbox (seat_at new.seats at) → with_seat at (seat_at new.seats at) (record mid { seats = seats }) ≡ new → OnErr result (new ≡ record mid { seats = seats })
           → Takes with said said_now result (λ r. Serves sees ticks (origin_of clock start base) (faults_between before faults) attempts line r old new)
       seat_wrote with said said_now faults new result facts met later has all is answered abreast only stays =
           let same : (seat_at old.seats at).state ≡ (seat_at seats at).state = sym (has.states at new_follower less) in
           let mail : ℕ → Mail = (with_group_here clock here line).log.mail in
-          let a = answer mail (seat_at seats at).state c old.store.chain.live.mailbox mid.groups mid.store.chain.live.mailbox mid.mark in
+          let a = answer mail (seat_at seats at).state c old.store.chain.live.mailbox mid.groups mid.store.chain.live.mailbox mid.store.mark in
           let both = answered mail old.store.chain.live.mailbox (is ∙ ap (λ (x : SessionState). met_of c x.view old.store.chain.live.mailbox) same)
           (unread_supplied mail c (seat_at seats at).state mid.store.chain.live.mailbox facts (writes_unread c write)) in
           record {

@@ -14,7 +14,7 @@ use Rattle.dv_model.specs.Views.{View}
 use Rattle.dv_playing.specs.Laws.{IsAttempt, MayPlay}
 use Rattle.dv_playing.specs.Playing.{Attempt, Failed, Outcome, Play, Rotation, Served, begin, behind_failure, fared, group_here, is_empty, played, refused_here, replies_to, step, stepped_by, told, with_group_here}
 use Rattle.dv_playing.proofs.Plays.{goes_on, replies_go_on}
-use Rattle.dv_serial.proofs.Counting.{one_more, rose_sum}
+use Rattle.dv_serving.proofs.Counting.{one_more, rose_sum}
 
 -- ---- one line
 

@@ -10,7 +10,8 @@ use Rattle.dv_formats.specs.Scripts.{NamedLine, and_session, sessions_of}
 use Rattle.dv_serial.specs.declared.numbers.Seen.{Seen}
 use Rattle.dv_serial.specs.declared.numbers.Turn.{Turn}
 use Rattle.dv_serial.specs.Numbering.{AreSeen, commands_in}
-use Rattle.dv_serial.specs.Scripts.{number_among, numbered, numbered_by, turn_behind}
+use Rattle.dv_serial.specs.Numbering.{turn_behind}
+use Rattle.dv_serving.specs.Scripts.{number_among, numbered, numbered_by}
 
 -- ---- numbers among names
 

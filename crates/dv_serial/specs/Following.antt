@@ -7,20 +7,23 @@ use Rattle.dv_model.specs.Transcripts.{Line}
 use Rattle.dv_shelf.specs.Clocks.{behind}
 use Rattle.dv_shelf.specs.Crashes.{LeavesOnly}
 use Rattle.dv_shelf.specs.Folders.{Folder}
+use Rattle.dv_logfile.specs.Settling.{StaysSettled}
 use Rattle.dv_rotation.specs.Texts.{place_of}
 use Rattle.dv_writing.specs.Debts.{Debt}
 use Rattle.dv_answer.specs.Following.{Follower, IsAbreast}
 use Rattle.dv_playing.specs.Laws.{IsAttempt, MayPlay, MayWrite, RiseFrom, failures_of}
 use Rattle.dv_playing.specs.Playing.{Attempt, Outcome, Play, Served, step}
 use Rattle.dv_store.specs.Rest.{IsAtRest}
-use Rattle.dv_serial.specs.Faults.{Faults}
+use Rattle.dv_serving.specs.Faults.{Faults}
+use Rattle.dv_serving.specs.Readings.{AreAlike, AreReadings}
 use Rattle.dv_serial.specs.Others.{KeepsOthers}
-use Rattle.dv_serial.specs.Places.{GivesBetween, IsOwedBehind, StandsAt, play_of}
+use Rattle.dv_serial.specs.Places.{GivesBetween, IsOwedBehind, play_of}
+use Rattle.dv_serving.specs.Places.{StandsAt}
 use Rattle.dv_serial.specs.Servings.{Serving}
 use Rattle.dv_shelf.specs.Sees.{SeesFolder, SeesTime}
 
--- From what lines are played: a clock's readings to come, the log at first, and how often the
--- folder's calls had failed.
+-- From what lines are played: a clock's readings to come, whether it tells them or not, the log at
+-- first, and how often the folder's calls had failed.
 pub record Origin : Type 0 where
   pub clock : ℕ → ℕ
   pub start : Log
@@ -28,6 +31,16 @@ pub record Origin : Type 0 where
 
 abbrev pub origin_of : (ℕ → ℕ) → Log → ℕ → Origin
 origin_of clock start base = record { clock = clock; start = start; base = base }
+
+-- There are readings with which this holds of what comes behind these lines: those that the lines
+-- used are the same, and all are where the clock tells them.
+pub record ReadsOn (tells : Type 0) (origin : Origin) (attempts : List Attempt)
+    (Holds : Origin → Type 0) : Type 0 where
+  pub clock : ℕ → ℕ
+  pub small : AreReadings clock
+  pub told : tells → (n : ℕ) → clock n ≡ origin.clock n
+  pub alike : AreAlike (play_of origin.clock origin.start attempts).used origin.clock clock
+  pub holds : Holds (origin_of clock origin.start origin.base)
 
 -- each session, from number 1 on, has its state, and is abreast of the mailbox
 pub record AreSeated (m : Mailbox) (state_of : ℕ → State) (seats : List Follower) : Type 0 where
@@ -63,7 +76,7 @@ module _ {S C : Type 0} where
     pub rotates : play.log.rotates ≡ true
     pub groups : length play.log.entries ≡ serving.groups
     pub mailbox : play.mailbox ≡ serving.store.chain.live.mailbox
-    pub mark : play.mark ≡ serving.mark
+    pub mark : play.mark ≡ serving.store.mark
     pub place : StandsAt play.begun play.mark (place_of serving.store.chain) serving.store.owed
 
   -- so it is behind these lines, and the store is at rest with the play's log and what is owed
@@ -74,25 +87,27 @@ module _ {S C : Type 0} where
     pub owed : IsOwedBehind clock start attempts (place_of serving.store.chain) debt
     pub rests : IsAtRest sees (play_of clock start attempts).log debt serving.store
 
-  -- The lines were played, those that failed told counts that rose up to this one, and clock and
-  -- sessions are where the play has them.
+  -- The lines were played, those that failed told counts that rose up to this one, and sessions
+  -- are where the play has them; so is the clock, where it tells its readings.
   pub record Follows (sees : SeesFolder S) (ticks : SeesTime C) (origin : Origin) (faults : ℕ)
       (attempts : List Attempt) (serving : Serving S C) : Type 0 where
     pub may : MayPlay origin.clock origin.start origin.base faults attempts
     pub failures : RiseFrom origin.base (failures_of attempts) faults
     pub keeps : Keeps sees origin.clock origin.start attempts serving
-    pub readings : ticks.upcoming serving.store.clock
+    pub small : AreReadings origin.clock
+    pub readings : ticks.tells → ticks.upcoming serving.store.clock
         ≡ behind origin.clock (play_of origin.clock origin.start attempts).used
     pub seats : AreSeated serving.store.chain.live.mailbox
         (play_of origin.clock origin.start attempts).states serving.seats
 
   -- What is left keeps the log behind these lines, and a crash at any moment since leaves that, or
-  -- the log behind the lines before.
+  -- the log behind the lines before. A settled folder is settled again, where no fault was counted.
   pub record Leaves (sees : SeesFolder S) (clock : ℕ → ℕ) (start : Log)
       (before attempts : List Attempt) (old new : Serving S C) : Type 0 where
     pub keeps : Keeps sees clock start attempts new
     pub since : LeavesOnly sees old.store.shelf new.store.shelf
         (GivesBetween clock start before attempts)
+    pub settled : StaysSettled sees old.store.shelf new.store.shelf
 
   -- Where a line wasn't answered: behind the lines so far, or behind that one too. It was failed
   -- only where the count of faults rose.

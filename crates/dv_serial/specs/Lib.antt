@@ -1,15 +1,9 @@
 pub mod Servings
-pub mod Outputs
-pub mod Faults
-pub mod Taking
 pub mod Places
+pub mod Others
 pub mod Following
 pub mod Serves
-pub mod Lines
 pub mod Writes
-pub mod Scripts
-pub mod Runs
 pub mod Numbering
-pub mod Laws
-pub mod Others
+pub mod Runs
 pub mod NextRuns

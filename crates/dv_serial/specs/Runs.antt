@@ -8,17 +8,18 @@ use Rattle.dv_shelf.specs.Clocks.{behind}
 use Rattle.dv_shelf.specs.Crashes.{LeavesOnly}
 use Rattle.dv_shelf.specs.Folders.{Folder}
 use Rattle.dv_shelf.specs.Streams.{Appends, AppendsFront}
+use Rattle.dv_logfile.specs.Settling.{StaysSettled}
 use Rattle.dv_formats.specs.Scripts.{NamedLine}
 use Rattle.dv_playing.specs.Laws.{MayPlay, RiseFrom, failures_of, lines_of}
 use Rattle.dv_playing.specs.Playing.{Attempt, begin, replies_to, step}
 use Rattle.dv_serial.specs.declared.lines.LineEnd.{LineEnd}
 use Rattle.dv_serial.specs.declared.lines.LineEnd.TheVariants as line_end
-use Rattle.dv_serial.specs.Faults.{Faults}
+use Rattle.dv_serving.specs.Faults.{Faults}
 use Rattle.dv_serial.specs.Following.{EndsAt, IsLeft, Keeps, Origin}
 use Rattle.dv_serial.specs.Others.{KeepsOthers}
-use Rattle.dv_serial.specs.Outputs.{Output}
+use Rattle.dv_serving.specs.Outputs.{Output}
 use Rattle.dv_serial.specs.Places.{MayGive, play_of}
-use Rattle.dv_serial.specs.Scripts.{answer_text, numbered, replies_text}
+use Rattle.dv_serving.specs.Scripts.{answer_text, numbered, replies_text}
 use Rattle.dv_serial.specs.Serves.{IsServed}
 use Rattle.dv_serial.specs.Servings.{Serving}
 use Rattle.dv_shelf.specs.Sees.{SeesFolder, SeesTime}
@@ -91,8 +92,8 @@ module _ {S C : Type 0} where
   -- The first lines were answered, each as a step of one play, and the text of their replies
   -- written. The first of the others may have left its group, or be one that the disk failed. The
   -- failures of all these lines tell counts that rise up to this one. What is left keeps the play's
-  -- log behind these lines; so does what a crash leaves, behind some of them. Files that none of
-  -- them writes stay.
+  -- log behind these lines; so does what a crash leaves, behind some of them. A settled folder is
+  -- settled again, where no fault was counted. Files that none of them writes stay.
   pub record Runs (sees : SeesFolder S) (ticks : SeesTime C) (origin : Origin) (faults : ℕ)
       (lines : List NamedLine) (result : Result (Unit {0}) LineEnd) (out : Output)
       (old new : Serving S C) : Type 0 where
@@ -106,10 +107,11 @@ module _ {S C : Type 0} where
     pub keeps : Keeps sees origin.clock origin.start (answered ++ left) new
     pub since : LeavesOnly sees old.store.shelf new.store.shelf
         (MayGive origin.clock origin.start (answered ++ left))
+    pub settled : StaysSettled sees old.store.shelf new.store.shelf
     pub others : KeepsOthers origin.clock origin.start (answered ++ left)
         (sees.files old.store.shelf) (sees.files new.store.shelf)
-    pub readings : HasRead origin.clock (play_of origin.clock origin.start answered).used
-        (ticks.upcoming new.store.clock) result
+    pub readings : ticks.tells → HasRead origin.clock
+        (play_of origin.clock origin.start answered).used (ticks.upcoming new.store.clock) result
     pub output : out.told → Writes origin.clock origin.start answered left lines result
         out.taken out.taken_now
 

@@ -7,6 +7,7 @@ use Rattle.dv_model.specs.Transcripts.{Line}
 use Rattle.dv_shelf.specs.Clocks.{behind}
 use Rattle.dv_shelf.specs.Crashes.{LeavesOnly}
 use Rattle.dv_shelf.specs.Folders.{Folder}
+use Rattle.dv_logfile.specs.Settling.{StaysSettled}
 use Rattle.dv_rotation.specs.Texts.{place_of}
 use Rattle.dv_writing.specs.Debts.{Debt}
 use Rattle.dv_answer.specs.Following.{Leads}
@@ -21,16 +22,18 @@ use Rattle.dv_shelf.specs.Sees.{SeesFolder, SeesTime}
 
 module _ {S C : Type 0} where
   -- The store, the number of groups and the clock are where this play stands, behind these lines,
-  -- and a crash at any moment since leaves the log behind them, or behind the lines before.
+  -- and a crash at any moment since leaves the log behind them, or behind the lines before. A
+  -- settled folder is settled again, where no fault was counted.
   pub record StandsAs (sees : SeesFolder S) (ticks : SeesTime C) (clock : ℕ → ℕ) (start : Log)
       (before attempts : List Attempt) (play : Play) (old new : Serving S C) : Type 0 where
     pub at : IsAt play new
     pub debt : Debt
     pub owed : IsOwedBehind clock start attempts (place_of new.store.chain) debt
     pub rests : IsAtRest sees play.log debt new.store
-    pub readings : ticks.upcoming new.store.clock ≡ behind clock play.used
+    pub readings : ticks.tells → ticks.upcoming new.store.clock ≡ behind clock play.used
     pub since : LeavesOnly sees old.store.shelf new.store.shelf
         (GivesBetween clock start before attempts)
+    pub settled : StaysSettled sees old.store.shelf new.store.shelf
 
   -- the group is written, or there is none; these are the UIDs of which sessions are to be told
   pub record IsDone (sees : SeesFolder S) (ticks : SeesTime C) (clock : ℕ → ℕ) (start : Log)

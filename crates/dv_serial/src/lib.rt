@@ -9,10 +9,10 @@ mod seats;
 mod serial;
 mod serving;
 mod sinks;
-mod told;
 
-pub use laws::{commands_are_servable, generated_are_servable, next_runs_begin};
+pub use laws::next_runs_begin;
 pub use lines::LineEnd;
+pub use numbers::{Seen, Turn, next_turn};
 pub use seats::new_seats;
 pub use serial::Serial;
 pub use sinks::NullSink;

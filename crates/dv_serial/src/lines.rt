@@ -5,11 +5,13 @@ ghost use Rattle.dv_model.specs.Journals.{Log};
 ghost use Rattle.dv_formats.specs.Scripts.{NamedLine, sessions_of};
 ghost use Rattle.dv_script.specs.Sources.{named};
 ghost use Rattle.dv_playing.specs.Playing.{Attempt};
-ghost use Rattle.dv_serial.specs.Faults.{faults_of};
-ghost use Rattle.dv_serial.specs.Following.{Follows, Origin};
-ghost use Rattle.dv_serial.specs.Outputs.{output_of};
+ghost use Rattle.dv_serving.specs.Faults.{faults_of};
+ghost use Rattle.dv_serial.specs.Following.{Follows, Origin, ReadsOn, origin_of};
+ghost use Rattle.dv_serving.specs.Outputs.{output_of};
 ghost use Rattle.dv_serial.specs.Runs.{IsCaused, Runs, RunsLine};
-ghost use Rattle.dv_serial.specs.Serves.{AreAbreast, IsAsked, IsServable, TakesUpTo};
+ghost use Rattle.dv_serial.specs.Serves.{AreAbreast, IsAsked};
+ghost use Rattle.dv_serving.specs.Readings.{AtReadings, TakesUpTo};
+ghost use Rattle.dv_serving.specs.Servable.{IsServable};
 
 use crate::Serial;
 use crate::numbers::next_turn;
@@ -17,6 +19,7 @@ use dv_model::NoMemory;
 use dv_script::{Line, Lines};
 use dv_shelf::{Clock, Gate, Shelf, Sink};
 use dv_texts::ReplyText;
+use dv_touched::Touched;
 
 /// Why a line of the script ends the run.
 #[derive(Clone, Copy, PartialEq, Eq, Debug)]
@@ -45,13 +48,13 @@ impl<S: Shelf, C: Clock> Serial<S, C> {
         requires abreast { AreAbreast self.old }
         requires room { self.old.groups + 1 < 2 ^ 64 }
         // It is one line more of the play, and its text is written.
-        ensures runs { S.sees.tells → C.sees.tells → (origin : Origin) (attempts : List Attempt) →
+        ensures runs { S.sees.tells → (origin : Origin) (attempts : List Attempt) →
             Follows S.sees C.sees origin
             (S.sees.fault_count self.old.store.shelf) attempts self.old →
-            RunsLine S.sees C.sees origin
+            ReadsOn C.sees.tells origin attempts (λ from. RunsLine S.sees C.sees from
             (faults_of S.sees self.old.store.shelf self.new.store.shelf) attempts
             (record { session = session; line = named line }) result
-            (output_of O.sees out.old out.new) self.old self.new }
+            (output_of O.sees out.old out.new) self.old self.new) }
         ensures groups { self.new.groups ≤ self.old.groups + 1 }
         // There are as many sessions, which keep up with the mailbox.
         ensures seats { length self.new.seats ≡ length self.old.seats }
@@ -65,7 +68,8 @@ impl<S: Shelf, C: Clock> Serial<S, C> {
         ensures cause { IsCaused (O.sees.fault_count out.old) (O.sees.fault_count out.new) result }
     {
         let mut text = ReplyText::new(self.alloc, line.session);
-        self.serve(session, &line.command, &mut text)?;
+        let mut changed = Touched::empty(self.alloc);
+        self.serve(session, &line.command, &mut text, &mut changed)?;
         match text.write_to(out) {
             Ok(()) => Ok(()),
             Err(_) => Err(LineEnd::Sink(out.faults())),
@@ -88,11 +92,14 @@ impl<S: Shelf, C: Clock> Serial<S, C> {
         requires abreast { AreAbreast self.old }
         requires room { self.old.groups + length (L.left lines.old) < 2 ^ 64 }
         // Each line is a step of one play with its replies, up to the one that ended the run, and
-        // what is left, at any moment too, keeps the play's log.
-        ensures runs { S.sees.tells → C.sees.tells → (origin : Origin) →
+        // what is left, at any moment too, keeps the play's log. The play is one at readings, which
+        // are the clock's where it tells them.
+        ensures runs { S.sees.tells → (origin : Origin) →
             Follows S.sees C.sees origin (S.sees.fault_count self.old.store.shelf) [] self.old →
-            Runs S.sees C.sees origin (S.sees.fault_count self.new.store.shelf)
-            (L.left lines.old) result (output_of O.sees out.old out.new) self.old self.new }
+            AtReadings C.sees.tells origin.clock (λ clock.
+            Runs S.sees C.sees (origin_of clock origin.start origin.base)
+            (S.sees.fault_count self.new.store.shelf)
+            (L.left lines.old) result (output_of O.sees out.old out.new) self.old self.new) }
         // The counts of faults never fall, and an output that failed has its cause.
         ensures later { (S.sees.fault_count self.old.store.shelf
             ≤ S.sees.fault_count self.new.store.shelf)

@@ -3,7 +3,7 @@
 ghost use Rattle.std.specs.Prelude.{◌≡◌, ◌++◌, ◌∷◌, [], ◌<◌, ◌^◌, ℕ, List, IfOk, bytes_eq, length, position};
 ghost use Rattle.dv_model.specs.declared.types.Command.{Command};
 ghost use Rattle.dv_formats.specs.Scripts.{NamedLine, sessions_of};
-ghost use Rattle.dv_serial.specs.Scripts.{turn_behind};
+ghost use Rattle.dv_serial.specs.Numbering.{turn_behind};
 ghost use Rattle.dv_serial.specs.Numbering.{AreSeen, commands_in};
 
 use dv_model::{Bytes, List, NoMemory};

@@ -6,6 +6,7 @@ ghost use Rattle.dv_model.specs.Journals.{Log, Mail as Message};
 ghost use Rattle.dv_model.specs.Sessions.{answer, is_write, reads_mail};
 ghost use Rattle.dv_shelf.specs.Crashes.{LeavesOnly};
 ghost use Rattle.dv_writing.specs.Debts.{Debt};
+ghost use Rattle.dv_view.specs.Taken.{HasTaken};
 ghost use Rattle.dv_responses.specs.Damaged.{IsRead};
 ghost use Rattle.dv_responses.specs.Depth.{IsShallow};
 ghost use Rattle.dv_responses.specs.Met.{met_of};
@@ -17,24 +18,25 @@ ghost use Rattle.dv_plans.specs.Faults.{HasStoreCause};
 ghost use Rattle.dv_plans.specs.declared.fault.StoreFault.TheVariants as fault;
 ghost use Rattle.dv_store.specs.Rest.{IsAtRest, OnlyReads};
 ghost use Rattle.dv_playing.specs.Playing.{Attempt};
-ghost use Rattle.dv_serial.specs.Faults.{faults_of};
+ghost use Rattle.dv_serving.specs.Faults.{faults_of};
 ghost use Rattle.dv_serial.specs.Following.{Follows, Origin};
 ghost use Rattle.dv_store.specs.Faults.{IsFailure};
-ghost use Rattle.dv_serial.specs.Serves.{AreAbreast, HasFailures, IsAllowed, OnlyLooksAt, Serves, seat_at, with_seat};
-ghost use Rattle.dv_serial.specs.Taking.{Takes};
+ghost use Rattle.dv_serial.specs.Serves.{AreAbreast, HasNoGroup, IsAllowed, OnlyLooksAt, Serves, seat_at, with_seat};
+ghost use Rattle.dv_serving.specs.Faults.{HasFailures};
+ghost use Rattle.dv_serving.specs.Taking.{Takes};
 
 use crate::Serial;
-use crate::told::take_fault;
 use dv_model::{Command, List, NoMemory};
 use dv_plans::StoreFault;
 use dv_responses::{Met, Responses, add_data_lines, meet, reads_mail};
 use dv_search::Mail;
+use dv_serving::take_fault;
 use dv_shelf::{Clock, Shelf};
 
 impl<S: Shelf, C> Serial<S, C> {
     /// Adds the data lines of a session's command, and gives the UIDs of the messages that it reads
     /// and whose files are missing or damaged. The folder is read only where the command reads
-    /// messages. Where the disk fails no line stays.
+    /// messages. Where the disk fails no line stays; after want of memory some may.
     fn add_data<R: Responses>(
         &mut self,
         at: usize,
@@ -51,6 +53,10 @@ impl<S: Shelf, C> Serial<S, C> {
         ensures failed { S.sees.tells → (log : Log) (debt : Debt) →
             IsAtRest S.sees log debt self.old.store →
             (faults : ℕ) → result ≡ Err (fault.Disk faults) → replies.new ≡ replies.old }
+        // What was taken before is kept.
+        ensures replies { S.sees.tells → (log : Log) (debt : Debt) →
+            IsAtRest S.sees log debt self.old.store →
+            OnErr result (HasTaken R.with replies.old replies.new) }
         // Nothing is changed.
         ensures looks { OnlyLooksAt self.old self.new }
         ensures reads { S.sees.tells → OnlyReads S.sees
@@ -99,13 +105,13 @@ impl<S: Shelf, C> Serial<S, C> {
             OnOk result (IsAnswered R.with replies.old replies.new
             (seat_at self.new.seats at).state
             (answer mail (seat_at self.old.seats at).state c.now met_mailbox
-            self.old.groups self.old.store.chain.live.mailbox self.old.mark)) }
+            self.old.groups self.old.store.chain.live.mailbox self.old.store.mark)) }
         // The other sessions stay, and all else.
         ensures abreast { IsAbreast self.new.store.chain.live.mailbox (seat_at self.new.seats at) }
         ensures seats { with_seat at (seat_at self.new.seats at) self.old ≡ self.new }
         ensures err { OnErr result (self.new ≡ self.old) }
     {
-        let (mark, groups) = (self.mark, self.groups);
+        let (mark, groups) = (self.store.mark(), self.groups);
         self.seats[at].answer(c, self.store.live(), facts, met, mark, groups, replies)
     }
 
@@ -131,13 +137,13 @@ impl<S: Shelf, C> Serial<S, C> {
             OnOk result (IsAnswered R.with start replies.new
             (seat_at self.new.seats at).state
             (answer mail (seat_at self.old.seats at).state c.now met_mailbox
-            self.old.groups self.old.store.chain.live.mailbox self.old.mark)) }
+            self.old.groups self.old.store.chain.live.mailbox self.old.store.mark)) }
         // The other sessions stay, and all else.
         ensures abreast { IsAbreast self.new.store.chain.live.mailbox (seat_at self.new.seats at) }
         ensures seats { with_seat at (seat_at self.new.seats at) self.old ≡ self.new }
         ensures err { OnErr result (self.new ≡ self.old) }
     {
-        let (mark, groups) = (self.mark, self.groups);
+        let (mark, groups) = (self.store.mark(), self.groups);
         self.seats[at].finish(c, self.store.live(), damaged, met, mark, groups, replies)
     }
 }
@@ -154,15 +160,14 @@ impl<S: Shelf, C: Clock> Serial<S, C> {
         requires read { is_write c.now ≡ false }
         requires abreast { AreAbreast self.old }
         // It is one line more of the play, with its replies; the folder is only read.
-        ensures serves { S.sees.tells → C.sees.tells → (origin : Origin)
-            (attempts : Listed Attempt) → at + 1 < 2 ^ 32 →
-            Follows S.sees C.sees origin
+        ensures serves { S.sees.tells → (origin : Origin) (attempts : Listed Attempt) →
+            at + 1 < 2 ^ 32 → Follows S.sees C.sees origin
             (S.sees.fault_count self.old.store.shelf) attempts self.old →
             Takes R.with replies.old replies.new result (λ told.
             Serves S.sees C.sees origin
             (faults_of S.sees self.old.store.shelf self.new.store.shelf) attempts
             (at + 1, c.now) told self.old self.new) }
-        ensures groups { self.new.groups ≡ self.old.groups }
+        ensures groups { HasNoGroup self.old self.new }
         // There are as many sessions, which keep up with the mailbox, and the clock isn't read.
         ensures stays { (length self.new.seats ≡ length self.old.seats)
             × (self.new.store.clock ≡ self.old.store.clock) }

@@ -2,20 +2,19 @@ ghost use Rattle.std.specs.Prelude.{◌≡◌, length};
 ghost use Rattle.dv_serial.specs.Servings.{serving_over};
 
 use dv_answer::Session;
+use dv_apply::Live;
 use dv_model::{List, Mark};
 use dv_store::Store;
 use std::alloc::Global;
 use std::marker::Model;
 
 /// The sessions of a script over a mailbox folder, served one command after another. Contracts see
-/// the folder with its mailbox and the clock, the place behind the log's groups, the sessions, and
-/// how many groups were written. The groups themselves are in the folder alone.
+/// the folder with its mailbox and the clock, the sessions, and how many groups were written. The
+/// groups themselves are in the folder alone.
 #[derive(Drop)]
 pub struct Serial<S, C> {
     pub(crate) alloc: Global,
     pub(crate) store: Store<S, C>,
-    /// The place behind the last group.
-    pub(crate) mark: Mark,
     /// Those of the numbers from 1 on.
     pub(crate) seats: Vec<Session>,
     /// How many groups were written.
@@ -38,12 +37,10 @@ impl<S, C> Model for Serial<S, C> {
         (state_code S.code C.code chain_type.the_row.coded
         (coded_option turn_type.the_row.coded) file_type.the_row.coded
         mark_type.the_row.coded)
-        mark_type.the_row.coded
         (coded_list session_type.the_row.coded) coded_ℕ };
 
     ghost view = { λ s. record {
       store = s.store;
-      mark = s.mark;
       seats = s.seats.items;
       groups = s.groups;
     } };
@@ -54,11 +51,9 @@ impl<S, C> Serial<S, C> {
     pub fn new(alloc: Global, store: Store<S, C>, seats: List<Session>) -> Serial<S, C>
         ensures { result ≡ serving_over store seats }
     {
-        let mark = store.place();
         Serial {
             alloc,
             store,
-            mark,
             seats: seats.into_vec(),
             groups: 0,
         }
@@ -66,9 +61,9 @@ impl<S, C> Serial<S, C> {
 
     /// The place behind the last group that was written, or where the log ended at first.
     pub fn mark(&self) -> Mark
-        ensures { result ≡ self.now.mark }
+        ensures { result ≡ self.now.store.mark }
     {
-        self.mark
+        self.store.mark()
     }
 
     /// How many groups were written.
@@ -76,6 +71,13 @@ impl<S, C> Serial<S, C> {
         ensures { result ≡ self.now.groups }
     {
         self.groups
+    }
+
+    /// The mailbox.
+    pub fn live(&self) -> &Live
+        ensures { result.now ≡ self.now.store.chain.live }
+    {
+        self.store.live()
     }
 
     /// How many messages the mailbox has. Takes no memory.

@@ -8,6 +8,7 @@ use Rattle.dv_model.specs.declared.types.Mailbox.{Mailbox}
 use Rattle.dv_model.specs.declared.types.Mark.{Mark}
 use Rattle.dv_model.specs.declared.types.Record.{Record}
 use Rattle.dv_model.specs.Journals.{Log, header_size}
+use Rattle.dv_model.specs.Sessions.{is_append}
 use Rattle.dv_model.specs.Spelling.{group_text}
 use Rattle.dv_model.specs.Views.{View}
 use Rattle.dv_shelf.specs.declared.shelf.Name.{Name}
@@ -289,6 +290,7 @@ module _ {S C : Type 0} (sees : SeesFolder S) (log : Log) (debt : Debt) (write :
   pub quiet_refused : (e : StoreFault) → CommitsQuietly sees log debt write store readied (Err e)
   quiet_refused e = record {
     group = λ sizes. tt;
+    received = tt;
     ok = tt;
     err = (debt, inl (place_same chain store.chain same, refl, refl), rest_readied);
     unwritten = λ is. rest_readied;
@@ -300,6 +302,7 @@ module _ {S C : Type 0} (sees : SeesFolder S) (log : Log) (debt : Debt) (write :
   pub quiet_idle : (A : Type 0) (mark : Mark) (uid : Option ℕ) → DecidesOver {A = A} write.command write.view store.chain (Ok None) → CommitsQuietly sees log debt write store readied (Ok (idle_receipt mark uid))
   quiet_idle A mark uid decides = record {
     group = λ sizes. ap (λ (rs : List Record). record { records = rs }) (sym (decides log.guid sizes).1);
+    received = λ append some. absurd (omega (arith, some));
     ok = λ some. absurd (omega (arith, some));
     err = tt;
     unwritten = λ is. rest_readied;
@@ -309,7 +312,7 @@ module _ {S C : Type 0} (sees : SeesFolder S) (log : Log) (debt : Debt) (write :
   }
 
   module _ (plan : Plan) (left : Option Turn) (next : Chain) (new : S) (is_plan : IsPlanOf write.command write.view store.owed chain plan) (plans : PlansWrite log write store.owed chain (sees.files shelf) plan)
-      (made : AreFilesMade store.chain write.received (sees.files store.shelf) write.command plan.steps.files) (at : Mark) where
+      (made : AreFilesMade store.chain write.received (sees.files store.shelf) write.command plan.steps.files) (came : is_append write.command ≡ true → plan.received ≡ write.received) (at : Mark) where
     abbrev behind_all : State S C
     behind_all = record { shelf = new; clock = clock; chain = next; owed = left; cache = file; mark = at }
 
@@ -384,6 +387,7 @@ module _ {S C : Type 0} (sees : SeesFolder S) (log : Log) (debt : Debt) (write :
         let owes = stores.err in
         record {
           group = λ sizes. tt;
+          received = tt;
           ok = tt;
           err = (owes.0, left_at owes.0 owes.1, record { stands = owes.3; fits = owes.2; cache = file_stored (Err e) stores });
           unwritten = λ none. absurd (disk none);
@@ -395,6 +399,7 @@ module _ {S C : Type 0} (sees : SeesFolder S) (log : Log) (debt : Debt) (write :
     quiet_done : (receipt : Receipt) (uid : Option ℕ) → HasPlan plan uid receipt → left ≡ None → Stores (Ok receipt) → CommitsQuietly sees log debt write store behind_all (Ok receipt)
     quiet_done receipt uid has paid stores = record {
       group = λ sizes. has.group ∙ group_is;
+      received = λ append more. has.received ∙ came append;
       ok = λ more. record {
         stands = subst (λ (k : Mailbox). Stands sees (log_with log write k) Nothing next new) same.mailbox stores.ok;
         fits = subst (λ (o : Option Turn). Fits o Nothing) (sym paid) tt;

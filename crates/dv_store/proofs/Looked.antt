@@ -49,9 +49,5 @@ module _ {S : Type 0} (sees : SeesFolder S) where
 
 -- ---- where the disk failed
 
-pub disk_failed : {A B : Type 0} (count faults : ℕ) (f : ShelfFault) (e : StoreFault) (looked : Result A ShelfFault) (result : Result B StoreFault) → looked ≡ Err f → e ≡ shelf_told count f → result ≡ Err e → result ≡ Err (fault.Disk faults) → looked ≡ Err shelf_fault.Failed
-disk_failed count faults shelf_fault.Failed e looked result is told one other = is
-disk_failed {A} {B} count faults shelf_fault.NoMemory e looked result is told one other = let both : ◌≡◌ {A = Result B StoreFault} (Err e) (Err (fault.Disk faults)) = sym one ∙ other in absurd cc
-
 pub done_failed : {B : Type 0} (x : B) (e : StoreFault) (result : Result B StoreFault) → result ≡ Ok x → result ≡ Err e → ⊥
 done_failed {B} x e result done failed = let both : ◌≡◌ {A = Result B StoreFault} (Ok x) (Err e) = sym done ∙ failed in absurd cc

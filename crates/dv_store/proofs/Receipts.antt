@@ -1,6 +1,6 @@
 -- What a command's write answers: the limits, the receipt, and what is counted.
-use Rattle.std.proofs.Common.{◌≡◌, ◌≢◌, ◌⊎◌, inl, inr, ⊎_elim, ℕ, ◌+◌, ◌-◌, ◌≤◌, List, [], ◌∷◌, ◌++◌, length, take, flat_map, Contains, Option, Some, None, Result, Ok, Err, refl, sym, ◌∙◌, ap, subst, arith}
-use Rattle.std.specs.Prelude.{IfErr, IfOk, OnOk}
+use Rattle.std.proofs.Common.{◌≡◌, ◌≢◌, ◌⊎◌, inl, inr, ⊎_elim, ℕ, ◌+◌, ◌-◌, ◌≤◌, List, [], ◌∷◌, ◌++◌, length, take, flat_map, true, Contains, Option, Some, None, Result, Ok, Err, refl, sym, ◌∙◌, ap, subst, arith}
+use Rattle.std.specs.Prelude.{IfErr, IfOk, IsSome, OnOk}
 use Rattle.std.proofs.lemmas.List.{length-append, take_at}
 use Rattle.std.proofs.lemmas.List.Elements.{All-nil}
 use Rattle.dv_model.specs.declared.types.Command.{Command}
@@ -30,7 +30,7 @@ use Rattle.dv_writing.proofs.Listing.{none_in}
 use Rattle.dv_plans.specs.declared.fault.StoreFault.{StoreFault}
 use Rattle.dv_plans.specs.declared.fault.StoreFault.TheVariants as fault
 use Rattle.dv_plans.specs.declared.plan.Plan.{Plan}
-use Rattle.dv_plans.specs.Begins.{TakesReadings as Planned}
+use Rattle.dv_plans.specs.Begins.{TakesReadings as Planned, turns}
 use Rattle.dv_plans.specs.Counts.{CountsReads}
 use Rattle.dv_plans.specs.Faults.{HasStoreCause}
 use Rattle.dv_plans.specs.Limits.{Decides, WhereDecided}
@@ -38,14 +38,14 @@ use Rattle.dv_plans.specs.Overs.{DecidesOver, group_over, limit_over}
 use Rattle.dv_plans.specs.Plans.{IsPlanOf}
 use Rattle.dv_plans.proofs.Naming.{guids_found}
 use Rattle.dv_writing.specs.declared.steps.Steps.{Steps}
-use Rattle.dv_writing.specs.Ways.{ready}
+use Rattle.dv_writing.specs.Ways.{StopsOnWay, ready}
 use Rattle.dv_writing.specs.Writes.{CarriesOut}
-use Rattle.dv_writing.proofs.Left.{left_place}
+use Rattle.dv_writing.proofs.Ready.{paid_place}
 use Rattle.dv_store.specs.declared.receipt.Receipt.{Receipt}
 use Rattle.dv_store.specs.Carried.{HasPlan, MovesMark, carried}
-use Rattle.dv_store.specs.Commits.{Commits, CountsFor, CountsMails, IsIdle, IsLimited, IsReceipt, IsUnwritten, TakesFor, TakesReadings, appended_uid, begin_of, cache_behind, idle_receipt}
+use Rattle.dv_store.specs.Commits.{Commits, CountsFor, CountsMails, IsIdle, IsLimited, IsReceipt, IsUnwritten, StopsAt, TakesFor, TakesReadings, appended_uid, begin_of, cache_behind, idle_receipt}
 use Rattle.dv_store.specs.States.{State}
-use Rattle.dv_store.proofs.Places.{mark_same, place_same, ready_begins}
+use Rattle.dv_store.proofs.Places.{mark_same, place_same, ready_begins, turns_same}
 
 -- ---- a plan that was carried out
 
@@ -130,7 +130,7 @@ module _ {S C : Type 0} (c : Command) (view : View) (store : State S C) (chain :
     ok = tt;
     paid = tt;
     failed = same.mailbox;
-    place = inl (place_same chain store.chain same);
+    place = inl (place_same chain store.chain same, refl);
     mark = refl;
     unwritten = λ is. record { chain = same; owed = refl; mark = refl };
     indexid = same.indexid;
@@ -154,9 +154,15 @@ module _ {S C : Type 0} (c : Command) (view : View) (store : State S C) (chain :
     abbrev behind_all : State S C
     behind_all = record { shelf = shelf; clock = clock; chain = next; owed = left; cache = file; mark = at }
 
-    place_failed : (place_of next ≡ place_of chain) ⊎ (place_of next ≡ place_of (ready store.owed plan.steps.turn chain)) → (place_of next ≡ place_of store.chain) ⊎ (place_of next ≡ begin_of store.owed store.chain)
+    turns_is : IsSome plan.steps.turn → turns store.owed store.chain ≡ true
+    turns_is some = sym (turns_same chain store.chain same store.owed) ∙ sym is.turn ∙ some
+
+    place_failed : StopsOnWay store.owed left plan.steps.turn chain next ⊎ ((place_of next ≡ place_of (ready store.owed plan.steps.turn chain)) × (left ≡ None)) → StopsAt store behind_all
     place_failed =
-        ⊎_elim (λ stays. inl (stays ∙ place_same chain store.chain same)) (λ goes. inr (goes ∙ ready_begins chain store.chain same store.owed plan.steps.turn is.steps.due is.turn))
+        ⊎_elim
+        (⊎_elim (λ stays. inl (ap place_of stays.0 ∙ place_same chain store.chain same, stays.1))
+        (λ paid. inr (inl (paid_place store.owed plan.steps.turn chain next is.steps.due paid.1 paid.0 ∙ place_same chain store.chain same, turns_is paid.1))))
+        (λ begins. inr (inr (begins.0 ∙ ready_begins chain store.chain same store.owed plan.steps.turn is.steps.due is.turn, begins.1)))
 
     pub commits_written : (uid : Option ℕ) (faults : ℕ) (result : Result Receipt StoreFault) → uid ≡ appended_uid c store.chain.live.mailbox → IfOk result (HasPlan plan uid) → IfErr result (λ e. e ≡ fault.Disk faults) → CarriesOut store.owed left plan.text plan.steps chain next (carried result)
         → MovesMark store.mark at result → Commits c view store behind_all result
@@ -176,7 +182,7 @@ module _ {S C : Type 0} (c : Command) (view : View) (store : State S C) (chain :
       ok = tt;
       paid = tt;
       failed = ap (λ h. h.mailbox) value.failed ∙ same.mailbox;
-      place = place_failed (left_place store.owed left chain next plan.steps.turn is.steps.due value.place);
+      place = place_failed value.place;
       mark = moves;
       unwritten = λ none. absurd (subst (λ (x : StoreFault). IsUnwritten (Err x)) disk none);
       indexid = value.indexid ∙ same.indexid;

@@ -6,11 +6,13 @@ use Rattle.dv_plans.specs.declared.fault.StoreFault.{StoreFault}
 use Rattle.dv_plans.specs.declared.plan.Plan.{Plan}
 use Rattle.dv_store.specs.declared.receipt.Receipt.{Receipt}
 
--- the receipt has the group of a plan, its text without the four zero bytes, and that UID
+-- the receipt has the group of a plan, its text without the four zero bytes, that UID, and when the
+-- message came
 pub record HasPlan (plan : Plan) (appended : Option ℕ) (receipt : Receipt) : Type 0 where
   pub group : receipt.group ≡ plan.group
   pub text : receipt.text ≡ take (length plan.text - 4) plan.text
   pub uid : receipt.uid ≡ appended
+  pub received : receipt.received ≡ plan.received
 
 -- the mark goes on to the receipt's; an error keeps it
 abbrev pub MovesMark : Mark → Mark → Result Receipt StoreFault → Type 0

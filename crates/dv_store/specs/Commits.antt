@@ -34,7 +34,7 @@ use Rattle.dv_lookups.specs.declared.cache_file.CacheFile.TheVariants as cache
 use Rattle.dv_writing.specs.Removals.{IsFree}
 use Rattle.dv_plans.specs.declared.fault.StoreFault.{StoreFault}
 use Rattle.dv_plans.specs.declared.fault.StoreFault.TheVariants as fault
-use Rattle.dv_plans.specs.Begins.{beginning, received_at, turns}
+use Rattle.dv_plans.specs.Begins.{beginning, turns}
 use Rattle.dv_plans.specs.Counts.{CountsReads, CountsUpTo}
 use Rattle.dv_plans.specs.Files.{IsNextCache}
 use Rattle.dv_plans.specs.Limits.{IsWritten}
@@ -101,6 +101,7 @@ idle_receipt mark uid = record {
   group = record { records = [] };
   text = [];
   touched = [];
+  received = 0;
 }
 
 -- ---- which answer
@@ -235,12 +236,6 @@ module _ {S C : Type 0} where
     pub owed : new.owed ≡ old.owed
     pub mark : new.mark ≡ old.mark
 
-  -- The command's write, whose message is received at the next reading of the clock behind that for
-  -- a rotation.
-  abbrev pub write_of : ℕ → Command → View → State S C → (ℕ → ℕ) → Write
-  write_of author c view store upcoming =
-      write_at author c view (received_at (turns store.owed store.chain) upcoming)
-
   -- Behind a rotation that a command made, the log begins as the file behind the old one, made at
   -- this reading of the clock; so is the text of one whose last replace is owed.
   pub record Rotates (reading : ℕ) (old new : State S C) (folder : Folder) : Type 0 where
@@ -248,9 +243,17 @@ module _ {S C : Type 0} where
         → BeginsAs (next_log old.chain reading) folder
     pub owed : IfSome new.owed (λ turn. turn.new ≡ next_log old.chain reading)
 
+  -- The log's end and the turn that is owed are as they were; or, where a rotation was due, the end
+  -- is, and a turn may be owed; or the log ends where the group begins, and none is.
+  abbrev pub StopsAt : State S C → State S C → Type 0
+  StopsAt old new =
+      ((place_of new.chain ≡ place_of old.chain) × (new.owed ≡ old.owed))
+      ⊎ ((place_of new.chain ≡ place_of old.chain) × (turns old.owed old.chain ≡ true))
+      ⊎ ((place_of new.chain ≡ begin_of old.owed old.chain) × (new.owed ≡ None))
+
   -- What a command does to a store, but for shelf and clock. Behind Ok the mark is the receipt's,
-  -- and with a group nothing is owed. An error keeps mailbox and mark, and leaves the log's end
-  -- where it was, or where the group would begin; where nothing was written, all of it stays.
+  -- and with a group nothing is owed. An error keeps mailbox and mark, and stops at the log's end or
+  -- on the way to where the group would begin; where nothing was written, all of it stays.
   pub record Commits (c : Command) (view : View) (old new : State S C)
       (result : Result Receipt StoreFault) : Type 0 where
     pub limit : (guid : ℕ → List ℕ) → HasSizes guid
@@ -258,8 +261,7 @@ module _ {S C : Type 0} where
     pub ok : IfOk result (IsReceipt c view old.owed old.chain new.chain)
     pub paid : IfOk result (λ receipt. 1 ≤ length receipt.group.records → OwesNothing new)
     pub failed : OnErr result (new.chain.live.mailbox ≡ old.chain.live.mailbox)
-    pub place : OnErr result ((place_of new.chain ≡ place_of old.chain)
-        ⊎ (place_of new.chain ≡ begin_of old.owed old.chain))
+    pub place : OnErr result (StopsAt old new)
     pub mark : MovesMark old.mark new.mark result
     pub unwritten : IsUnwritten result → StaysAs old new
     pub indexid : new.chain.indexid ≡ old.chain.indexid
@@ -279,14 +281,16 @@ module _ {S C : Type 0} where
       × MayOweGate log write (text_by log write old.chain.live.mailbox)
       old.chain.live.mailbox now)
 
-  -- From rest to rest: behind Ok with the group, with the log's GUIDs, and nothing is owed; behind
-  -- an error as before, with what is owed then; where nothing was written, as before. A crash at
-  -- any moment leaves the mailbox from before or with the group, whole. Files that no step names
-  -- stay.
+  -- From rest to rest: behind Ok with the group, with the log's GUIDs and the message when it came,
+  -- and nothing is owed; behind an error as before, with what is owed then; where nothing was
+  -- written, as before. A crash at any moment leaves the mailbox from before or with the
+  -- group, whole. Files that no step names stay.
   pub record CommitsQuietly (sees : SeesFolder S) (log : Log) (debt : Debt) (write : Write)
       (old new : State S C) (result : Result Receipt StoreFault) : Type 0 where
     pub group : HasSizes log.guid
         → IfOk result (λ receipt. receipt.group ≡ group_by log write old.chain.live.mailbox)
+    pub received : IfOk result (λ receipt. is_append write.command ≡ true
+        → 1 ≤ length receipt.group.records → receipt.received ≡ write.received)
     pub ok : IfOk result (λ receipt. 1 ≤ length receipt.group.records
         → IsAtRest sees (log_with log write old.chain.live.mailbox) Nothing new)
     pub err : OnErr result ((now : Debt) × IsLeftAt log debt write old new now

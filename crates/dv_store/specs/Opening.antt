@@ -1,6 +1,6 @@
 -- What an opening answers: a store, or the folder and the clock with a fault. The records take
 -- what a shelf shows.
-use Rattle.std.specs.Prelude.{◌≡◌, ℕ, Result, Ok, Err, IfOk, OnOk}
+use Rattle.std.specs.Prelude.{◌≡◌, ℕ, Result, Ok, Err, IfOk}
 use Rattle.dv_model.specs.declared.types.OpenFault.{OpenFault}
 use Rattle.dv_model.specs.Journals.{Log}
 use Rattle.dv_shelf.specs.Crashes.{IsSettled, LeavesOnly}
@@ -9,7 +9,7 @@ use Rattle.dv_openings.specs.Openings.{IsFound}
 use Rattle.dv_openings.specs.Rebuilds.{stamp_of}
 use Rattle.dv_chain.specs.declared.chain.Chain.{Chain}
 use Rattle.dv_chain.specs.Creations.{HasNone, IsFirst, IsOldOrCreated, LeavesCreated}
-use Rattle.dv_chain.specs.Openings.{Answers, HasBounds, IsChainOf, found_of}
+use Rattle.dv_chain.specs.Openings.{Answers, HasBounds, IsChainOf, UnlessDisk, found_of}
 use Rattle.dv_chain.specs.Rest.{Rests}
 use Rattle.dv_chain.specs.Rest as chain_rest
 use Rattle.dv_writing.specs.Debts.{Nothing, Stands}
@@ -48,13 +48,13 @@ module _ {S C : Type 0} where
       pub found : Answers found_of (answered result) (IsFound folder)
       pub chain : IfOk (answered result) (IsChainOf folder)
 
-  -- From a settled folder: a crash at any moment leaves one as the step says. Behind Ok it is
-  -- settled again, and the store is at rest and owes nothing, with each log of its index whose
-  -- messages the folder had.
+  -- From a settled folder: a crash at any moment leaves one as the step says. It is settled again,
+  -- unless the disk failed; behind Ok the store is at rest and owes nothing, with each log of its
+  -- index whose messages the folder had.
   pub record OpensQuietly (sees : SeesFolder S) (step : Folder → Folder → Type 0) (old : S)
       (result : Result (State S C) (S × C × OpenFault)) : Type 0 where
     pub since : LeavesOnly sees old (shelf_behind result) (step (sees.files old))
-    pub settled : OnOk result (IsSettled sees (shelf_behind result))
+    pub settled : UnlessDisk (answered result) (IsSettled sees (shelf_behind result))
     pub rests : IfOk result (λ store. Rests sees chain_rest.Nothing store.chain store.shelf)
     pub stands : IfOk result (λ store. (log : Log) → log.indexid ≡ store.chain.indexid
         → Keeps log store.chain.live.mailbox (sees.files old)

@@ -3,6 +3,7 @@
 ghost use Rattle.std.specs.Prelude.{◌≡◌, ◌-◌, IfErr, IfOk, length, take, true, ℕ};
 ghost use Rattle.dv_model.specs.Journals.{Log};
 ghost use Rattle.dv_model.specs.Sessions.{IsCommand};
+ghost use Rattle.dv_logfile.specs.Settling.{StaysSettled};
 ghost use Rattle.dv_chain.specs.Openings.{OnlyLooks};
 ghost use Rattle.dv_groups.specs.Changes.{changed_uids};
 ghost use Rattle.dv_groups.specs.Groups.{HasFewKeywords};
@@ -77,6 +78,7 @@ fn idle(alloc: Global, mark: Mark, uid: Option<u32>) -> Receipt
         },
         text: List::new(alloc),
         touched: Touched::empty(alloc),
+        received: 0,
     }
 }
 
@@ -102,6 +104,7 @@ fn write_plan<S: Shelf>(
         IsWriteOf log write owed.old chain.old (S.sees.files shelf.old) plan.text plan.steps →
         WritesStore S.sees log debt write plan.text plan.steps
         (held shelf.old chain.old owed.old) (held shelf.new chain.new owed.new) result }
+    ensures settled { S.sees.tells → StaysSettled S.sees shelf.old shelf.new }
     ensures turned { S.sees.tells →
         HasTurned plan.steps.turn chain.old chain.new (S.sees.files shelf.new) }
     // No message file is read; an error is a failure of the disk, and has its cause.
@@ -110,7 +113,12 @@ fn write_plan<S: Shelf>(
     ensures cause { HasStoreCause (S.sees.fault_count shelf.old) (S.sees.fault_count shelf.new)
         result }
 {
-    let Plan { group, text, steps } = plan;
+    let Plan {
+        group,
+        text,
+        steps,
+        received,
+    } = plan;
     match carry_out(chain, shelf, owed, &text, steps) {
         Ok(committed) => {
             let Committed { mark, touched } = committed;
@@ -121,6 +129,7 @@ fn write_plan<S: Shelf>(
                 group,
                 text: without_closing(text),
                 touched,
+                received,
             })
         }
         Err(_) => Err(disk(shelf)),
@@ -155,6 +164,8 @@ impl<S: Shelf, C: Clock> Store<S, C> {
             IsAtRest S.sees log debt self.old →
             CommitsQuietly S.sees log debt (write_at author c.now view.now received)
             self.old self.new result) }
+        ensures settled { S.sees.tells →
+            StaysSettled S.sees self.old.shelf self.new.shelf }
         // The readings of the clock, of which the first is that of a log that is rotated; the
         // message files that are read.
         ensures clock { C.sees.tells →

@@ -1,18 +1,17 @@
 //! What is looked up of a mailbox's messages.
 
-ghost use Rattle.std.specs.Prelude.{◌≡◌, ℕ, Err, IfErr, IfOk, List as Listed, count_by, false, true};
-ghost use Rattle.dv_model.specs.declared.types.Reply.{Reply};
+ghost use Rattle.std.specs.Prelude.{◌≡◌, ℕ, IfErr, IfOk, OnErr, count_by, false, true};
 ghost use Rattle.dv_model.specs.Journals.{Log, Mail as Message};
 ghost use Rattle.dv_model.specs.Sessions.{has_uid, reads_mail};
 ghost use Rattle.dv_openings.specs.TrueCaches.{HasTrueCache};
 ghost use Rattle.dv_writing.specs.Debts.{Debt};
+ghost use Rattle.dv_view.specs.Taken.{HasTaken};
 ghost use Rattle.dv_responses.specs.Depth.{IsShallow};
 ghost use Rattle.dv_lookups.specs.Commands.{CanStand, CannotStand, IsNamed, SparesEach, uids_read};
 ghost use Rattle.dv_lookups.specs.Founds.{AreMessages, IsBody, facts_found, field_found, mail_of, sizes_found};
 ghost use Rattle.dv_lookups.specs.Kept.{CountsUpTo, Economy, IsFileOf, IsSpared, Spares, can_stand, is_kept, is_read};
 ghost use Rattle.dv_responses.specs.Damaged.{IsRead};
 ghost use Rattle.dv_plans.specs.Faults.{HasStoreCause};
-ghost use Rattle.dv_plans.specs.declared.fault.StoreFault.TheVariants as fault;
 ghost use Rattle.dv_store.specs.Faults.{IsFailure};
 ghost use Rattle.dv_store.specs.Rest.{IsAtRest, IsLookedAt, OnlyReads, RestKnows};
 
@@ -181,12 +180,11 @@ impl<S: Shelf, C> Store<S, C> {
             AreMessages (S.sees.files self.old.shelf) self.old.chain.live.mailbox mail →
             IfOk result (IsRead R.with lines.old lines.new mail c.now view.now
             self.old.chain.live.mailbox) }
-        // What was added before the disk failed is some lines.
-        ensures failed { S.sees.tells → IsFileOf (S.sees.files self.old.shelf) self.old.cache →
+        // What was taken before is kept, also where memory or the disk failed.
+        ensures replies { S.sees.tells → IsFileOf (S.sees.files self.old.shelf) self.old.cache →
             HasTrueCache (S.sees.files self.old.shelf) self.old.chain.indexid
             self.old.chain.live.mailbox →
-            (faults : ℕ) → result ≡ Err (fault.Disk faults) →
-            (told : Listed Reply) × (lines.new ≡ R.with lines.old told) }
+            OnErr result (HasTaken R.with lines.old lines.new) }
         // Nothing is changed; the cache file isn't read again, or without need.
         ensures stays { IsLookedAt self.old self.new }
         ensures reads { S.sees.tells →

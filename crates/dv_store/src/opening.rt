@@ -13,6 +13,7 @@ ghost use Rattle.dv_store.specs.Opening.{IsFresh, MakesNew, Opens, OpensQuietly,
 use crate::Store;
 use crate::store::fresh;
 use dv_model::OpenFault;
+use dv_plans::is_number;
 use dv_shelf::{Clock, Shelf};
 use std::alloc::Global;
 
@@ -71,6 +72,7 @@ impl<S: Shelf, C: Clock> Store<S, C> {
             (answered result) }
     {
         let now = clock.now();
+        is_number(now);
         match dv_chain::create(alloc, &mut shelf, now) {
             Ok(chain) => Ok(fresh(alloc, shelf, clock, chain)),
             Err(fault) => Err((shelf, clock, fault)),

@@ -14,4 +14,6 @@ pub struct Receipt {
     pub text: Bytes,
     /// The UIDs of which a session is to be told.
     pub touched: Touched,
+    /// When an appended message came, in seconds since 1970; else 0.
+    pub received: u32,
 }

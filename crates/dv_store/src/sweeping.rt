@@ -4,6 +4,7 @@ ghost use Rattle.std.specs.Prelude.{◌≡◌, All, IfErr, OnOk};
 ghost use Rattle.dv_model.specs.Journals.{Log};
 ghost use Rattle.dv_shelf.specs.Causes.{HasCause};
 ghost use Rattle.dv_shelf.specs.declared.shelf.Name.TheVariants as name;
+ghost use Rattle.dv_logfile.specs.Settling.{StaysSettled};
 ghost use Rattle.dv_writing.specs.Debts.{Debt, Nothing, Stands};
 ghost use Rattle.dv_writing.specs.Repairing.{IsOwing};
 ghost use Rattle.dv_writing.specs.Quiet.{IsQuiet};
@@ -78,6 +79,8 @@ impl<S: Shelf, C> Store<S, C> {
             IsAtRest S.sees log debt self.old →
             PaysQuietly S.sees log debt
             self.old self.new result }
+        ensures settled { S.sees.tells →
+            StaysSettled S.sees self.old.shelf self.new.shelf }
         // No message file is read; an error is a failure of the disk, and has its cause.
         ensures err { IfErr result (λ e. e ≡ fault.Disk (S.sees.fault_count self.new.shelf)) }
         ensures mail_reads { S.sees.mail_reads self.new.shelf ≡ S.sees.mail_reads self.old.shelf }
@@ -111,6 +114,8 @@ impl<S: Shelf, C> Store<S, C> {
             IsAtRest S.sees log debt self.old →
             PaysQuietly S.sees log debt
             self.old self.new result }
+        ensures settled { S.sees.tells →
+            StaysSettled S.sees self.old.shelf self.new.shelf }
         // No message file is read; a fault of the disk has its cause.
         ensures mail_reads { S.sees.mail_reads self.new.shelf ≡ S.sees.mail_reads self.old.shelf }
         ensures cause { HasStoreCause (S.sees.fault_count self.old.shelf)

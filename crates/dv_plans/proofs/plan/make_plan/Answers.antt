@@ -6,7 +6,8 @@ use Rattle.dv_shelf.specs.Clocks.{behind}
 use Rattle.dv_rotation.specs.Texts.{place_of}
 use Rattle.dv_plans.specs.Begins.{count_of, received_at, turns}
 use Rattle.dv_plans.specs.Groups.{AreFound}
-use Rattle.dv_plans.proofs.Made.{dated_at, files_at, plan_made, plans_each, read_at, turned_at}
+use Rattle.dv_plans.proofs.Dated.{dated_at}
+use Rattle.dv_plans.proofs.Made.{files_at, plan_made, plans_each, read_at, turned_at}
 use Rattle.dv_plans.proofs.Passed.{few_rows, passes}
 use Rattle.dv_plans.proofs.Planned.{all_found}
 use Rattle.dv_plans.proofs.plan.make_plan.Goals as goal
@@ -47,10 +48,12 @@ returns-clause-write g c = λ tells.
     let upcoming : ℕ → ℕ = g.C.Clock.sees.upcoming c.args.clock.now in
     let known = received_at (turns owed chain) upcoming in
     let dated = dated_at g.C.Clock.sees.tells (is_append command) times.received known
+    c.read_times-times.ensures.small (λ reads. g.met.C.Clock.readings_small c.args.clock.now (count_of (turns owed chain)) reads)
     (λ reads append. c.read_times-times.ensures.received reads (c.is_append.ensures ∙ append) ∙ ap (λ (b : Bool). received_at b upcoming) c.is_turn_due.ensures) in
     let read = c.in_ok-before.ensures.read tells in
     record {
       at = dated.at;
+      small = dated.small;
       clock = dated.clock;
       is = record {
         each = plans_each command c.args.view.now chain c.args.uids.now owed times before c.requires.command c.have_bounds.ensures.ordered c.have_bounds.ensures.valid c.have_bounds.ensures.resets
@@ -60,6 +63,7 @@ returns-clause-write g c = λ tells.
             (read_at command c.args.uids.now chain times.received dated.at (S.sees.files old) before dated.is read)
             (c.in_ok-before.ensures.looks tells).same;
         files = files_at command chain times.received dated.at (S.sees.files old) before.files dated.is read.files;
+        came = dated.is;
       };
     }
 

@@ -4,8 +4,9 @@ use Rattle.dv_shelf.specs.Crashes.{IsSettled}
 use Rattle.dv_shelf.specs.Folders.{Folder}
 use Rattle.dv_shelf.specs.Sees.{SeesFolder}
 use Rattle.dv_stopping.specs.Stops.{left_by, sees_stopping}
-use Rattle.dv_serial.specs.NextRuns.{IsTrueFolder}
-use Rattle.dv_cli.specs.Spans.{times_of}
+use Rattle.dv_serving.specs.NextRuns.{IsTrueFolder}
+use Rattle.dv_serving.proofs.Readings.{readings_give}
+use Rattle.dv_cli.specs.Spans.{times_from}
 use Rattle.dv_power_cuts.proofs.Acknowledged.{acknowledged}
 use Rattle.dv_power_cuts.proofs.cut.run_until_cut.Goals as goal
 
@@ -17,12 +18,12 @@ settled_new {S} sees inner shelf stop same none settled c left =
 
 pub returns : goal.returns
 returns g c = record {
-  acknowledges = λ tells timed settled cache lines answers.
+  acknowledges = λ tells settled cache lines answers.
       let S = g.S.Shelf in
       let made = c.new-stopping in
       let is_settled = settled_new S.sees made.result.inner c.args.shelf made.result.stop made.ensures.inner made.ensures.stop settled in
       let is_true = subst (λ (s : _). IsTrueFolder (S.sees.files s)) (sym made.ensures.inner) cache in
-      let kept = acknowledged (sees_stopping S.sees) (times_of g.C.Clock.sees c.args.clock c.run.result.clock) _ _ _ lines c.run.result.status _ made.result c.run.result.shelf is_settled
-      (c.run.ensures.runs tells timed is_settled is_true lines answers) in
-      rw (made.ensures.inner, made.ensures.faults) at kept;
+      readings_give (c.run.ensures.runs tells is_settled is_true lines answers) (λ clock small told runs.
+      let kept = acknowledged (sees_stopping S.sees) (times_from g.C.Clock.sees clock c.run.result.clock) _ _ _ lines c.run.result.status _ made.result c.run.result.shelf is_settled runs in
+      rw (made.ensures.inner, made.ensures.faults) at kept);
 }

@@ -30,9 +30,9 @@ returns-clause-answer g c = λ mail met_mailbox start met read.
     let met_here = met ∙ ap (λ (f : Follower). met_of c.args.c.now f.state.view met_mailbox) (sym here) in
     let read_here = subst (λ (n : Mailbox). IsRead with start before mail c.args.c.now c.index_mut.result.now.state.view n damaged) (sym live)
     (subst (λ (f : Follower). IsRead with start before mail c.args.c.now f.state.view m damaged) (sym here) read) in
-    let given = c.finish.ensures.answer mail met_mailbox start met_here read_here.1 read_here.0 in
+    let given = rw c.mark-mark.ensures at (c.finish.ensures.answer mail met_mailbox start met_here read_here.1 read_here.0) in
     let next = c.finish.new.self in
-    let seated = subst (λ (f : Follower). OnOk c.finish.result (IsAnswered with start now next.state (answer mail f.state c.args.c.now met_mailbox c.self.inside.groups c.live.result.now.mailbox c.self.inside.mark))) here given in
-    let over = subst (λ (n : Mailbox). OnOk c.finish.result (IsAnswered with start now next.state (answer mail (seat_at old.seats at).state c.args.c.now met_mailbox c.self.inside.groups n c.self.inside.mark))) live seated in
-    let whole = subst (λ (s : Serving g.row.S.Denot g.row.C.Denot). OnOk c.finish.result (IsAnswered with start now next.state (answer mail (seat_at old.seats at).state c.args.c.now met_mailbox s.groups m s.mark))) c.self.view_is over in
-    subst (λ (f : Follower). OnOk c.finish.result (IsAnswered with start now f.state (answer mail (seat_at old.seats at).state c.args.c.now met_mailbox old.groups m old.mark))) (sym (get_or-set_same seats at next new_follower less)) whole
+    let seated = subst (λ (f : Follower). OnOk c.finish.result (IsAnswered with start now next.state (answer mail f.state c.args.c.now met_mailbox c.self.inside.groups c.live.result.now.mailbox c.self.inside.store.mark))) here given in
+    let over = subst (λ (n : Mailbox). OnOk c.finish.result (IsAnswered with start now next.state (answer mail (seat_at old.seats at).state c.args.c.now met_mailbox c.self.inside.groups n c.self.inside.store.mark))) live seated in
+    let whole = subst (λ (s : Serving g.row.S.Denot g.row.C.Denot). OnOk c.finish.result (IsAnswered with start now next.state (answer mail (seat_at old.seats at).state c.args.c.now met_mailbox s.groups m s.store.mark))) c.self.view_is over in
+    subst (λ (f : Follower). OnOk c.finish.result (IsAnswered with start now f.state (answer mail (seat_at old.seats at).state c.args.c.now met_mailbox old.groups m old.store.mark))) (sym (get_or-set_same seats at next new_follower less)) whole

@@ -9,12 +9,17 @@ use Rattle.dv_serial.specs.declared.numbers.Seen.{Seen}
 use Rattle.dv_serial.proofs.Crashing.{stays_may}
 use Rattle.dv_serial.specs.declared.lines.LineEnd.TheVariants as line_end
 use Rattle.dv_serial.specs.Numbering.{AreSeen}
+use Rattle.dv_serial.specs.Following.{origin_of}
 use Rattle.dv_serial.specs.Runs.{Runs}
-use Rattle.dv_serial.specs.Serves.{IsServable, TakesUpTo}
-use Rattle.dv_serial.proofs.Running.{RunsTo, goes_on, of_error, stops, takes_more, takes_none, to_done, to_none, to_unbegun}
+use Rattle.dv_serving.specs.Readings.{AtReadings, TakesUpTo}
+use Rattle.dv_serving.proofs.Readings.{readings_give}
+use Rattle.dv_serving.specs.Servable.{IsServable}
+use Rattle.dv_serial.proofs.Running.{RunsTo, of_error, to_done, to_none, to_unbegun}
+use Rattle.dv_serial.proofs.Further.{line_goes_on, line_stops}
+use Rattle.dv_serving.proofs.Led.{takes_more, takes_none}
 use Rattle.dv_serial.proofs.Turns.{all_left, few_given, first_given, given, next_seat, one_given, seen_given, some_left, turn_given}
 use Rattle.dv_serial.proofs.serial.Serial.serve_lines.Goals as goal
-use Rattle.dv_serial.specs.Outputs.{output_of}
+use Rattle.dv_serving.specs.Outputs.{output_of}
 
 is_next : (old new : List NamedLine) (o : Option Line) (line : Line) → o ≡ Some line → IsNext old o new → old ≡ named line ∷ new
 is_next old new o line is next = subst (λ (x : Option Line). IsNext old x new) is next
@@ -37,12 +42,16 @@ loop-seen-init g c =
       seats = refl;
       later = (omega arith, omega arith);
       readings = λ clocks. subst (λ (n : ℕ). TakesUpTo (2 * n) (g.C.Clock.sees.upcoming serving.store.clock) (g.C.Clock.sees.upcoming serving.store.clock)) (sym none.0) (takes_none (g.C.Clock.sees.upcoming serving.store.clock));
-      runs = λ tells clocks origin follows.
-          subst (λ (n : ℕ). RunsTo S.sees g.C.Clock.sees origin.clock origin.start origin.base all g.O.Sink.sees.tells (g.O.Sink.sees.taken c.args.out.now) serving
-          (S.sees.fault_count serving.store.shelf) n (g.O.Sink.sees.taken c.args.out.now) serving) (sym none.0)
-          (to_none S.sees g.C.Clock.sees origin.clock origin.start origin.base all g.O.Sink.sees.tells (g.O.Sink.sees.taken c.args.out.now) serving
-          (S.sees.fault_count serving.store.shelf) follows
-          (stays_may S.sees origin.clock origin.start _ serving follows.keeps (λ f left. g.met.S.Shelf.only_now serving.store.shelf f tells left)));
+      runs = λ tells origin follows. record {
+        clock = origin.clock;
+        small = follows.small;
+        told = λ reads n. refl;
+        holds = subst (λ (n : ℕ). RunsTo S.sees g.C.Clock.sees origin.clock origin.start origin.base all g.O.Sink.sees.tells (g.O.Sink.sees.taken c.args.out.now) serving
+            (S.sees.fault_count serving.store.shelf) n (g.O.Sink.sees.taken c.args.out.now) serving) (sym none.0)
+            (to_none S.sees g.C.Clock.sees origin.clock origin.start origin.base all g.O.Sink.sees.tells (g.O.Sink.sees.taken c.args.out.now) serving
+            (S.sees.fault_count serving.store.shelf) follows
+            (stays_may S.sees origin.clock origin.start _ serving follows.keeps (λ f left. g.met.S.Shelf.only_now serving.store.shelf f tells left)));
+      };
     }
 
 pub next_turn-requires-clause-sessions : goal.next_turn-requires-clause-sessions
@@ -102,49 +111,49 @@ loop-seen-preserved g c =
       seats = ensured.seats ∙ inv.seats;
       later = (omega (arith, inv.later.0, ensured.later.0), omega (arith, inv.later.1, ensured.later.1));
       readings = λ clocks. takes_more (2 * given all left) 2 _ (g.C.Clock.sees.upcoming c.args.self.now.store.clock) (g.C.Clock.sees.upcoming c.loop-seen.self.store.clock) (g.C.Clock.sees.upcoming c.serve_line.new.self.store.clock) (inv.readings clocks) (ensured.readings clocks) (omega (arith, one.one));
-      runs = λ tells clocks origin follows.
-          let so_far = inv.runs tells clocks origin follows in
-          let told = ensured.runs tells clocks origin so_far.answered so_far.follows in
-          subst (λ n. RunsTo S.sees g.C.Clock.sees origin.clock origin.start origin.base all g.O.Sink.sees.tells (g.O.Sink.sees.taken c.args.out.now) c.args.self.now
-          (S.sees.fault_count c.serve_line.new.self.store.shelf) n (g.O.Sink.sees.taken c.serve_line.new.out) c.serve_line.new.self) (sym one.one)
-          (goes_on S.sees g.C.Clock.sees origin.clock origin.start origin.base all g.O.Sink.sees.tells (g.O.Sink.sees.taken c.args.out.now) c.args.self.now
+      runs = λ tells origin follows.
+          let so_far = inv.runs tells origin follows in
+          let told = ensured.runs tells (origin_of so_far.clock origin.start origin.base) so_far.holds.answered so_far.holds.follows in
+          subst (λ n. AtReadings g.C.Clock.sees.tells origin.clock (λ (clock : ℕ → ℕ). RunsTo S.sees g.C.Clock.sees clock origin.start origin.base all g.O.Sink.sees.tells (g.O.Sink.sees.taken c.args.out.now) c.args.self.now
+          (S.sees.fault_count c.serve_line.new.self.store.shelf) n (g.O.Sink.sees.taken c.serve_line.new.out) c.serve_line.new.self)) (sym one.one)
+          (line_goes_on S.sees g.C.Clock.sees origin.start origin.base all g.O.Sink.sees.tells (g.O.Sink.sees.taken c.args.out.now) c.args.self.now origin.clock
           (S.sees.fault_count c.loop-seen.self.store.shelf) (S.sees.fault_count c.serve_line.new.self.store.shelf) (given all left) c.in_ok-turn.turn.session line (g.O.Sink.sees.taken c.loop-seen.out) (g.O.Sink.sees.taken c.serve_line.new.out)
-          c.loop-seen.self c.serve_line.new.self next so_far c.serve_line.ensures.later.0 c.in_ok-serve_line.field-0 told);
+          c.loop-seen.self c.serve_line.new.self next so_far c.serve_line.ensures.later.0 (inv.later.0, c.serve_line.ensures.later.0) c.in_ok-serve_line.field-0 told);
     }
 
 -- ---- memory ends it before a line is begun
 
 pub returns-in_err-line-clause-runs : goal.returns-in_err-line-clause-runs
-returns-in_err-line-clause-runs g c = λ tells clocks origin follows.
+returns-in_err-line-clause-runs g c = λ tells origin follows.
     let S = g.S.Shelf in
     let all = g.L.Lines.left c.args.lines.now in
     let left = g.L.Lines.left c.loop-seen.lines in
     let some = some_left left c.in_err-line.ensures.some in
     let one = one_given all left some.1 some.0 c.loop-seen.invariant.left some.2 in
-    of_error (λ r. Runs S.sees g.C.Clock.sees origin (S.sees.fault_count c.loop-seen.self.store.shelf) all r (output_of g.O.Sink.sees c.args.out.now c.loop-seen.out) c.args.self.now c.loop-seen.self)
+    of_error (λ r. AtReadings g.C.Clock.sees.tells origin.clock (λ (clock : ℕ → ℕ). Runs S.sees g.C.Clock.sees (origin_of clock origin.start origin.base) (S.sees.fault_count c.loop-seen.self.store.shelf) all r (output_of g.O.Sink.sees c.args.out.now c.loop-seen.out) c.args.self.now c.loop-seen.self))
     c.from_residual.result line_end.NoMemory c.from_residual.ensures.0 c.from_residual.ensures.1
-    (to_unbegun S.sees g.C.Clock.sees origin.clock origin.start origin.base all g.O.Sink.sees.tells (g.O.Sink.sees.taken c.args.out.now) c.args.self.now
+    (readings_give (c.loop-seen.invariant.runs tells origin follows) (λ clock small told so_far. to_unbegun S.sees g.C.Clock.sees clock origin.start origin.base all g.O.Sink.sees.tells (g.O.Sink.sees.taken c.args.out.now) c.args.self.now
     (S.sees.fault_count c.loop-seen.self.store.shelf) (S.sees.fault_count c.loop-seen.self.store.shelf) (given all left) _ some.0 (g.O.Sink.sees.taken c.loop-seen.out) (g.O.Sink.sees.taken c.loop-seen.out)
-    c.loop-seen.self c.loop-seen.self (first_given all left some.1 some.0 one) (c.loop-seen.invariant.runs tells clocks origin follows) (omega arith))
+    c.loop-seen.self c.loop-seen.self (first_given all left some.1 some.0 one) so_far (omega arith)))
 
 pub returns-in_err-turn-clause-runs : goal.returns-in_err-turn-clause-runs
-returns-in_err-turn-clause-runs g c = λ tells clocks origin follows.
+returns-in_err-turn-clause-runs g c = λ tells origin follows.
     let S = g.S.Shelf in
     let all = g.L.Lines.left c.args.lines.now in
     let left = g.L.Lines.left c.loop-seen.lines in
     let after = g.L.Lines.left c.next.new.self in
     let line = named c.in-Some.line in
     let one = one_given all left after line c.loop-seen.invariant.left (is_next left (g.L.Lines.left c.next.new.self) c.in_ok-line.field-0 c.in-Some.line c.in-Some.is c.in_ok-line.ensures.next) in
-    of_error (λ r. Runs S.sees g.C.Clock.sees origin (S.sees.fault_count c.loop-seen.self.store.shelf) all r (output_of g.O.Sink.sees c.args.out.now c.loop-seen.out) c.args.self.now c.loop-seen.self)
+    of_error (λ r. AtReadings g.C.Clock.sees.tells origin.clock (λ (clock : ℕ → ℕ). Runs S.sees g.C.Clock.sees (origin_of clock origin.start origin.base) (S.sees.fault_count c.loop-seen.self.store.shelf) all r (output_of g.O.Sink.sees c.args.out.now c.loop-seen.out) c.args.self.now c.loop-seen.self))
     c.from_residual-in_err-turn.result line_end.NoMemory c.from_residual-in_err-turn.ensures.0 c.from_residual-in_err-turn.ensures.1
-    (to_unbegun S.sees g.C.Clock.sees origin.clock origin.start origin.base all g.O.Sink.sees.tells (g.O.Sink.sees.taken c.args.out.now) c.args.self.now
+    (readings_give (c.loop-seen.invariant.runs tells origin follows) (λ clock small told so_far. to_unbegun S.sees g.C.Clock.sees clock origin.start origin.base all g.O.Sink.sees.tells (g.O.Sink.sees.taken c.args.out.now) c.args.self.now
     (S.sees.fault_count c.loop-seen.self.store.shelf) (S.sees.fault_count c.loop-seen.self.store.shelf) (given all left) _ line (g.O.Sink.sees.taken c.loop-seen.out) (g.O.Sink.sees.taken c.loop-seen.out)
-    c.loop-seen.self c.loop-seen.self (first_given all left after line one) (c.loop-seen.invariant.runs tells clocks origin follows) (omega arith))
+    c.loop-seen.self c.loop-seen.self (first_given all left after line one) so_far (omega arith)))
 
 -- ---- a line ends it
 
 pub returns-in_err-serve_line-clause-runs : goal.returns-in_err-serve_line-clause-runs
-returns-in_err-serve_line-clause-runs g c = λ tells clocks origin follows.
+returns-in_err-serve_line-clause-runs g c = λ tells origin follows.
     let S = g.S.Shelf in
     let inv = c.loop-seen.invariant in
     let all = g.L.Lines.left c.args.lines.now in
@@ -154,13 +163,13 @@ returns-in_err-serve_line-clause-runs g c = λ tells clocks origin follows.
     let one = one_given all left after line inv.left (is_next left (g.L.Lines.left c.next.new.self) c.in_ok-line.field-0 c.in-Some.line c.in-Some.is c.in_ok-line.ensures.next) in
     let turn = rw c.as_slice.ensures at (c.in_ok-turn.ensures.turn (take (given all left) all) c.in-Some.line.command inv.seen) in
     let next = turn_given all left after line c.in_ok-turn.turn one turn in
-    let so_far = inv.runs tells clocks origin follows in
-    let told = c.in_err-serve_line.ensures.runs tells clocks origin so_far.answered so_far.follows in
-    of_error (λ r. Runs S.sees g.C.Clock.sees origin (S.sees.fault_count c.serve_line.new.self.store.shelf) all r (output_of g.O.Sink.sees c.args.out.now c.serve_line.new.out) c.args.self.now c.serve_line.new.self)
+    let so_far = inv.runs tells origin follows in
+    let told = c.in_err-serve_line.ensures.runs tells (origin_of so_far.clock origin.start origin.base) so_far.holds.answered so_far.holds.follows in
+    of_error (λ r. AtReadings g.C.Clock.sees.tells origin.clock (λ (clock : ℕ → ℕ). Runs S.sees g.C.Clock.sees (origin_of clock origin.start origin.base) (S.sees.fault_count c.serve_line.new.self.store.shelf) all r (output_of g.O.Sink.sees c.args.out.now c.serve_line.new.out) c.args.self.now c.serve_line.new.self))
     c.from_residual-in_err-serve_line.result c.in_err-serve_line.field-0.0 c.from_residual-in_err-serve_line.ensures.0 c.from_residual-in_err-serve_line.ensures.1
-    (stops S.sees g.C.Clock.sees origin.clock origin.start origin.base all g.O.Sink.sees.tells (g.O.Sink.sees.taken c.args.out.now) c.args.self.now
+    (line_stops S.sees g.C.Clock.sees origin.start origin.base all g.O.Sink.sees.tells (g.O.Sink.sees.taken c.args.out.now) c.args.self.now origin.clock
     (S.sees.fault_count c.loop-seen.self.store.shelf) (S.sees.fault_count c.serve_line.new.self.store.shelf) (given all left) c.in_ok-turn.turn.session line (g.O.Sink.sees.taken c.loop-seen.out) (g.O.Sink.sees.taken c.serve_line.new.out)
-    c.loop-seen.self c.serve_line.new.self next so_far c.serve_line.ensures.later.0 c.in_err-serve_line.field-0.0 told)
+    c.loop-seen.self c.serve_line.new.self next so_far c.serve_line.ensures.later.0 (inv.later.0, c.serve_line.ensures.later.0) c.in_err-serve_line.field-0.0 told)
 
 pub returns-in_err-serve_line-clause-readings : goal.returns-in_err-serve_line-clause-readings
 returns-in_err-serve_line-clause-readings g c = λ clocks.
@@ -172,11 +181,12 @@ returns-in_err-serve_line-clause-readings g c = λ clocks.
 -- ---- all are served
 
 pub returns-clause-runs : goal.returns-clause-runs
-returns-clause-runs g c = λ tells clocks origin follows.
+returns-clause-runs g c = λ tells origin follows.
     let S = g.S.Shelf in
     let all = g.L.Lines.left c.args.lines.now in
     let left = g.L.Lines.left c.loop-seen.lines in
     let none = ap (λ (ls : List NamedLine). length ls) (is_none left (g.L.Lines.left c.next.new.self) c.in_ok-line.field-0 c.in_default.is c.in_ok-line.ensures.next) in
-    to_done S.sees g.C.Clock.sees origin.clock origin.start origin.base all g.O.Sink.sees.tells (g.O.Sink.sees.taken c.args.out.now) c.args.self.now
+    readings_give (c.loop-seen.invariant.runs tells origin follows) (λ clock small told so_far.
+    to_done S.sees g.C.Clock.sees clock origin.start origin.base all g.O.Sink.sees.tells (g.O.Sink.sees.taken c.args.out.now) c.args.self.now
     (S.sees.fault_count c.loop-seen.self.store.shelf) (given all left) (g.O.Sink.sees.taken c.loop-seen.out) c.loop-seen.self tt
-    (omega (arith, none)) (c.loop-seen.invariant.runs tells clocks origin follows)
+    (omega (arith, none)) so_far)

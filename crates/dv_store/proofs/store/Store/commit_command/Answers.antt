@@ -1,7 +1,8 @@
 use Rattle.std.proofs.Common.{Err, refl, sym, ap, subst}
 use Rattle.dv_plans.specs.declared.plan.Plan.{Plan}
 use Rattle.dv_plans.specs.Befores.{reads_of}
-use Rattle.dv_plans.specs.Begins.{readings_of, received_at, turns}
+use Rattle.dv_plans.specs.Begins.{count_of, readings_of, received_at, turns}
+use Rattle.dv_plans.proofs.Dated.{cut, cut_same, cut_small}
 use Rattle.dv_groups.specs.Changes.{changed_uids}
 use Rattle.dv_writing.specs.Writes.{Write}
 use Rattle.dv_store.specs.Commits.{TakesReadings, write_at}
@@ -9,6 +10,7 @@ use Rattle.dv_store.specs.States.{State}
 use Rattle.dv_store.proofs.Committing.{quiet_idle, quiet_refused, quiet_written, rotates_not, rotates_written, stands_readied}
 use Rattle.dv_store.proofs.Equal.{owing_equal}
 use Rattle.dv_store.proofs.Receipts.{carried_paid, commits_idle, commits_refused, commits_written, disk_written, idle_untouched, idle_unwritten, later_cause, mails_counted, passed_cause, plan_written, readings_passed, readings_taken}
+use Rattle.dv_logfile.proofs.Settling.{looked_settled, settled_then}
 use Rattle.dv_store.proofs.store.Store.commit_command.Goals as goal
 
 pub write_plan-requires : goal.write_plan-requires
@@ -62,12 +64,13 @@ returns-in-Ok-Some-clause-gives g c = rw (← c.self.view_is) (λ tells.
     let looks = c.in-Ok-Some.ensures.looks tells in
     record {
       at = dated.at;
+      small = dated.small;
       clock = dated.clock;
       is = λ log debt author rest.
           let write : Write = write_at author c.args.c.now c.args.view.now dated.at in
           let stands = stands_readied S.sees log debt write _ rest mid.chain same c.forget.new.cache c.forget.ensures mid.shelf mid.clock looks in
           let plans = dated.is.each log author stands.named (stands.keeps (S.sees.files mid.shelf) (g.met.S.Shelf.leaves_files mid.shelf tells)) in
-          quiet_written S.sees log debt write _ rest mid.chain same c.forget.new.cache c.forget.ensures mid.shelf mid.clock looks plan c.write_plan.new.owed c.write_plan.new.chain c.write_plan.new.shelf is plans dated.is.files c.write_plan.new.at
+          quiet_written S.sees log debt write _ rest mid.chain same c.forget.new.cache c.forget.ensures mid.shelf mid.clock looks plan c.write_plan.new.owed c.write_plan.new.chain c.write_plan.new.shelf is plans dated.is.files dated.is.came c.write_plan.new.at
           c.appended_uid-uid.result c.write_plan.result c.write_plan.ensures.receipt (carried_paid c.write_plan.result c.write_plan.ensures.value) (disk_written (S.sees.fault_count c.write_plan.new.shelf) c.write_plan.result c.write_plan.ensures.err)
           (c.write_plan.ensures.gives tells log debt write rest.fits stands plans.is);
     })
@@ -76,9 +79,11 @@ pub returns-in-Ok-None-clause-gives : goal.returns-in-Ok-None-clause-gives
 returns-in-Ok-None-clause-gives g c = rw (← c.self.view_is, c.idle.ensures) (λ tells.
     let S = g.S.Shelf in
     let decides = rw c.in-Ok-None.field-0-is at c.in-Ok-None.ensures.decides in
+    let known = received_at (turns c.self.inside.owed c.self.inside.chain) (g.C.Clock.sees.upcoming c.self.inside.clock) in
     record {
-      at = received_at (turns c.self.inside.owed c.self.inside.chain) (g.C.Clock.sees.upcoming c.self.inside.clock);
-      clock = λ reads. refl;
+      at = cut known;
+      small = cut_small known;
+      clock = λ reads. cut_same known (g.met.C.Clock.readings_small c.self.inside.clock (count_of (turns c.self.inside.owed c.self.inside.chain)) reads);
       is = λ log debt author rest.
           quiet_idle S.sees log debt _ _ rest c.make_ready.new.chain c.in-Ok-None.ensures.chain c.forget.new.cache c.forget.ensures c.make_ready.new.shelf c.make_ready.new.clock (c.in-Ok-None.ensures.looks tells) Plan c.self.inside.mark c.appended_uid-uid.result decides;
     })
@@ -86,9 +91,11 @@ returns-in-Ok-None-clause-gives g c = rw (← c.self.view_is, c.idle.ensures) (�
 pub returns-in-Err-clause-gives : goal.returns-in-Err-clause-gives
 returns-in-Err-clause-gives g c = rw (← c.self.view_is) (λ tells.
     let S = g.S.Shelf in
+    let known = received_at (turns c.self.inside.owed c.self.inside.chain) (g.C.Clock.sees.upcoming c.self.inside.clock) in
     record {
-      at = received_at (turns c.self.inside.owed c.self.inside.chain) (g.C.Clock.sees.upcoming c.self.inside.clock);
-      clock = λ reads. refl;
+      at = cut known;
+      small = cut_small known;
+      clock = λ reads. cut_same known (g.met.C.Clock.readings_small c.self.inside.clock (count_of (turns c.self.inside.owed c.self.inside.chain)) reads);
       is = λ log debt author rest.
           quiet_refused S.sees log debt _ _ rest c.make_ready.new.chain c.in-Err.ensures.chain c.forget.new.cache c.forget.ensures c.make_ready.new.shelf c.make_ready.new.clock (c.in-Err.ensures.looks tells) c.in-Err.e;
     })
@@ -135,3 +142,22 @@ returns-in-Err-clause-clock g c = λ reads.
       λ tells due. rotates_not (upcoming c.args.self.now.clock 0) c.self.inside.chain c.make_ready.new.chain c.in-Err.ensures.chain c.args.self.now _ (g.S.Shelf.sees.files c.make_ready.new.shelf)
           (ap (λ (s : State g.row.S.Denot g.row.C.Denot). s.chain) (sym c.self.view_is)) refl due (ap (λ (s : State g.row.S.Denot g.row.C.Denot). s.owed) c.self.view_is),
     )
+
+pub returns-in-Ok-Some-clause-settled : goal.returns-in-Ok-Some-clause-settled
+returns-in-Ok-Some-clause-settled g c = rw (← c.self.view_is) (λ tells.
+    let S = g.S.Shelf in
+    let old = c.self.inside.shelf in
+    let mid = c.make_ready.new.shelf in
+    let ready = c.in-Ok-Some.ensures in
+    let looks = ready.looks tells in
+    settled_then S.sees old mid c.write_plan.new.shelf ready.cause.later c.write_plan.ensures.cause.later (looked_settled S.sees old mid looks.same looks.crash) (c.write_plan.ensures.settled tells))
+
+pub returns-in-Ok-None-clause-settled : goal.returns-in-Ok-None-clause-settled
+returns-in-Ok-None-clause-settled g c = rw (← c.self.view_is) (λ tells.
+    let looks = c.in-Ok-None.ensures.looks tells in
+    looked_settled g.S.Shelf.sees c.self.inside.shelf c.make_ready.new.shelf looks.same looks.crash)
+
+pub returns-in-Err-clause-settled : goal.returns-in-Err-clause-settled
+returns-in-Err-clause-settled g c = rw (← c.self.view_is) (λ tells.
+    let looks = c.in-Err.ensures.looks tells in
+    looked_settled g.S.Shelf.sees c.self.inside.shelf c.make_ready.new.shelf looks.same looks.crash)

@@ -7,6 +7,7 @@ returns-in-Ok-clause-made g c =
     let done = c.in-Ok.ensures in
     rw c.fresh.ensures (record {
       at = c.now-now.result;
+      small = c.is_number.ensures;
       clock = λ reads. c.now-now.ensures.reading reads;
       is = record {
         first = done.first.0;
@@ -25,13 +26,14 @@ returns-in-Err-clause-made g c =
     let failed = c.in-Err.ensures in
     record {
       at = c.now-now.result;
+      small = c.is_number.ensures;
       clock = λ reads. c.now-now.ensures.reading reads;
       is = record {
         first = tt;
         files = λ tells. failed.files tells;
         quiet = λ tells none settled. record {
           since = failed.since tells settled;
-          settled = tt;
+          settled = failed.settled tells settled;
           rests = tt;
           stands = tt;
         };

@@ -22,7 +22,7 @@ returns-in-Err-clause-opens g c = λ tells. record { found = c.in-Err.ensures.fo
 pub returns-in-Err-clause-quiet : goal.returns-in-Err-clause-quiet
 returns-in-Err-clause-quiet g c = λ tells settled. record {
   since = c.in-Err.ensures.quiet tells settled;
-  settled = tt;
+  settled = c.in-Err.ensures.settled tells settled;
   rests = tt;
   stands = tt;
 }

@@ -3,6 +3,8 @@ use Rattle.dv_store.specs.Paying.{KeepsLog}
 use Rattle.dv_writing.proofs.Making.{repair_mails}
 use Rattle.dv_store.proofs.Paid.{pays_done, pays_failed, pays_halted}
 use Rattle.dv_store.proofs.Swept.{mails_halted, mails_swept, swept_cache, swept_log}
+use Rattle.dv_logfile.proofs.Settling.{settled_then}
+use Rattle.dv_writing.proofs.Settling.{swept_settled}
 use Rattle.dv_store.proofs.store.Store.sweep.Goals.{in-Ok-clear, in-Err-clear}
 use Rattle.dv_store.proofs.store.Store.sweep.Goals as goal
 
@@ -38,3 +40,12 @@ returns-clause-quiet g c = rw (← c.self.view_is) (λ tells log debt rest.
       | in-Ok-clear w ↦ rw w.result-is (pays_done _ c.repair.new.turn c.repair.new.chain S.sees log debt rest c.repair.new.shelf mails c.in-Ok.field-0 c.self.invariant c.in-Ok.ensures.value quiet c.clear.new.shelf second cache _)
       | in-Err-clear w ↦ rw w.result-is (pays_halted _ c.repair.new.turn c.repair.new.chain S.sees log debt rest c.repair.new.shelf mails c.in-Ok.field-0 c.self.invariant c.in-Ok.ensures.value quiet c.clear.new.shelf second cache _)
     ])
+
+pub returns-clause-settled : goal.returns-clause-settled
+returns-clause-settled g c = rw (← c.self.view_is) (λ tells.
+    let S = g.S.Shelf in
+    let mid = c.repair.new.shelf in
+    let new = c.clear.new.shelf in
+    let paid = c.in-Ok.ensures in
+    settled_then S.sees c.self.inside.shelf mid new paid.cause.later c.clear.ensures.cause.later (paid.settled tells)
+    (swept_settled S.sees mid new c.as_slice.result.now c.clear.result c.clear.ensures.cause (c.clear.ensures.leaves tells)))

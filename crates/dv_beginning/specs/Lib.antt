@@ -1,0 +1,4 @@
+pub mod Starts
+pub mod Causes
+pub mod Leaving
+pub mod Begins

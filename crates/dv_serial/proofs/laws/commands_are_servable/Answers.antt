@@ -1,5 +1,0 @@
-use Rattle.dv_serial.proofs.Servable.{script_servable}
-use Rattle.dv_serial.proofs.laws.commands_are_servable.Goals as goal
-
-pub returns : goal.returns
-returns c = script_servable

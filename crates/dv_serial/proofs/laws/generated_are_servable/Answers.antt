@@ -1,8 +1,0 @@
-use Rattle.dv_serial.proofs.Generated.{generated_count, generated_servable}
-use Rattle.dv_serial.proofs.laws.generated_are_servable.Goals as goal
-
-pub returns-clause-commands : goal.returns-clause-commands
-returns-clause-commands c = generated_servable
-
-pub returns-clause-count : goal.returns-clause-count
-returns-clause-count c = generated_count

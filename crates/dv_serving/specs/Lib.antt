@@ -1,0 +1,11 @@
+pub mod Servable
+pub mod Laws
+pub mod Scripts
+pub mod Outputs
+pub mod Readings
+pub mod Faults
+pub mod Taking
+pub mod Lines
+pub mod Places
+pub mod Commits
+pub mod NextRuns
