@@ -1,0 +1,5 @@
+pub mod Rows
+pub mod Gathered
+pub mod Telling
+pub mod Merged
+pub mod Catching
