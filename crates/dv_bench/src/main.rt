@@ -1,8 +1,10 @@
 //! Applies the records of a log to a live mailbox, and says how long it took; sessions may be told
-//! of each record. Or plays sessions over one log, whose steps come in any order.
+//! of each record, or a kept search follow it. Or plays sessions over one log, whose steps come in
+//! any order.
 #![tactic(auto)]
 
 mod fault;
+mod kept;
 mod records;
 mod sessions;
 mod timing;
@@ -13,7 +15,8 @@ use std::env;
 use std::io::Read;
 use std::process::ExitCode;
 
-const USAGE: &str = "usage: dv_bench FIRST [touched | sessions] < RECORDS, or dv_bench ROWS worlds";
+const USAGE: &str =
+    "usage: dv_bench FIRST [touched | sessions | kept] < RECORDS, or dv_bench ROWS worlds";
 
 // What is done with the records that don't come first.
 #[derive(Clone, Copy)]
@@ -24,6 +27,8 @@ enum Way {
     Touched,
     // Sessions are told of each.
     Sessions,
+    // A kept search follows each.
+    Kept,
 }
 
 // What is timed.
@@ -39,6 +44,7 @@ fn task_of(first: u32, word: &str) -> Option<Task> {
     match word {
         "touched" => Some(Task::Records(first, Way::Touched)),
         "sessions" => Some(Task::Records(first, Way::Sessions)),
+        "kept" => Some(Task::Records(first, Way::Kept)),
         "worlds" => Some(Task::Worlds(first)),
         _ => None,
     }
@@ -70,6 +76,11 @@ fn time_input(rt: HostRuntime, first: usize, way: Way) -> Result<(), Fault> {
             let told = sessions::time_sessions(rt, &records, first)?;
             println!(rt; "{} lines told", told.lines)?;
             told.times
+        }
+        Way::Kept => {
+            let found = kept::time_kept(rt, &records, first)?;
+            println!(rt; "{} messages found", found.found)?;
+            found.times
         }
     };
     println!(rt;

@@ -1,6 +1,7 @@
 pub mod Spaced
 pub mod Sources
 pub mod Rests
+pub mod Beside
 pub mod Opened
 pub mod Printed
 pub mod Fetches

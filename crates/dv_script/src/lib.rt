@@ -15,10 +15,10 @@ mod value;
 
 pub use law::printed_script_is_parsed;
 pub use lines::{Lines, all_lines};
-pub use pieces::decimal_text;
+pub use pieces::{decimal_text, put_numbers};
 pub use printing::print_script;
 pub use reply::{begin_fetch, end_fetch, mark_text, put_line, replies_text, reply_text};
-pub use script::{open_script, parse, split_session};
+pub use script::{open_script, open_script_beside, parse, split_session};
 pub use script_lines::{Script, ScriptLines};
 pub use types::{Line, ScriptEnd};
 pub use value::{put_body, put_field, put_value};

@@ -53,8 +53,8 @@ pub(crate) fn put_around(
     put(text, behind)
 }
 
-// Each number behind the same bytes.
-pub(crate) fn put_numbers(text: &mut Bytes, before: &[u8], numbers: &[u32]) -> Result<(), NoMemory>
+/// Puts each number behind the same bytes.
+pub fn put_numbers(text: &mut Bytes, before: &[u8], numbers: &[u32]) -> Result<(), NoMemory>
     ensures ok { OnOk result
         (text.new ≡ text.old ++ flat_map (λ n. before.now ++ decimal n) numbers.now) }
     ensures err { OnErr result (Extends text.old text.new) }

@@ -1,8 +1,9 @@
-ghost use Rattle.std.specs.Prelude.{◌≡◌, ◌+◌, ◌<◌, ◌≤◌, ℕ, true, List, [], bytes_eq, count_by, length, IfErr, IfOk, IfSome, MatchBool, MatchOption, OnOk, Ok, Err, Some, None};
+ghost use Rattle.std.specs.Prelude.{◌≡◌, ◌+◌, ◌<◌, ◌≤◌, ℕ, true, All, List, [], bytes_eq, count_by, fold, length, IfErr, IfOk, IfSome, MatchBool, MatchOption, OnOk, Ok, Err, Some, None};
 ghost use Rattle.std.specs.List.{list_all, list_any};
 ghost use Rattle.std.specs.Str.Lines.{strip_carriage_return};
-ghost use Rattle.dv_formats.specs.Scripts.{IsBadLine, IsScript, IsShortLiteral, IsTooLong, NamedLine, is_session_byte, sessions_of};
+ghost use Rattle.dv_formats.specs.Scripts.{IsBadLine, IsScript, IsShortLiteral, IsTooLong, NamedLine, and_session, is_session_byte, session_limit, sessions_of};
 ghost use Rattle.dv_formats.specs.Parsing.{ScriptFault, behind_line_end, command_at, feeds_before, first_line, is_byte, is_session_name, is_skipped, line_at, literal_at, parsed, session_at, with_session};
+ghost use Rattle.dv_script.specs.Beside.{HasName, parsed_among, parsed_beside, unnamed};
 ghost use Rattle.dv_script.specs.Opened.{OpensAs, OpensOf, lines_left};
 ghost use Rattle.dv_script.specs.Rests.{BeginsCommand, LeavesOut, is_good, is_passed, left_from};
 ghost use Rattle.dv_script.specs.Sources.{IsOf, LineGives, ScriptFails, ScriptGives, may_name, named, script_end_of};
@@ -65,6 +66,52 @@ pub fn open_script(alloc: Global, b: &[u8]) -> Result<Script<'_>, ScriptEnd>
     open_lines(alloc, b)
 }
 
+/// As `open_script`, where one session more is to stand beside those that the lines name: they may
+/// name 63, and the first line of another is bad.
+pub fn open_script_beside(alloc: Global, b: &[u8]) -> Result<Script<'_>, ScriptEnd>
+    ensures lines { OpensAs result (parsed_beside b.now) }
+    ensures few { IfOk result (λ script. length (lines_left script.lines) ≤ length b.now) }
+    ensures sessions { IfOk result (λ script.
+        script.sessions ≡ length (sessions_of (lines_left script.lines))) }
+    ensures limit { IfOk result (λ script. script.sessions < session_limit) }
+    // By the grammar, too, these are the script's lines, and one with so few sessions is opened.
+    ensures found { IfOk result (λ script. IsScript (lines_left script.lines) b.now) }
+    ensures only { (lines : List NamedLine) → IsScript lines b.now
+        → length (sessions_of lines) < session_limit → OpensAs result (Ok lines) }
+{
+    open_beside(alloc, b)
+}
+
+// A cursor at the first line, where another session stands beside those of the lines, or the
+// script's first fault.
+fn open_beside(alloc: Global, b: &[u8]) -> Result<Script<'_>, ScriptEnd>
+    ensures lines { OpensAs result (parsed_beside b.now) }
+    ensures few { IfOk result (λ script. length (lines_left script.lines) ≤ length b.now) }
+    ensures sessions { IfOk result (λ script.
+        script.sessions ≡ length (sessions_of (lines_left script.lines))) }
+    ensures limit { IfOk result (λ script. script.sessions < session_limit) }
+{
+    let count = count_sessions(alloc, unnamed(alloc)?, b)?;
+    let lines = ScriptLines {
+        alloc,
+        rest: b,
+        names: unnamed(alloc)?,
+    };
+    Ok(Script {
+        lines,
+        sessions: count - 1,
+    })
+}
+
+// The name of a session that no line names.
+fn unnamed(alloc: Global) -> Result<List<Bytes>, NoMemory>
+    ensures { IfOk result (λ names. names ≡ unnamed) }
+{
+    let mut names = List::new(alloc);
+    names.push(Bytes::new(alloc))?;
+    Ok(names)
+}
+
 // A cursor at the first line, or the script's first fault.
 fn open_lines(alloc: Global, b: &[u8]) -> Result<Script<'_>, ScriptEnd>
     ensures lines { OpensAs result (parsed b.now) }
@@ -72,7 +119,7 @@ fn open_lines(alloc: Global, b: &[u8]) -> Result<Script<'_>, ScriptEnd>
     ensures sessions { IfOk result (λ script.
         script.sessions ≡ length (sessions_of (lines_left script.lines))) }
 {
-    let sessions = count_sessions(alloc, b)?;
+    let sessions = count_sessions(alloc, List::new(alloc), b)?;
     let names = List::new(alloc);
     let lines = ScriptLines {
         alloc,
@@ -111,18 +158,23 @@ fn read_lines(alloc: Global, b: &[u8]) -> Result<List<Line>, ScriptEnd>
     Ok(all_lines(alloc, &mut script.lines)?)
 }
 
-// Goes over one line after another, up to the first fault, and gives the number of their sessions.
-fn count_sessions(alloc: Global, b: &[u8]) -> Result<u32, ScriptEnd>
-    ensures lines { OnOk result (parsed b.now ≡ Ok (left_from [] b.now)) }
-    ensures fault { IfErr result (λ e. ScriptFails e (parsed b.now)) }
-    ensures good { OnOk result (is_good [] b.now ≡ true) }
-    ensures few { OnOk result (length (left_from [] b.now) ≤ length b.now) }
-    ensures sessions { IfOk result (λ n. n ≡ length (sessions_of (left_from [] b.now))) }
+// Goes over one line after another, up to the first fault, behind sessions of some names, and gives
+// the number of all sessions.
+fn count_sessions(alloc: Global, first: List<Bytes>, b: &[u8]) -> Result<u32, ScriptEnd>
+    requires { length first ≤ 64 }
+    ensures lines { OnOk result (parsed_among first b.now ≡ Ok (left_from first b.now)) }
+    ensures fault { IfErr result (λ e. ScriptFails e (parsed_among first b.now)) }
+    ensures good { OnOk result (is_good first b.now ≡ true) }
+    ensures few { OnOk result (length (left_from first b.now) ≤ length b.now) }
+    ensures sessions { IfOk result (λ n.
+        (n ≡ length (fold and_session first (left_from first b.now))) × (n ≤ 64)) }
+    // Each line has a session with a name.
+    ensures named { OnOk result (All HasName (left_from first b.now)) }
 {
     if b.len() > MAX_SCRIPT {
         return Err(ScriptEnd::TooLong);
     }
-    let mut names = List::new(alloc);
+    let mut names = first;
     let mut rest = b;
     let mut number: u32 = 1;
     'lines: while !rest.is_empty() {

@@ -7,7 +7,7 @@ invariant-lines l = record {
   short : length l.b ≤ 67108864;
   counted : l.number + length l.rest ≤ length l.b + 1;
   seats : length l.names ≤ 64;
-  same : IsReadTo l.b l.number l.names l.rest;
+  same : IsReadTo l.fn.first l.b l.number l.names l.rest;
 }
 
 abbrev pub decreases-lines : goal.decreases-lines

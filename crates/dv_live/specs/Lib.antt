@@ -1,0 +1,6 @@
+pub mod Examples
+pub mod Keeping
+pub mod Groups
+pub mod Laws
+pub mod Steadiness
+pub mod Turning

@@ -1,0 +1,12 @@
+//! Tests of kept searches over a mailbox that records change: by hand, and generated.
+#![tactic(auto)]
+
+mod follower;
+#[cfg(test)]
+mod generated;
+#[cfg(test)]
+mod keys;
+#[cfg(test)]
+mod rows;
+
+pub use follower::{Turn, first_other};

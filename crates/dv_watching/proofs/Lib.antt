@@ -1,0 +1,5 @@
+mod Shallow
+mod Texts
+mod Served
+mod Running
+mod Searched
