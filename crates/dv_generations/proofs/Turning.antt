@@ -1,5 +1,5 @@
 -- Generations behind a publish, and behind a next table.
-use Rattle.std.proofs.Common.{◌≡◌, ℕ, suc, ◌+◌, ◌-◌, ◌/◌, false, true, List, [], ◌∷◌, ◌++◌, length, Option, None, Some, refl, sym, ap, subst, ◌∙◌, append_assoc, append-nil, arith, length-append}
+use Rattle.std.proofs.Common.{◌≡◌, ℕ, suc, ◌+◌, ◌-◌, ◌/◌, Bool, false, true, List, [], ◌∷◌, ◌++◌, length, Option, None, Some, refl, sym, ap, subst, ◌∙◌, append_assoc, append-nil, arith, length-append}
 use Rattle.std.proofs.lemmas.List.Elements.{All-push}
 use Rattle.atomic_table.specs.Seated.{TableId}
 use Rattle.dv_model.specs.Spelling.{group_text}
@@ -75,10 +75,10 @@ module _ (origin : Origin) (count : ℕ) (older : List Ends) (newest : Ends) (ta
       (subst (AreNotes origin.mailbox origin.mark) (sym notes) good)
 
   -- what contracts see behind a publish
-  pub published_view : (note : Note) (pen : PenView) (words spare : ℕ) → pen ≡ with_entry newest.pen note → length (entry_words note.entry) ≡ words + 2
-      → ◌≡◌ {A = Feed} record { parts = parts_in (older ++ record newest { pen = pen } ∷ []); left = pen.generation.room - length pen.put; spare = spare }
-      (feeds.published words note record { parts = parts_in (older ++ newest ∷ []); left = newest.pen.generation.room - length newest.pen.put; spare = spare })
-  published_view note pen words spare is long =
+  pub published_view : (note : Note) (pen : PenView) (words spare size : ℕ) (kept : Bool) → pen ≡ with_entry newest.pen note → length (entry_words note.entry) ≡ words + 2
+      → ◌≡◌ {A = Feed} record { parts = parts_in (older ++ record newest { pen = pen } ∷ []); left = pen.generation.room - length pen.put; spare = spare; words = size; pass = kept }
+      (feeds.published words note record { parts = parts_in (older ++ newest ∷ []); left = newest.pen.generation.room - length newest.pen.put; spare = spare; words = size; pass = kept })
+  published_view note pen words spare size kept is long =
       let notes : pen.notes ≡ newest.pen.notes ++ note ∷ [] = ap (λ (p : PenView). p.notes) is in
       let parts : parts_in (older ++ record newest { pen = pen } ∷ []) ≡ with_last (parts_in (older ++ newest ∷ [])) note =
       parts_last older (record newest { pen = pen }) ∙ ap (λ (l : List Note). parts_in older ++ l ∷ []) notes
@@ -86,7 +86,7 @@ module _ (origin : Origin) (count : ℕ) (older : List Ends) (newest : Ends) (ta
       let room : pen.generation.room ≡ newest.pen.generation.room = ap (λ (p : PenView). p.generation.room) is in
       let put : length pen.put ≡ length newest.pen.put + length (entry_words note.entry) = ap (λ (p : PenView). length p.put) is ∙ length-append newest.pen.put (entry_words note.entry) in
       let left : pen.generation.room - length pen.put ≡ newest.pen.generation.room - length newest.pen.put - (words + 2) = omega (arith, room, put, long) in
-      (λ i. record { parts = parts i; left = left i; spare = spare })
+      (λ i. record { parts = parts i; left = left i; spare = spare; words = size; pass = kept })
 
   pub published_journal : (note : Note) (pen : PenView) → pen ≡ with_entry newest.pen note → joined (parts_in (older ++ record newest { pen = pen } ∷ [])) ≡ joined (parts_in (older ++ newest ∷ [])) ++ note ∷ []
   published_journal note pen is =

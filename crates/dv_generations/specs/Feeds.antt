@@ -1,5 +1,5 @@
 -- What contracts see of the generations of a keeper.
-use Rattle.std.specs.Prelude.{◌≡◌, ℕ, ◌+◌, ◌-◌, ◌≤◌, nat_lt, max, List, [], ◌∷◌, ◌++◌, length, take, Option, Some, None}
+use Rattle.std.specs.Prelude.{◌≡◌, ℕ, ◌+◌, ◌-◌, ◌≤◌, nat_lt, max, Bool, false, true, List, [], ◌∷◌, ◌++◌, length, take, Option, Some, None}
 use mathlib.Core.List.{IsPrefix}
 use Rattle.dv_model.specs.Journals.{Log}
 use Rattle.dv_front.specs.declared.notes.Note.{Note}
@@ -7,12 +7,15 @@ use Rattle.dv_front.specs.declared.notes.Origin.{Origin}
 use Rattle.dv_front.specs.Ends.{PassView}
 use Rattle.dv_front.specs.Notes.{AreGood}
 
--- the notes of each generation, the oldest first; how many words are left in the newest table; and for how many generations
--- more the list has room
+-- the notes of each generation, the oldest first; how many words are left in the newest table; for how many generations
+-- more the list has room; how many words a next table has, where no group needs more; and whether a pass of the newest is
+-- kept for who publishes
 pub record Feed : Type 0 where
   pub parts : List (List Note)
   pub left : ℕ
   pub spare : ℕ
+  pub words : ℕ
+  pub pass : Bool
 
 -- a table for a generation: the notes before it, its number, and how many words it holds
 pub record NextView : Type 0 where
@@ -43,7 +46,7 @@ origin_of start = record { mailbox = start.start; mark = start.start_mark }
 
 -- one generation without notes
 abbrev pub new_feed : ℕ → Feed
-new_feed words = record { parts = [] ∷ []; left = words; spare = 0 }
+new_feed words = record { parts = [] ∷ []; left = words; spare = 0; words = words; pass = false }
 
 -- the table is for the generation behind all that was published
 abbrev pub IsBehind : Feed → NextView → Type 0
@@ -62,15 +65,19 @@ Fits words f (Some n) = Follows f n × (words + 2 ≤ n.room)
 abbrev pub with_spare : Feed → Feed
 with_spare f = record f { spare = max f.spare 1 }
 
--- so it is where there is a table for it
+-- with a pass of the newest
+abbrev pub with_pass : Feed → Feed
+with_pass f = record f { pass = true }
+
+-- what was made ready: a pass of the newest, or room for the table that there is, which has one
 abbrev pub with_room : Feed → Option NextView → Feed
-with_room f None = f
+with_room f None = with_pass f
 with_room f (Some n) = with_spare f
 
 -- with that table as the newest
 abbrev pub turned : Feed → Option NextView → Feed
 turned f None = f
-turned f (Some n) = record { parts = f.parts ++ [] ∷ []; left = n.room; spare = f.spare - 1 }
+turned f (Some n) = record f { parts = f.parts ++ [] ∷ []; left = n.room; spare = f.spare - 1; pass = true }
 
 -- the last list has a note more
 abbrev pub with_last : List (List Note) → Note → List (List Note)

@@ -18,10 +18,13 @@ pub(crate) struct Ends {
 #[derive(Drop)]
 pub struct Next<K: Keeping> {
     pub(crate) ends: Ends,
+    /// A pass of it for who publishes.
+    pub(crate) spare: Pass,
     pub(crate) of: PhantomData<K>,
 }
 
 impl<K: Keeping> Model for Next<K> {
+    ghost use Rattle.std.specs.Prelude.{◌≡◌};
     ghost use Rattle.dv_generations.specs.Feeds.{NextView, origin_of};
 
     ghost Value = { NextView };
@@ -34,7 +37,8 @@ impl<K: Keeping> Model for Next<K> {
       room = n.ends.pen.generation.room;
     } };
 
-    ghost invariant = { λ n. IsNew (origin_of K.start) K.count n.ends };
+    ghost invariant = { λ n.
+        IsNew (origin_of K.start) K.count n.ends × (n.spare.table ≡ n.ends.pen.table) };
 }
 
 /// A pass of a table that has taken nothing, and knows all that its pen published.

@@ -1,11 +1,11 @@
-ghost use Rattle.std.specs.Prelude.{◌≡◌, ◌+◌, ◌++◌, ◌∷◌, [], ◌/◌, ◌≤◌, ◌<◌, length, is_some, IsTrue, IfOk, OnErr, OnOk, Some};
+ghost use Rattle.std.specs.Prelude.{◌≡◌, ◌+◌, ◌++◌, ◌∷◌, [], ◌/◌, ◌≤◌, ◌<◌, length, is_some, max, IsTrue, IfOk, IfSome, OnErr, OnOk, Some};
 ghost use Rattle.dv_model.specs.Spelling.{group_text};
 ghost use Rattle.dv_front.specs.Notes.{AreNotes};
-ghost use Rattle.dv_generations.specs.Feeds.{Fits, Follows, IsBehind, journal, new_feed, published, turned, with_room, with_spare};
+ghost use Rattle.dv_generations.specs.Feeds.{Fits, Follows, IsBehind, journal, new_feed, published, turned, with_pass, with_room, with_spare};
 
 use crate::ends::{Ends, Next};
 use dv_feed::publish_group;
-use dv_front::{NamesNote, Roll, enter, new_front, next_front, seal, words_left};
+use dv_front::{NamesNote, Pass, Roll, enter, new_front, next_front, seal, split, words_left};
 use dv_model::{Mailbox, Mark, NoMemory};
 use dv_naming::Keeping;
 use std::alloc::Global;
@@ -16,13 +16,16 @@ use std::mem;
 const MOST_WORDS: u64 = 4_294_967_293;
 
 /// The pens of all generations, the newest apart, and the roll that names their tables. Contracts
-/// see the notes of each generation, how many words are left in the newest table, and for how many
-/// generations more there is room in the list.
+/// see the notes of each generation, how many words are left in the newest table, for how many
+/// generations more there is room in the list, how many words a next table has, and whether a pass
+/// of the newest is kept.
 #[derive(Drop)]
 pub struct Generations<K: Keeping> {
     pub(crate) older: Vec<Ends>,
     pub(crate) newest: Ends,
     pub(crate) roll: Roll,
+    // A pass of the newest for who publishes, so that it can be had without memory.
+    pub(crate) pass: Option<Pass>,
     // How many generations more the list of older ones takes without memory.
     spare: u64,
     // The number of words of a table, where no group needs more.
@@ -31,7 +34,7 @@ pub struct Generations<K: Keeping> {
 }
 
 impl<K: Keeping> Model for Generations<K> {
-    ghost use Rattle.std.specs.Prelude.{◌≡◌, ◌+◌, ◌-◌, ◌≤◌, ◌++◌, ◌∷◌, [], length, vec_len, vec_capacity};
+    ghost use Rattle.std.specs.Prelude.{◌≡◌, ◌+◌, ◌-◌, ◌≤◌, ◌++◌, ◌∷◌, [], length, is_some, vec_len, vec_capacity, IfSome};
     ghost use Rattle.dv_generations.specs.Feeds.{Feed, origin_of};
 
     ghost Value = { Feed };
@@ -42,13 +45,16 @@ impl<K: Keeping> Model for Generations<K> {
       parts = parts_in (g.older.items ++ g.newest ∷ []);
       left = g.newest.pen.generation.room - length g.newest.pen.put;
       spare = g.spare;
+      words = g.words;
+      pass = is_some g.pass;
     } };
 
     ghost invariant = { λ g.
         AreGenerations (origin_of K.start) K.count g.older.items g.newest g.roll.items
         × (g.roll.table ≡ K.roll)
         × (vec_len g.older + g.spare ≤ vec_capacity g.older)
-        × (1 ≤ g.words) };
+        × (1 ≤ g.words)
+        × IfSome g.pass (λ p. p.table ≡ g.newest.pen.table) };
 }
 
 impl<K: Keeping> Generations<K> {
@@ -74,6 +80,7 @@ impl<K: Keeping> Generations<K> {
             older: Vec::new(alloc),
             newest: Ends { pen, pass },
             roll,
+            pass: None,
             spare: 0,
             words,
             of: PhantomData,
@@ -88,12 +95,14 @@ impl<K: Keeping> Generations<K> {
     }
 
     /// Takes all memory that publishing a group of so many words asks for: a next table, where the
-    /// group doesn't fit into the newest. Nothing is published, sealed or named by that.
+    /// group doesn't fit into the newest, and a pass for who publishes. Nothing is published,
+    /// sealed or named by that.
     pub fn ready(&mut self, alloc: Global, words: u64) -> Result<Option<Next<K>>, NoMemory>
         ensures stays { IfOk result (λ next. self.new ≡ with_room self.old next) }
         ensures fits { IfOk result (λ next. Fits words self.new next) }
-        // There is a next table only where it is needed.
+        // There is a next table only where it is needed, of no more words than are asked for.
         ensures needed { IfOk result (λ next. IsTrue (is_some next) → self.old.left < words + 2) }
+        ensures size { IfOk result (λ next. IfSome next (λ n. n.room ≡ max (words + 2) self.old.words)) }
         ensures err { OnErr result (self.new ≡ self.old) }
     {
         if words > MOST_WORDS {
@@ -101,7 +110,10 @@ impl<K: Keeping> Generations<K> {
         }
         let needed = words as u32 + 2;
         if needed <= words_left(&self.newest.pen) {
-            return Ok(None);
+            return match self.keep_pass() {
+                Ok(()) => Ok(None),
+                Err(_) => Err(NoMemory),
+            };
         }
         let Ok(next) = self.table_behind(alloc, needed.max(self.words)) else {
             return Err(NoMemory);
@@ -117,11 +129,24 @@ impl<K: Keeping> Generations<K> {
         requires words { 1 ≤ words }
         ensures { IfOk result (λ next. IsBehind self.now next × (next.room ≡ words)) }
     {
-        let (pen, pass) = next_front(alloc, &self.newest.pen, words)?;
+        let (pen, mut pass) = next_front(alloc, &self.newest.pen, words)?;
+        let spare = split(&mut pass)?;
         Ok(Next {
             ends: Ends { pen, pass },
+            spare,
             of: PhantomData,
         })
+    }
+
+    // A pass of the newest table is kept.
+    fn keep_pass(&mut self) -> Result<(), NoMemory>
+        ensures ok { OnOk result (self.new ≡ with_pass self.old) }
+        ensures err { OnErr result (self.new ≡ self.old) }
+    {
+        if self.pass.is_none() {
+            self.pass = Some(split(&mut self.newest.pass)?);
+        }
+        Ok(())
     }
 
     // Room for a generation more in the list.
@@ -161,9 +186,10 @@ impl<K: Keeping> Generations<K> {
     {
         seal(&mut self.newest.pen);
         enter(&mut self.roll, &next.ends.pass);
-        let Next { ends, of: _ } = next;
+        let Next { ends, spare, of: _ } = next;
         let older = mem::replace(&mut self.newest, ends);
         self.older.push(older).unwrap();
         self.spare -= 1;
+        self.pass = Some(spare);
     }
 }

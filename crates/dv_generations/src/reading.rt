@@ -1,4 +1,4 @@
-ghost use Rattle.std.specs.Prelude.{◌≡◌, ◌≤◌, length, IfOk, Some};
+ghost use Rattle.std.specs.Prelude.{◌≡◌, ◌≤◌, false, true, length, IfOk, Some};
 ghost use mathlib.Core.List.{IsPrefix};
 ghost use Rattle.dv_front.specs.Rolls.{table_at};
 ghost use Rattle.dv_generations.specs.Feeds.{IsShown};
@@ -62,5 +62,22 @@ impl<K: Keeping> Generations<K> {
         } else {
             pass_at(&mut self.newest)
         }
+    }
+
+    /// The pass that is kept for who publishes, of the newest generation: it knows all notes of it.
+    /// The leaf's list is made the whole one. Takes no memory.
+    pub fn newest(&mut self, leaf: &mut Leaf) -> Pass
+        requires roll { leaf.old.table ≡ K.roll }
+        requires kept { self.old.pass ≡ true }
+        ensures shown { IsShown K.start K.count self.old (length self.old.parts) result }
+        ensures table { table_at leaf.new.items (length self.old.parts) ≡ Some result.table }
+        ensures leaf { IsPrefix leaf.old.items leaf.new.items × (leaf.new.table ≡ K.roll) }
+        ensures all { length leaf.new.items ≡ length self.old.parts }
+        ensures given { self.new ≡ record self.old { pass = false } }
+    {
+        extend(&mut self.roll, leaf);
+        let mut pass = self.pass.take().unwrap();
+        show(&mut self.newest.pen, &mut pass);
+        pass
     }
 }

@@ -1,4 +1,7 @@
-use Rattle.std.proofs.Common.{◌≡◌, ◌/◌, ◌++◌, ◌∷◌, [], ◌∙◌, sym, ap, length, List}
+use Rattle.std.proofs.Common.{◌≡◌, ◌/◌, ◌++◌, ◌∷◌, [], ◌∙◌, sym, ap, subst, length, List}
+use Rattle.std.specs.Prelude.{is_some, IfSome}
+use Rattle.atomic_table.specs.Seated.{TableId}
+use Rattle.dv_front.specs.Ends.{PassView, PenView}
 use Rattle.dv_front.specs.declared.notes.Note.{Note}
 use Rattle.dv_generations.specs.Feeds.{Feed, journal, origin_of, published, turned}
 use Rattle.dv_generations.proofs.Turning.{entry_long, good_on, newest_link, published_journal, published_on, published_view, turned_journal}
@@ -24,6 +27,7 @@ invariant_of-self g c = (
   c.self.invariant.1,
   c.self.invariant.2,
   c.self.invariant.3,
+  subst (λ (t : TableId). IfSome c.self.inside.pass (λ (p : PassView). p.table ≡ t)) (sym (ap (λ (p : PenView). p.table) c.publish_group.ensures)) c.self.invariant.4,
 )
 
 pub returns-clause-feed : goal.returns-clause-feed
@@ -34,7 +38,7 @@ returns-clause-feed g c =
     ] in
     let long = entry_long g.J.NamesNote.note c.args.text.now c.requires.text in
     published_view (origin_of g.K.Keeping.start) g.K.Keeping.count c.self.inside.older.items c.self.inside.newest c.self.inside.roll.items c.self.invariant.0 g.J.NamesNote.note c.publish_group.new.pen
-    (length c.args.text.now / 4) c.self.inside.spare c.publish_group.ensures long
+    (length c.args.text.now / 4) c.self.inside.spare c.self.inside.words (is_some c.self.inside.pass) c.publish_group.ensures long
     ∙ ap (λ (f : Feed). published (length c.args.text.now / 4) g.J.NamesNote.note f) (c.self.view_is ∙ is)
 
 pub returns-clause-journal : goal.returns-clause-journal

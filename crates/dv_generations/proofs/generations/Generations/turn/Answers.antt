@@ -16,9 +16,9 @@ invariant_of-self g c =
     let base = ap (λ (n : NextView). n.base) c.next.view_is ∙ c.requires.0.0 ∙ ap (λ (f : Feed). joined f.parts) (sym c.self.view_is) in
     let number = ap (λ (n : NextView). n.number) c.next.view_is ∙ c.requires.0.1 ∙ ap (λ (f : Feed). length f.parts + 1) (sym c.self.view_is) in
     let names : c.enter.new.r.items ≡ c.self.inside.roll.items ++ c.next.inside.ends.pen.table ∷ [] =
-    ap (λ (l : ListingView). l.items) c.enter.ensures ∙ ap (λ (p : PassView). c.self.inside.roll.items ++ p.table ∷ []) c.next.invariant.pass in
+    ap (λ (l : ListingView). l.items) c.enter.ensures ∙ ap (λ (p : PassView). c.self.inside.roll.items ++ p.table ∷ []) c.next.invariant.0.pass in
     let all = turned_on (origin_of g.K.Keeping.start) g.K.Keeping.count c.self.inside.older.items c.self.inside.newest c.self.inside.roll.items c.self.invariant.0
-    c.seal.new.pen c.next.inside.ends c.enter.new.r.items c.seal.ensures c.next.invariant base number names in
+    c.seal.new.pen c.next.inside.ends c.enter.new.r.items c.seal.ensures c.next.invariant.0 base number names in
     let first : AreGenerations (origin_of g.K.Keeping.start) g.K.Keeping.count c.push.new.self.items c.next.inside.ends c.enter.new.r.items =
     subst (λ (es : List Ends). AreGenerations (origin_of g.K.Keeping.start) g.K.Keeping.count es c.next.inside.ends c.enter.new.r.items) (sym sealed) all in
     let long : vec_len c.push.new.self ≡ vec_len c.self.inside.older + 1 = rw c.unwrap.ensures at c.push.ensures.len in
@@ -28,4 +28,5 @@ invariant_of-self g c =
       ap (λ (l : ListingView). l.table) c.enter.ensures ∙ c.self.invariant.1,
       omega (arith, long, spare, room, c.requires.1, c.push.ensures.capacity),
       c.self.invariant.3,
+      c.next.invariant.1 ∙ ap (λ (e : Ends). e.pen.table) (sym c.replace-older.ensures.after),
     )

@@ -1,0 +1,5 @@
+pub mod Members
+pub mod Inside
+pub mod Batches
+pub mod Reaching
+pub mod Calls

@@ -1,0 +1,6 @@
+pub mod Beginnings
+pub mod Grown
+pub mod Outcomes
+pub mod Committed
+pub mod Looked
+pub mod Numbers

@@ -1,0 +1,9 @@
+pub mod Kept
+pub mod Codes
+pub mod Attempts
+pub mod Journals
+pub mod Holding
+pub mod Beginning
+pub mod Writing
+pub mod Committing
+pub mod Reading

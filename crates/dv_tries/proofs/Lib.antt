@@ -1,0 +1,4 @@
+pub mod Growing
+pub mod Durable
+pub mod Standing
+pub mod Keeping
