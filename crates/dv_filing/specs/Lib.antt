@@ -1,0 +1,4 @@
+pub mod Standing
+pub mod Ways
+pub mod Files
+pub mod Writes

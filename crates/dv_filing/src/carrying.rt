@@ -1,0 +1,59 @@
+//! A write as a whole.
+
+ghost use Rattle.std.specs.Prelude.{◌≡◌};
+ghost use Rattle.dv_model.specs.declared.types.Mailbox.{Mailbox};
+ghost use Rattle.dv_shelf.specs.Causes.{HasCause};
+ghost use Rattle.dv_logfile.specs.Settling.{StaysSettled};
+ghost use Rattle.dv_chain.specs.Rest.{Owed};
+ghost use Rattle.dv_writing.specs.Repairing.{IsOwing};
+ghost use Rattle.dv_writing.specs.Ways.{held};
+ghost use Rattle.dv_maps.specs.Texts.{Messages};
+ghost use Rattle.dv_filing.specs.Standing.{Fits, Stands};
+ghost use Rattle.dv_filing.specs.Writes.{AreSteps, CarriesOut, IsWriteOf, WritesStorage};
+
+use crate::{Steps, make_way, write_files};
+use dv_chain::Chain;
+use dv_model::Bytes;
+use dv_rotation::Turn;
+use dv_shelf::{Failed, Shelf};
+use dv_writing::{Committed, commit};
+
+/// Carries out a write whose group has this text: pays what is owed, rotates the log where that is
+/// due, writes the file before the group, and then the group. Takes no memory. After `Failed` the
+/// map is as before, and what is owed is kept. A crash at any moment leaves a folder that gives the
+/// map from before, with what was owed, or with the group, whole.
+pub fn carry_out<S: Shelf>(
+    chain: &mut Chain,
+    shelf: &mut S,
+    owed: &mut Option<Turn>,
+    text: &Bytes,
+    steps: Steps,
+) -> Result<Committed, Failed>
+    requires owing { IsOwing chain.old owed.old }
+    requires steps { AreSteps owed.old chain.old text.now steps }
+    // The map, the mark and what is owed; what an error keeps.
+    ensures value { CarriesOut owed.old owed.new text.now steps chain.old chain.new result }
+    // What the folder gives, at any moment and afterwards; from rest to rest.
+    ensures gives { S.sees.tells → (messages next : Messages) (debt : Owed) (after : Mailbox) →
+        Fits owed.old chain.old.live.mailbox debt →
+        Stands S.sees messages debt chain.old shelf.old →
+        IsWriteOf messages next after owed.old chain.old (S.sees.files shelf.old) text.now steps →
+        WritesStorage S.sees messages next debt after text.now steps
+        (held shelf.old chain.old owed.old) (held shelf.new chain.new owed.new) result }
+    ensures settled { S.sees.tells → StaysSettled S.sees shelf.old shelf.new }
+    // No message file is read; an error has its cause.
+    ensures mail_reads { S.sees.mail_reads shelf.new ≡ S.sees.mail_reads shelf.old }
+    ensures cause { HasCause (S.sees.fault_count shelf.old) (S.sees.fault_count shelf.new) result }
+{
+    let Steps {
+        turn,
+        files,
+        prepared,
+    } = steps;
+    make_way(chain, shelf, owed, turn)?;
+    write_files(shelf, &files)?;
+    match commit(chain, shelf, text, prepared) {
+        Ok(committed) => Ok(committed),
+        Err(_) => Err(Failed),
+    }
+}

@@ -1,0 +1,4 @@
+pub mod Keys
+pub mod Counting
+pub mod Saving
+pub mod Spelled

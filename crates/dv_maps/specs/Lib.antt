@@ -1,0 +1,6 @@
+pub mod Parts
+pub mod Maps
+pub mod Texts
+pub mod Storages
+pub mod Groups
+pub mod Laws

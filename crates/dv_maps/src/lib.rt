@@ -1,0 +1,11 @@
+//! A storage of messages many to a file (Dovecot's mdbox): the rows of its map, and where in which
+//! file the text of a row's message stands.
+#![tactic(auto)]
+
+mod laws;
+mod parts;
+mod place;
+
+pub use laws::{counts_are, records_are_written, saves_are};
+pub use parts::{count_of, part_of, place_of};
+pub use place::Place;

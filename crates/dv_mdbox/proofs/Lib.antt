@@ -1,0 +1,10 @@
+pub mod Equal
+pub mod Readied
+pub mod Written
+pub mod Rows
+pub mod Counted
+pub mod Opened
+pub mod Torn
+pub mod Saved
+pub mod Tailing
+pub mod Finding

@@ -1,0 +1,62 @@
+use Rattle.std.proofs.Common.{◌∙◌, refl, sym, ap, arith}
+use Rattle.std.specs.Prelude.{true}
+use Rattle.std.proofs.lemmas.Result.{err_from_is_err_and}
+use Rattle.dv_model.specs.Effects.{applied}
+use Rattle.dv_model.specs.Sessions.{is_log_full}
+use Rattle.dv_rotation.specs.Texts.{place_of}
+use Rattle.dv_mdbox.proofs.Counted.{count_size, count_some, count_written, counts_done, counts_stayed, finds_room, group_counted, is_counted, through_count}
+use Rattle.dv_mdbox.proofs.storage.Storage.put_count.Goals as goal
+
+pub write-requires-clause-some : goal.write-requires-clause-some
+write-requires-clause-some g c = count_some c.args.id c.args.count c.in_ok-records.records c.in_ok-records.ensures
+
+pub write-requires-clause-written : goal.write-requires-clause-written
+write-requires-clause-written g c = count_written c.records_are_written.ensures.counts c.self.inside.chain.live.mailbox c.args.id c.args.count c.in_ok-records.records c.in_ok-records.ensures
+
+pub write-requires-clause-short : goal.write-requires-clause-short
+write-requires-clause-short g c =
+    let size = count_size c.records_are_written.ensures.counts c.self.inside.chain.live.mailbox c.args.id c.args.count c.in_ok-records.records c.in_ok-records.ensures in
+    omega (arith, size)
+
+pub write-requires-clause-fits : goal.write-requires-clause-fits
+write-requires-clause-fits g c =
+    let size = count_size c.records_are_written.ensures.counts c.self.inside.chain.live.mailbox c.args.id c.args.count c.in_ok-records.records c.in_ok-records.ensures in
+    ap (is_log_full true (place_of c.self.inside.chain)) size ∙ sym c.is_full.ensures ∙ c.if-is_full.false
+
+-- ---- nothing was written
+
+pub returns-then-is_full-clause-gives : goal.returns-then-is_full-clause-gives
+returns-then-is_full-clause-gives g c = rw (← c.self.view_is) (λ tells messages debt n change there to rest.
+    let S = g.S.Shelf in
+    let old = c.self.inside in
+    let m = old.chain.live.mailbox in
+    let is = is_counted c.counts_are.ensures c.records_are_written.ensures.counts m c.args.id n c.args.count change rest.map c.is_valid.ensures (omega (arith, c.ranges.id.fits)) (omega (arith, c.ranges.count.fits)) there to in
+    counts_stayed S.sees messages debt c.args.id c.args.count change _ rest is _ _ refl refl refl (λ f left. g.met.S.Shelf.only_now old.shelf f tells left))
+
+pub returns-in_err-records-clause-gives : goal.returns-in_err-records-clause-gives
+returns-in_err-records-clause-gives g c = rw (← c.self.view_is) (λ tells messages debt n change there to rest.
+    let S = g.S.Shelf in
+    let old = c.self.inside in
+    let m = old.chain.live.mailbox in
+    let p = err_from_is_err_and c.from_residual.result c.from_residual.ensures.1 in
+    let is = is_counted c.counts_are.ensures c.records_are_written.ensures.counts m c.args.id n c.args.count change rest.map c.is_valid.ensures (omega (arith, c.ranges.id.fits)) (omega (arith, c.ranges.count.fits)) there to in
+    rw p.1 (counts_stayed S.sees messages debt c.args.id c.args.count change _ rest is _ p.0 refl refl refl (λ f left. g.met.S.Shelf.only_now old.shelf f tells left)))
+
+-- ---- the group
+
+pub returns-clause-room : goal.returns-clause-room
+returns-clause-room g c = rw (← c.self.view_is) (finds_room c.self.inside.chain 48 c.write.result (sym c.is_full.ensures ∙ c.if-is_full.false) c.write.ensures.err)
+
+pub returns-clause-value : goal.returns-clause-value
+returns-clause-value g c = rw (← c.self.view_is) (group_counted c.args.id c.args.count c.in_ok-records.records c.in_ok-records.ensures _ c.write.new.self c.turn_time-time.new.clock c.write.result c.write.ensures.value)
+
+pub returns-clause-gives : goal.returns-clause-gives
+returns-clause-gives g c = rw (← c.self.view_is) (λ tells messages debt n change there to rest.
+    let S = g.S.Shelf in
+    let old = c.self.inside in
+    let m = old.chain.live.mailbox in
+    let law = c.records_are_written.ensures.counts in
+    let records = c.in_ok-records.records in
+    let is = is_counted c.counts_are.ensures law m c.args.id n c.args.count change rest.map c.is_valid.ensures (omega (arith, c.ranges.id.fits)) (omega (arith, c.ranges.count.fits)) there to in
+    counts_done S.sees messages debt c.args.id c.args.count change _ rest is law records c.in_ok-records.ensures c.write.new.self c.turn_time-time.new.clock c.write.result c.write.ensures.value
+    (c.write.ensures.gives tells messages messages debt is.after rest.fits rest.stands (ap (applied m) c.in_ok-records.ensures ∙ is.gives) (through_count messages m is.after c.args.id change is.counts)))

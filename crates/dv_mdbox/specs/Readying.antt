@@ -1,0 +1,25 @@
+-- A group that is made ready, before anything is written.
+use Rattle.std.specs.Prelude.{◌≡◌, ◌+◌, ℕ, List, Option, Some, flat_map, is_some, length}
+use Rattle.dv_model.specs.declared.types.Mailbox.{Mailbox}
+use Rattle.dv_model.specs.declared.types.Record.{Record}
+use Rattle.dv_model.specs.Effects.{applied}
+use Rattle.dv_model.specs.Spelling.{written}
+use Rattle.dv_chain.specs.declared.chain.Chain.{Chain}
+use Rattle.dv_chain.specs.Rest.{IsPending}
+use Rattle.dv_plans.specs.Begins.{turns}
+use Rattle.dv_rotation.specs.declared.texts.Turn.{Turn}
+use Rattle.dv_writing.specs.Ways.{ready}
+use Rattle.dv_filing.specs.declared.steps.Files.{Files}
+use Rattle.dv_filing.specs.declared.steps.Steps.{Steps}
+use Rattle.dv_filing.specs.Writes.{AreSteps}
+
+-- the steps are made for the chain, with this file and the rotation that is due, and the text is
+-- that of these records
+pub record IsReadyFor (owed : Option Turn) (chain : Chain) (records : List Record) (files : Files)
+    (text : List ℕ) (steps : Steps) : Type 0 where
+  pub made : AreSteps owed chain text steps
+  pub file : steps.files ≡ files
+  pub pending : (after : Mailbox) → applied chain.live.mailbox records ≡ Some after
+      → IsPending text after (ready owed steps.turn chain)
+  pub size : length text ≡ length (flat_map written records) + 4
+  pub due : is_some steps.turn ≡ turns owed chain

@@ -1,0 +1,19 @@
+//! A storage of messages many to a file, with counts of how many references each has, which no
+//! crash loses while it is referenced (Dovecot's mdbox; the layout is this project's own).
+#![tactic(auto)]
+
+mod counting;
+mod fault;
+mod got;
+mod looking;
+mod opening;
+mod readying;
+mod records;
+mod saving;
+mod storage;
+mod tails;
+mod writing;
+
+pub use fault::StorageFault;
+pub use got::Got;
+pub use storage::Storage;
