@@ -2,6 +2,8 @@
 #![tactic(auto)]
 
 #[cfg(test)]
+mod entries;
+#[cfg(test)]
 mod folder;
 #[cfg(test)]
 mod logfile;
@@ -9,3 +11,5 @@ mod logfile;
 mod shelf;
 #[cfg(test)]
 mod snapshots;
+#[cfg(test)]
+mod steps;

@@ -1,7 +1,7 @@
 use dv_index::{IndexEnd, IndexFault, read, write};
-use dv_model::{Bytes, Mark, NoMemory};
+use dv_model::{Bytes, Mailbox, Mark, NoMemory};
 use std::alloc::Global;
-use std::test::*;
+use std::test::Fail;
 
 // Two keywords, an extension with three bytes of each row, and two rows; place 164 is the first.
 const TEXT: [u8; 212] = [
@@ -24,66 +24,146 @@ const OLD: [u8; 128] = [
     0, 0, 0,
 ];
 
-#[test]
-fn text_is_read(rt: HostRuntime) -> Result<(), Fail> {
-    let (mailbox, indexid, mark, version) = read(rt.alloc(), &TEXT)?;
-    let place = Mark {
-        file_seq: 2,
-        offset: 300,
-    };
-    assert_eq!(rt; (indexid, mark, version), (7, place, 2));
-    assert_eq!(rt;
-        (mailbox.uid_validity, mailbox.next_uid, mailbox.highest),
-        (5, 8, 9)
-    );
-    let counts = (
-        mailbox.rows.len(),
-        mailbox.keywords.len(),
-        mailbox.extensions.len(),
-    );
-    assert_eq!(rt; counts, (2, 2, 1));
+// A row's UID, flags and modification sequence, the places of its keywords, and its parts.
+struct Row {
+    numbers: (u32, u8, u64),
+    keywords: &'static [u32],
+    parts: &'static [&'static [u8]],
+}
+
+// A text, with the snapshot that it is.
+struct Case {
+    text: &'static [u8],
+    indexid: u32,
+    mark: Mark,
+    version: u8,
+    // The UIDVALIDITY, the UIDNEXT and the highest modification sequence.
+    numbers: (u32, u32, u64),
+    // How many keywords and extensions there are.
+    counts: (usize, usize),
+    rows: &'static [Row],
+}
+
+const CASES: [Case; 2] = [
+    Case {
+        text: &TEXT,
+        indexid: 7,
+        mark: Mark {
+            file_seq: 2,
+            offset: 300,
+        },
+        version: 2,
+        numbers: (5, 8, 9),
+        counts: (2, 1),
+        rows: &[
+            Row {
+                numbers: (3, 8, 5),
+                keywords: &[0],
+                parts: &[&[10, 11, 12]],
+            },
+            Row {
+                numbers: (7, 12, 9),
+                keywords: &[0, 1],
+                parts: &[&[0, 0, 1]],
+            },
+        ],
+    },
+    Case {
+        text: &OLD,
+        indexid: 7,
+        mark: Mark {
+            file_seq: 1,
+            offset: 72,
+        },
+        version: 1,
+        numbers: (5, 2, 1),
+        counts: (0, 0),
+        rows: &[Row {
+            numbers: (1, 0, 1),
+            keywords: &[],
+            parts: &[],
+        }],
+    },
+];
+
+fn are_parts(parts: &[Bytes], expected: &[&[u8]]) -> bool {
+    if parts.len() != expected.len() {
+        return false;
+    }
+    for (part, bytes) in parts.iter().zip(expected) {
+        if part.as_slice() != *bytes {
+            return false;
+        }
+    }
+    true
+}
+
+fn is_row(row: &dv_model::Row, expected: &Row) -> bool {
+    (row.uid, row.flags, row.modseq) == expected.numbers
+        && row.keywords.as_slice() == expected.keywords
+        && are_parts(row.parts.as_slice(), expected.parts)
+}
+
+fn are_rows(rows: &[dv_model::Row], expected: &[Row]) -> bool {
+    if rows.len() != expected.len() {
+        return false;
+    }
+    for (row, other) in rows.iter().zip(expected) {
+        if !is_row(row, other) {
+            return false;
+        }
+    }
+    true
+}
+
+fn is_mailbox(mailbox: &Mailbox, case: &Case) -> bool {
+    (mailbox.uid_validity, mailbox.next_uid, mailbox.highest) == case.numbers
+        && (mailbox.keywords.len(), mailbox.extensions.len()) == case.counts
+        && are_rows(mailbox.rows.as_slice(), case.rows)
+}
+
+fn is_read(alloc: Global, case: &Case) -> bool {
+    match read(alloc, case.text) {
+        Ok((mailbox, indexid, mark, version)) => {
+            (indexid, mark, version) == (case.indexid, case.mark, case.version)
+                && is_mailbox(&mailbox, case)
+        }
+        Err(_) => false,
+    }
+}
+
+fn are_read(alloc: Global, cases: &[Case]) -> Result<(), Fail> {
+    for case in cases {
+        if !is_read(alloc, case) {
+            return Err(Fail::from(case.version));
+        }
+    }
     Ok(())
 }
 
 #[test]
-fn rows_are_read(rt: HostRuntime) -> Result<(), Fail> {
-    let (mailbox, _, _, _) = read(rt.alloc(), &TEXT)?;
-    let [first, second] = mailbox.rows.as_slice() else {
-        return Err("two rows".into());
-    };
-    assert_eq!(rt; (first.uid, first.flags, first.modseq), (3, 8, 5));
-    assert_eq!(rt; first.keywords.as_slice(), [0].as_slice());
-    assert_eq!(rt; (second.uid, second.flags, second.modseq), (7, 12, 9));
-    assert_eq!(rt; second.keywords.as_slice(), [0, 1].as_slice());
-    let [part] = second.parts.as_slice() else {
-        return Err("one part".into());
-    };
-    assert_eq!(rt; part.as_slice(), [0, 0, 1].as_slice());
-    Ok(())
+fn texts_are_read_with_their_rows(rt: HostRuntime) -> Result<(), Fail> {
+    are_read(rt.alloc(), &CASES)
 }
 
-#[test]
-fn row_of_version_1_has_modification_sequence_1(rt: HostRuntime) -> Result<(), Fail> {
-    let (mailbox, indexid, mark, version) = read(rt.alloc(), &OLD)?;
-    let place = Mark {
-        file_seq: 1,
-        offset: 72,
-    };
-    assert_eq!(rt; (indexid, mark, version), (7, place, 1));
-    assert_eq!(rt; (mailbox.next_uid, mailbox.highest), (2, 1));
-    let [row] = mailbox.rows.as_slice() else {
-        return Err("one row".into());
-    };
-    assert_eq!(rt; (row.uid, row.flags, row.modseq), (1, 0, 1));
-    Ok(())
+// Whether a text is read, and what is read is written as the same text.
+fn is_written(alloc: Global, text: &[u8]) -> Result<bool, IndexEnd> {
+    let (mailbox, indexid, mark, _) = read(alloc, text)?;
+    let again = write(alloc, &mailbox, indexid, mark)?;
+    Ok(again.as_slice() == text)
+}
+
+fn passes(found: Result<bool, IndexEnd>) -> Result<(), Fail> {
+    match found {
+        Ok(true) => Ok(()),
+        Ok(false) => Err(Fail::from("another text")),
+        Err(end) => Err(Fail::from(end)),
+    }
 }
 
 #[test]
 fn what_is_read_is_written(rt: HostRuntime) -> Result<(), Fail> {
-    let (mailbox, indexid, mark, _) = read(rt.alloc(), &TEXT)?;
-    let text = write(rt.alloc(), &mailbox, indexid, mark)?;
-    assert_eq!(rt; text.as_slice(), TEXT.as_slice());
-    Ok(())
+    passes(is_written(rt.alloc(), &TEXT))
 }
 
 // The text with another byte at a place.
@@ -108,16 +188,24 @@ const FAULTS: [(usize, u8, IndexFault); 9] = [
     (188, 3, IndexFault::Order { at: 188 }),
 ];
 
-#[test]
-fn fault_of_a_changed_byte_is_named(rt: HostRuntime) -> Result<(), Fail> {
-    for (at, byte, fault) in FAULTS {
-        let text = changed(rt.alloc(), &TEXT, at, byte)?;
-        assert_eq!(rt;
-            read(rt.alloc(), text.as_slice()).err(),
-            Some(IndexEnd::Fault(fault))
-        );
+fn end_of(alloc: Global, at: usize, byte: u8) -> Result<Option<IndexEnd>, NoMemory> {
+    let text = changed(alloc, &TEXT, at, byte)?;
+    Ok(read(alloc, text.as_slice()).err())
+}
+
+// Fails by the place of the first byte whose change is another fault.
+fn are_faults(alloc: Global, faults: &[(usize, u8, IndexFault)]) -> Result<(), Fail> {
+    for (at, byte, fault) in faults {
+        if end_of(alloc, *at, *byte) != Ok(Some(IndexEnd::Fault(*fault))) {
+            return Err(Fail::from(*at));
+        }
     }
     Ok(())
+}
+
+#[test]
+fn fault_of_a_changed_byte_is_named(rt: HostRuntime) -> Result<(), Fail> {
+    are_faults(rt.alloc(), &FAULTS)
 }
 
 // A text with so many keywords of three bytes, and one row, of UID 7 and the last keyword.
@@ -142,16 +230,33 @@ fn wide_text(alloc: Global, names: u16, size: u8, bits: &[u8]) -> Result<Bytes, 
     Ok(text)
 }
 
-#[test]
-fn tables_of_sixteen_kilobytes_are_read_and_written(rt: HostRuntime) -> Result<(), Fail> {
+// A text with 2,048 keywords, and one row with the last one.
+fn wide(alloc: Global) -> Result<Bytes, NoMemory> {
     let mut bits = [0; 256];
     bits[255] = 0x80;
-    let mut text = wide_text(rt.alloc(), 2048, 16, &bits)?;
-    text = changed(rt.alloc(), text.as_slice(), 9, 1)?;
-    let (mailbox, indexid, mark, _) = read(rt.alloc(), text.as_slice())?;
-    assert_eq!(rt; mailbox.keywords.len(), 2048);
-    let again = write(rt.alloc(), &mailbox, indexid, mark)?;
-    assert_eq!(rt; again.len(), 120 + 16384 + 272);
-    assert_eq!(rt; again.as_slice(), text.as_slice());
-    Ok(())
+    let text = wide_text(alloc, 2048, 16, &bits)?;
+    changed(alloc, text.as_slice(), 9, 1)
+}
+
+fn count_keywords(alloc: Global, text: &[u8]) -> Result<usize, IndexEnd> {
+    let (mailbox, _, _, _) = read(alloc, text)?;
+    Ok(mailbox.keywords.len())
+}
+
+fn is_wide(alloc: Global, text: &[u8]) -> Result<bool, IndexEnd> {
+    Ok(
+        text.len() == 120 + 16384 + 272
+            && count_keywords(alloc, text)? == 2048
+            && is_written(alloc, text)?,
+    )
+}
+
+fn tables_are_wide(alloc: Global) -> Result<bool, IndexEnd> {
+    let text = wide(alloc)?;
+    is_wide(alloc, text.as_slice())
+}
+
+#[test]
+fn tables_of_sixteen_kilobytes_are_read_and_written(rt: HostRuntime) -> Result<(), Fail> {
+    passes(tables_are_wide(rt.alloc()))
 }

@@ -1,7 +1,8 @@
+use crate::ends::{is_so, no_other};
 use dv_ext::{Extensions, PartsChange, RowUpdates};
 use dv_model::{Duplicate, Extension, Intro, List, NoMemory, Part};
 use std::alloc::Global;
-use std::test::*;
+use std::test::Fail;
 
 // The `ext_id` of an introduction by name.
 const NAMED: u32 = 4294967295;
@@ -224,28 +225,39 @@ const HEADERS: [Done; 5] = [
     ),
 ];
 
+fn are_done(alloc: Global, rows: &[Done]) -> Result<(), Fail> {
+    no_other(first_fault(alloc, rows))
+}
+
 #[test]
-fn extensions_are_introduced_reset_and_written(rt: HostRuntime) {
-    assert_eq!(rt; first_fault(rt.alloc(), &CACHE), Ok(None));
-    assert_eq!(rt; first_fault(rt.alloc(), &HEADERS), Ok(None));
+fn extensions_are_introduced_reset_and_written(rt: HostRuntime) -> Result<(), Fail> {
+    are_done(rt.alloc(), &CACHE)
+}
+
+#[test]
+fn headers_are_written_and_reset(rt: HostRuntime) -> Result<(), Fail> {
+    are_done(rt.alloc(), &HEADERS)
 }
 
 const ONE: [Expected; 1] = [(b"cache", 0, &[], 4, 4, 1)];
 
-// Whether a copy of a table of one extension holds it, and what is made of the copy's parts.
-fn copies_hold(alloc: Global) -> Result<(bool, bool), NoMemory> {
+// Whether the parts of a table of one extension make it again.
+fn parts_hold(alloc: Global, extensions: Extensions) -> bool {
+    let (list, current) = extensions.into_parts();
+    holds(&Extensions::new(alloc, list, current), &ONE, Some((0, 4)))
+}
+
+// Whether a copy of it holds it, and the copy's parts make it again.
+fn copies_hold(alloc: Global) -> Result<bool, NoMemory> {
     let mut extensions = Extensions::empty(alloc);
     introduce(alloc, &mut extensions, NAMED, b"cache", (0, 0, 4))?;
     let copy = extensions.duplicate(alloc)?;
-    let is_equal = holds(&copy, &ONE, Some((0, 4)));
-    let (list, current) = copy.into_parts();
-    let again = Extensions::new(alloc, list, current);
-    Ok((is_equal, holds(&again, &ONE, Some((0, 4)))))
+    Ok(holds(&copy, &ONE, Some((0, 4))) && parts_hold(alloc, copy))
 }
 
 #[test]
-fn copy_is_equal(rt: HostRuntime) {
-    assert_eq!(rt; copies_hold(rt.alloc()), Ok((true, true)));
+fn copy_is_equal(rt: HostRuntime) -> Result<(), Fail> {
+    is_so(copies_hold(rt.alloc()))
 }
 
 const UPDATE: &[u8] = &[
@@ -253,21 +265,29 @@ const UPDATE: &[u8] = &[
     0xff, 0xff, 0xff, 0xff, 1, 2, 3, 4, 5, 0, 0, 0,
 ];
 
-fn row_of_update(at: usize) -> Option<(u32, &'static [u8])> {
-    let updates = RowUpdates::new(5, UPDATE)?;
-    if at < updates.len() {
-        Some(updates.get(at))
-    } else {
-        None
+// The rows of the update, each with its UID and bytes.
+const ROWS: [(u32, &[u8]); 2] = [(1, &[7, 8, 9, 1, 2]), (4294967295, &[1, 2, 3, 4, 5])];
+
+fn are_rows(updates: &RowUpdates, rows: &[(u32, &[u8])]) -> bool {
+    if updates.len() != rows.len() {
+        return false;
+    }
+    for (at, row) in rows.iter().enumerate() {
+        if at >= updates.len() || updates.get(at) != *row {
+            return false;
+        }
+    }
+    true
+}
+
+fn are_padded() -> bool {
+    match RowUpdates::new(5, UPDATE) {
+        Some(updates) => are_rows(&updates, &ROWS),
+        None => false,
     }
 }
 
 #[test]
-fn rows_of_an_update_are_padded(rt: HostRuntime) {
-    assert_eq!(rt; row_of_update(0), Some((1, [7, 8, 9, 1, 2].as_slice())));
-    assert_eq!(rt;
-        row_of_update(1),
-        Some((4294967295, [1, 2, 3, 4, 5].as_slice()))
-    );
-    assert_eq!(rt; row_of_update(2), None);
+fn rows_of_an_update_are_padded() -> Result<(), Fail> {
+    is_so(Ok(are_padded()))
 }

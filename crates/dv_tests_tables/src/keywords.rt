@@ -1,8 +1,9 @@
+use crate::ends::{is_so, no_other};
 use dv_keywords::{Table, TableEnd, change};
 use dv_model::{Duplicate, How, List, NoMemory};
 use dv_records::is_name;
 use std::alloc::Global;
-use std::test::*;
+use std::test::Fail;
 
 fn is_send<T: Send>() {}
 
@@ -45,8 +46,8 @@ fn copy_has(alloc: Global, names: &[&[u8]]) -> Result<bool, NoMemory> {
 }
 
 #[test]
-fn copy_has_the_same_names(rt: HostRuntime) {
-    assert_eq!(rt; copy_has(rt.alloc(), &[b"old", b"new"]), Ok(true));
+fn copy_has_the_same_names(rt: HostRuntime) -> Result<(), Fail> {
+    is_so(copy_has(rt.alloc(), &[b"old", b"new"]))
 }
 
 // Whether a row's places are these after a change.
@@ -62,8 +63,10 @@ fn changes_to(
     Ok(places.as_slice() == after)
 }
 
-// What is done with a place of a row, and the row's places before and after.
-const CHANGES: [(&[u32], How, u32, &[u32]); 5] = [
+// The places of a row before a change, what is done with which place, and the places after it.
+type Changed = (&'static [u32], How, u32, &'static [u32]);
+
+const CHANGES: [Changed; 5] = [
     (&[1, 5], How::Add, 3, &[1, 3, 5]),
     (&[1, 5], How::Add, 5, &[1, 5]),
     (&[1, 3, 5], How::Remove, 3, &[1, 5]),
@@ -72,8 +75,8 @@ const CHANGES: [(&[u32], How, u32, &[u32]); 5] = [
 ];
 
 // The place of the first change that leaves other places.
-fn first_other_change(alloc: Global) -> Result<Option<usize>, NoMemory> {
-    for (at, (before, how, place, after)) in CHANGES.iter().enumerate() {
+fn first_other_change(alloc: Global, changes: &[Changed]) -> Result<Option<usize>, NoMemory> {
+    for (at, (before, how, place, after)) in changes.iter().enumerate() {
         if !changes_to(alloc, before, *how, *place, after)? {
             return Ok(Some(at));
         }
@@ -82,8 +85,8 @@ fn first_other_change(alloc: Global) -> Result<Option<usize>, NoMemory> {
 }
 
 #[test]
-fn places_of_a_row_change(rt: HostRuntime) {
-    assert_eq!(rt; first_other_change(rt.alloc()), Ok(None));
+fn places_of_a_row_change(rt: HostRuntime) -> Result<(), Fail> {
+    no_other(first_other_change(rt.alloc(), &CHANGES))
 }
 
 const NAMES: [&[u8]; 3] = [b"a", b"abc", b"abcd"];
@@ -96,29 +99,22 @@ fn is_written(alloc: Global, names: &[&[u8]], wanted: &[u8]) -> Result<bool, NoM
     Ok(text.as_slice() == wanted)
 }
 
-// How many bytes a table of these names takes, where it is one.
-fn is_read(
-    alloc: Global,
-    text: &[u8],
-    count: u32,
-    names: &[&[u8]],
-) -> Result<Option<usize>, TableEnd> {
-    let (table, size) = Table::from_bytes(alloc, text, count)?;
-    if has_names(&table, names) {
-        Ok(Some(size))
-    } else {
-        Ok(None)
+// Whether a table of these names stands at the front of a text, in so many bytes.
+fn is_read(alloc: Global, text: &[u8], names: &[&[u8]], count: u32, size: usize) -> bool {
+    match Table::from_bytes(alloc, text, count) {
+        Ok((table, found)) => found == size && has_names(&table, names),
+        Err(_) => false,
     }
 }
 
-fn end_of(alloc: Global, text: &[u8], count: u32) -> Option<TableEnd> {
-    Table::from_bytes(alloc, text, count).err()
+#[test]
+fn table_is_written(rt: HostRuntime) -> Result<(), Fail> {
+    is_so(is_written(rt.alloc(), &NAMES, TEXT))
 }
 
 #[test]
-fn table_is_written_and_read(rt: HostRuntime) {
-    assert_eq!(rt; is_written(rt.alloc(), &NAMES, TEXT), Ok(true));
-    assert_eq!(rt; is_read(rt.alloc(), TEXT, 3, &NAMES), Ok(Some(20)));
+fn table_is_read(rt: HostRuntime) -> Result<(), Fail> {
+    is_so(Ok(is_read(rt.alloc(), TEXT, &NAMES, 3, 20)))
 }
 
 // Bytes that begin with no table of so many names.
@@ -131,44 +127,51 @@ const HOSTILE: [(&[u8], u32); 6] = [
     (b"\x01\0a\0", 4294967295),
 ];
 
-#[test]
-fn hostile_bytes_are_no_table(rt: HostRuntime) {
-    for (bytes, count) in HOSTILE {
-        assert_eq!(rt;
-            end_of(rt.alloc(), bytes, count),
-            Some(TableEnd::Bad),
-            "{bytes:?}"
-        );
+fn is_bad(alloc: Global, text: &[u8], count: u32) -> bool {
+    match Table::from_bytes(alloc, text, count) {
+        Err(TableEnd::Bad) => true,
+        _ => false,
     }
 }
 
-// Whether names of three are hidden and shown as they should, at each step.
-fn hides_and_shows(table: &mut Table) -> Option<[bool; 5]> {
+// The place of the first text that isn't bad.
+fn first_good(alloc: Global, texts: &[(&[u8], u32)]) -> Option<usize> {
+    for (at, (text, count)) in texts.iter().enumerate() {
+        if !is_bad(alloc, text, *count) {
+            return Some(at);
+        }
+    }
+    None
+}
+
+#[test]
+fn hostile_bytes_are_no_table(rt: HostRuntime) -> Result<(), Fail> {
+    no_other(Ok(first_good(rt.alloc(), &HOSTILE)))
+}
+
+// Whether the last names of three are hidden, and shown again in turn.
+fn are_hidden_and_shown(table: &mut Table) -> bool {
     if table.count() != 3 {
-        return None;
+        return false;
     }
     table.hide(1);
-    let hidden = has_names(table, &[b"old"]);
-    let unknown = table.index_of(b"new").is_none();
+    let is_first_left = has_names(table, &[b"old"]);
+    let is_unknown = table.index_of(b"new").is_none();
     table.hide(5);
-    let again = has_names(table, &[b"old"]);
+    let is_first_left_still = has_names(table, &[b"old"]);
     table.show(1);
-    let second = has_names(table, &[b"old", b"new"]);
+    let are_two = has_names(table, &[b"old", b"new"]);
     table.show(1);
-    let third = has_names(table, &[b"old", b"new", b"off"]);
-    Some([hidden, unknown, again, second, third])
+    let are_three = has_names(table, &[b"old", b"new", b"off"]);
+    is_first_left && is_unknown && is_first_left_still && are_two && are_three
 }
 
-fn three_names(alloc: Global) -> Result<Table, NoMemory> {
-    table_of(alloc, &[b"old", b"new", b"off"])
-}
-
-fn hidden_and_shown(alloc: Global) -> Result<Option<[bool; 5]>, NoMemory> {
-    let mut table = three_names(alloc)?;
-    Ok(hides_and_shows(&mut table))
+fn three_are_hidden_and_shown(alloc: Global) -> Result<bool, NoMemory> {
+    let mut table = table_of(alloc, &[b"old", b"new", b"off"])?;
+    Ok(are_hidden_and_shown(&mut table))
 }
 
 #[test]
-fn hidden_names_are_shown_again(rt: HostRuntime) {
-    assert_eq!(rt; hidden_and_shown(rt.alloc()), Ok(Some([true; 5])));
+fn hidden_names_are_shown_again(rt: HostRuntime) -> Result<(), Fail> {
+    is_so(three_are_hidden_and_shown(rt.alloc()))
 }

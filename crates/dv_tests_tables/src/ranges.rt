@@ -1,13 +1,23 @@
-use dv_model::{Change, Pair};
+use crate::ends::is_so;
+use dv_model::{Change, List, NoMemory, Pair};
 use dv_ranges::{join_changes, join_pairs};
 use std::alloc::Global;
-use std::test::*;
+use std::test::Fail;
 
-fn range(first: u32, last: u32) -> Pair {
-    Pair { first, last }
+type Range = (u32, u32);
+
+fn pairs_of(alloc: Global, ranges: &[Range]) -> Result<List<Pair>, NoMemory> {
+    let mut pairs = List::new(alloc);
+    for (first, last) in ranges {
+        pairs.push(Pair {
+            first: *first,
+            last: *last,
+        })?;
+    }
+    Ok(pairs)
 }
 
-fn are(pairs: &[Pair], expected: &[(u32, u32)]) -> bool {
+fn are(pairs: &[Pair], expected: &[Range]) -> bool {
     if pairs.len() != expected.len() {
         return false;
     }
@@ -18,23 +28,33 @@ fn are(pairs: &[Pair], expected: &[(u32, u32)]) -> bool {
 }
 
 // Whether these ranges are joined to others.
-fn joins(alloc: Global, pairs: &[Pair], expected: &[(u32, u32)]) -> bool {
-    match join_pairs(alloc, pairs) {
-        Ok(Some(joined)) => are(&joined, expected),
-        _ => false,
+fn are_joined(alloc: Global, ranges: &[Range], expected: &[Range]) -> Result<bool, NoMemory> {
+    let pairs = pairs_of(alloc, ranges)?;
+    match join_pairs(alloc, pairs.as_slice())? {
+        Some(joined) => Ok(are(&joined, expected)),
+        None => Ok(false),
     }
+}
+
+#[test]
+fn ranges_that_overlap_are_joined(rt: HostRuntime) -> Result<(), Fail> {
+    is_so(are_joined(rt.alloc(), &[(5, 9), (1, 3), (8, 7), (2, 6)], &[(1, 9)]))
 }
 
 // The first and the last UID, the flags that are added, and those that are removed.
 type Part = (u32, u32, u8, u8);
 
-fn change(part: Part) -> Change {
-    Change {
-        first: part.0,
-        last: part.1,
-        add: part.2,
-        remove: part.3,
+fn changes_of(alloc: Global, parts: &[Part]) -> Result<List<Change>, NoMemory> {
+    let mut changes = List::new(alloc);
+    for (first, last, add, remove) in parts {
+        changes.push(Change {
+            first: *first,
+            last: *last,
+            add: *add,
+            remove: *remove,
+        })?;
     }
+    Ok(changes)
 }
 
 fn are_parts(changes: &[Change], expected: &[Part]) -> bool {
@@ -48,28 +68,25 @@ fn are_parts(changes: &[Change], expected: &[Part]) -> bool {
 }
 
 // Whether these changes are joined to others.
-fn combine(alloc: Global, changes: &[Change], expected: &[Part]) -> bool {
-    match join_changes(alloc, changes) {
-        Ok(Some(joined)) => are_parts(&joined, expected),
-        _ => false,
+fn are_combined(alloc: Global, parts: &[Part], expected: &[Part]) -> Result<bool, NoMemory> {
+    let changes = changes_of(alloc, parts)?;
+    match join_changes(alloc, changes.as_slice())? {
+        Some(joined) => Ok(are_parts(&joined, expected)),
+        None => Ok(false),
     }
 }
 
+const CHANGES: [Part; 3] = [(5, 20, 8, 1), (1, 10, 4, 8), (9, 4294967295, 1, 0)];
+
+const COMBINED: [Part; 5] = [
+    (1, 4, 4, 8),
+    (5, 8, 4, 9),
+    (9, 10, 5, 9),
+    (11, 20, 9, 1),
+    (21, 4294967295, 1, 0),
+];
+
 #[test]
-fn ranges_that_overlap_are_joined(rt: HostRuntime) {
-    let pairs = [range(5, 9), range(1, 3), range(8, 7), range(2, 6)];
-    assert!(rt; joins(rt.alloc(), &pairs, &[(1, 9)]));
-    let changes = [
-        change((5, 20, 8, 1)),
-        change((1, 10, 4, 8)),
-        change((9, u32::MAX, 1, 0)),
-    ];
-    let expected = [
-        (1, 4, 4, 8),
-        (5, 8, 4, 9),
-        (9, 10, 5, 9),
-        (11, 20, 9, 1),
-        (21, 4294967295, 1, 0),
-    ];
-    assert!(rt; combine(rt.alloc(), &changes, &expected));
+fn changes_that_overlap_are_joined(rt: HostRuntime) -> Result<(), Fail> {
+    is_so(are_combined(rt.alloc(), &CHANGES, &COMBINED))
 }

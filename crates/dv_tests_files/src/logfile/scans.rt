@@ -1,8 +1,8 @@
-ghost use Rattle.std.specs.Prelude.{All, IfOk};
+ghost use Rattle.std.specs.Prelude.{All};
 ghost use Rattle.dv_model.specs.Spelling.{IsRecord};
 
 use super::*;
-use dv_logfile::{LogHeader, Scan, ScanEnd, create};
+use dv_logfile::{LogHeader, ScanEnd, create};
 
 const HEADER: LogHeader = LogHeader {
     major_version: 1,
@@ -67,43 +67,53 @@ const LOGS: [Worked; 4] = [
 ];
 
 // The header and these bytes behind it.
-fn file_of(alloc: Global, records: &[u8], behind: &[u8]) -> Result<Bytes, Fail> {
+fn file_of(alloc: Global, records: &[u8], behind: &[u8]) -> Result<Bytes, NoMemory> {
     let mut file = List::from_slice(alloc, &LOG[..40])?;
     file.extend(records)?;
     file.extend(behind)?;
     Ok(file)
 }
 
-// What the file of a log holds.
-fn log_of_file(alloc: Global, file: &[u8]) -> Result<Scan, Fail>
-    ensures { IfOk result (λ found. All IsRecord found.records) }
+// Whether a log of these records is written as this text.
+fn is_written(alloc: Global, records: &List<Record>, text: &[u8]) -> Result<bool, NoMemory>
+    requires { All IsRecord records.now }
 {
-    match scan(alloc, file) {
-        Ok(found) => Ok(found),
-        Err(_) => Err(Fail::from("no log")),
-    }
+    let written = create(alloc, &HEADER, records)?;
+    Ok(written.as_slice() == text)
 }
 
-#[test]
-fn logs_are_read_with_their_places(rt: HostRuntime) -> Result<(), Fail> {
-    let alloc = rt.alloc();
-    for (records, behind, places, end) in LOGS {
-        let file = file_of(alloc, records, behind)?;
-        let found = log_of_file(alloc, file.as_slice())?;
-        assert_eq!(rt; found.header, HEADER);
-        assert_eq!(rt; found.places.as_slice(), places);
-        assert_eq!(rt; found.end, end);
-        let written = create(alloc, &HEADER, &found.records)?;
-        let closed = file_of(alloc, records, &[0; 4])?;
-        assert_eq!(rt; written.as_slice(), closed.as_slice());
+fn is_found(alloc: Global, file: &[u8], log: &Worked, closed: &[u8]) -> Result<bool, NoMemory> {
+    let Ok(found) = scan(alloc, file) else {
+        return Ok(false);
+    };
+    Ok(
+        found.header == HEADER
+            && found.places.as_slice() == log.2
+            && found.end == log.3
+            && is_written(alloc, &found.records, closed)?,
+    )
+}
+
+// Whether the file of a log is read as it says, and written with a closed end.
+fn is_read(alloc: Global, log: &Worked) -> Result<bool, NoMemory> {
+    let file = file_of(alloc, log.0, log.1)?;
+    let closed = file_of(alloc, log.0, &[0; 4])?;
+    is_found(alloc, file.as_slice(), log, closed.as_slice())
+}
+
+// Fails by the end of the first log that isn't.
+fn are_read(alloc: Global, logs: &[Worked]) -> Result<(), Fail> {
+    for log in logs {
+        if is_read(alloc, log) != Ok(true) {
+            return Err(Fail::from(log.3));
+        }
     }
     Ok(())
 }
 
-// The number of records and their end.
-fn summary_of(alloc: Global, file: &[u8]) -> Result<(usize, u32), ScanEnd> {
-    let found = scan(alloc, file)?;
-    Ok((found.records.len(), found.end))
+#[test]
+fn logs_are_read_with_their_places(rt: HostRuntime) -> Result<(), Fail> {
+    are_read(rt.alloc(), &LOGS)
 }
 
 // Second records of which none is read.
@@ -123,17 +133,35 @@ const SHORT: [u8; 23] = [
     1, 3, 23, 0, 0xe8, 3, 0, 0, 1, 0, 0, 0, 0, 0, 0, 0, 0, 0, 0, 0, 0xe8, 3, 0,
 ];
 
+// Why there is no log of the UIDVALIDITY and a second record.
+fn end_behind(alloc: Global, second: &[u8]) -> Result<Option<ScanEnd>, NoMemory> {
+    let file = file_of(alloc, &LOG[40..56], second)?;
+    Ok(scan(alloc, file.as_slice()).err())
+}
+
+// Fails by the place of the first one that is no bad record.
+fn are_bad(alloc: Global, records: &[&[u8]]) -> Result<(), Fail> {
+    for (at, second) in records.iter().enumerate() {
+        if end_behind(alloc, second) != Ok(Some(ScanEnd::BadRecord { offset: 56 })) {
+            return Err(Fail::from(at));
+        }
+    }
+    Ok(())
+}
+
 #[test]
 fn a_fault_is_named_by_its_place(rt: HostRuntime) -> Result<(), Fail> {
-    let alloc = rt.alloc();
-    for fault in FAULTS {
-        let file = file_of(alloc, &LOG[40..56], fault)?;
-        assert_eq!(rt;
-            summary_of(alloc, file.as_slice()),
-            Err(ScanEnd::BadRecord { offset: 56 }),
-            "{fault:?}"
-        );
+    are_bad(rt.alloc(), &FAULTS)
+}
+
+fn has_bad_header(alloc: Global, file: &[u8]) -> Result<(), Fail> {
+    match scan(alloc, file) {
+        Err(ScanEnd::BadHeader) => Ok(()),
+        _ => Err(Fail::from("another end")),
     }
-    assert_eq!(rt; summary_of(alloc, &SHORT), Err(ScanEnd::BadHeader));
-    Ok(())
+}
+
+#[test]
+fn a_short_header_is_bad(rt: HostRuntime) -> Result<(), Fail> {
+    has_bad_header(rt.alloc(), &SHORT)
 }
