@@ -8,5 +8,6 @@ mod numbers;
 mod sends;
 mod session;
 
+pub use fresh::fresh_of;
 pub use laws::{refusal_goes_on, sessions_keep_up};
 pub use session::Session;

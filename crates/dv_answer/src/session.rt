@@ -1,4 +1,4 @@
-ghost use Rattle.std.specs.Prelude.{◌≡◌, ◌↔◌, ◌⊎◌, ◌∷◌, ◌++◌, [], ℕ, Contains, None, Ok, OnErr, OnOk, false, true};
+ghost use Rattle.std.specs.Prelude.{◌≡◌, ◌↔◌, ◌⊎◌, ◌∷◌, ◌++◌, [], ℕ, ◌+◌, ◌≤◌, Contains, IfOk, None, Ok, OnErr, OnOk, false, length, true};
 ghost use Rattle.dv_model.specs.declared.types.Mailbox.{Mailbox};
 ghost use Rattle.dv_model.specs.declared.types.Command.TheVariants as command;
 ghost use Rattle.dv_model.specs.declared.types.Step.TheVariants.{Full};
@@ -10,14 +10,14 @@ ghost use Rattle.dv_responses.specs.Depth.{IsShallow};
 ghost use Rattle.dv_responses.specs.Met.{met_of};
 ghost use Rattle.dv_responses.specs.Supplied.{AreSupplied};
 ghost use Rattle.dv_answer.specs.Answers.{IsAnswered};
-ghost use Rattle.dv_answer.specs.Following.{IsAbreast, Leads, Tracks, new_follower, untold};
+ghost use Rattle.dv_answer.specs.Following.{IsAbreast, Leads, Tracks, fresh_of, new_follower, untold};
 ghost use Rattle.dv_answer.specs.Refusing.{own_refusal};
 ghost use Rattle.dv_view.specs.Taken.{HasTaken};
 
 use crate::fresh::{fresh_of, retain_untold};
 use crate::numbers::missing_number;
 use dv_apply::Live;
-use dv_model::{Command, Mark, NoMemory, Reply, Step};
+use dv_model::{Command, Fresh, List, Mark, NoMemory, Reply, Step};
 use dv_responses::{
     Met, Responses, add_data_lines, add_select_lines, damaged_among, data_room, ending, gone_uid,
     is_select, step_of, uids_looked_at,
@@ -107,6 +107,36 @@ impl Session {
         Ok(())
     }
 
+    /// All UIDs of which it is to be told where these are touched too: none unless it has selected
+    /// the mailbox. `NoMemory` is the only error.
+    pub fn touched_with(&self, touched: &Touched) -> Result<Touched, NoMemory>
+        // With them it keeps up with the mailbox that records made of the one before.
+        ensures { IfOk result (λ all. (old new : Mailbox) → IsAbreast old self.now
+            → Leads old new touched.now → IsAbreast new (record self.now { touched = all })) }
+    {
+        if !self.selected {
+            return Ok(Touched::empty(self.alloc));
+        }
+        self.touched.with(self.alloc, touched)
+    }
+
+    /// Puts these UIDs in the place of those of which it is to be told, and gives the others back.
+    /// Takes no memory.
+    pub fn replace_touched(&mut self, touched: Touched) -> Touched
+        ensures others { result ≡ self.old.touched }
+        ensures is { self.new ≡ record self.old { touched = touched } }
+    {
+        mem::replace(&mut self.touched, touched)
+    }
+
+    /// What the mailbox has now of the UIDs of which it is to be told. `NoMemory` is the only
+    /// error.
+    pub fn fresh(&self, live: &Live) -> Result<List<Fresh>, NoMemory>
+        ensures { IfOk result (λ fresh. fresh ≡ fresh_of live.now.mailbox self.now.touched) }
+    {
+        fresh_of(self.alloc, live, self.touched.uids())
+    }
+
     /// The one line of a command that this session refuses by itself: exactly where it hasn't
     /// selected the mailbox and the command isn't SELECT, or where its view lacks a message number
     /// that the command names, by the first such number. Takes no memory.
@@ -123,7 +153,10 @@ impl Session {
     }
 
     // About how many lines the answer to a command has that looks at these UIDs.
-    fn lines_of(&self, c: &Command, live: &Live, looked_at: &[u32]) -> usize {
+    fn lines_of(&self, c: &Command, live: &Live, looked_at: &[u32]) -> usize
+        ensures { result ≤ length live.now.mailbox.rows + length self.now.touched
+            + length looked_at.now }
+    {
         let told = self.touched.uids().len();
         match c {
             Command::Select => live.count() as usize,
@@ -278,6 +311,7 @@ impl Session {
             → replies.old ≡ R.with start (data_of mail c.now self.old.state.view live.now.mailbox)
             → OnOk result (IsAnswered R.with start replies.new self.new.state
             (answer mail self.old.state c.now met_mailbox told live.now.mailbox mark)) }
+        ensures told { OnOk result (self.new.state.told ≡ told) }
         ensures abreast { OnOk result (IsAbreast live.now.mailbox self.new) }
         ensures err { OnErr result (self.new ≡ self.old) }
         // What was taken before is kept.

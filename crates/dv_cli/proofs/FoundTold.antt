@@ -1,17 +1,9 @@
 -- What is found in a folder is told.
-use Rattle.dv_model.specs.declared.types.Mailbox.{Mailbox}
-use Rattle.dv_model.specs.declared.types.Mark.{Mark}
 use Rattle.dv_shelf.specs.Folders.{Folder}
-use Rattle.dv_openings.specs.Openings.{Finds, IsFound}
 use Rattle.dv_cli.specs.declared.ending.End.{End}
 use Rattle.dv_cli.specs.declared.ending.End.TheVariants as end
-use Rattle.dv_cli.specs.Causes.{EndsServing, HasFault, TellsFaults}
-use Rattle.dv_cli.proofs.FoundStarts.{found_faultless}
-
-pub found_told : (folder : Folder) (m : Mailbox) (mark : Mark) → IsFound folder (Finds m mark)
-    → HasFault folder → ⊥
-found_told folder m mark found has =
-    found_faultless folder m mark has.fault found has.is has.found
+use Rattle.dv_cli.specs.Causes.{EndsServing, TellsFaults}
+use Rattle.dv_beginning.specs.Causes.{HasFault}
 
 -- lines that are served were opened
 pub served_told : (folder : Folder) (e : End) → EndsServing e → (HasFault folder → ⊥)

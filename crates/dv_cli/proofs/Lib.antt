@@ -1,19 +1,14 @@
 mod Concluding
 mod AllServed
-mod FoundStarts
 mod Statuses
 mod Takes
-mod GuidFiles
-pub mod Starting
 mod Leaving
-mod Opened
-mod Created
-mod Looked
 mod Timed
 mod Served
 mod Folders
 mod Parsed
 mod WholeRuns
+mod ClientRuns
 mod WrongWords
 mod Reached
 mod FoundTold
@@ -22,3 +17,4 @@ mod Tasked
 mod Told
 mod Untelling
 mod Restarting
+mod NextRuns

@@ -10,7 +10,7 @@ use Rattle.dv_formats.specs.Scripts.{NamedLine}
 use Rattle.dv_script.specs.Sources.{ScriptFails}
 use Rattle.dv_script.specs.declared.types.ScriptEnd.{ScriptEnd}
 use Rattle.dv_script.specs.declared.types.ScriptEnd.TheVariants as script
-use Rattle.dv_cli.specs.Tasks.{EndsBy, Opens}
+use Rattle.dv_cli.specs.Tasks.{EndsBy, HasAnswers, Opens}
 use Rattle.dv_cli.specs.declared.words.Task.{Task}
 use Rattle.dv_cli.specs.declared.words.Task.TheVariants as task
 use Rattle.dv_cli.specs.declared.ending.End.{End}
@@ -169,7 +169,7 @@ not_refused read lines f good bad = good_script read lines f good bad
 
 -- a run over a folder ends so, with replies to a script or with none
 pub folder_ends : (t : Option Task) (shelf shelf_now out out_now : ℕ) (e : End) → Opens t
-    → IsSome t → (Rose out out_now → t ≡ Some task.Run)
+    → IsSome t → (Rose out out_now → HasAnswers t)
     → FolderCause shelf shelf_now out out_now e → EndsBy t e
 folder_ends t shelf shelf_now out out_now (end.Answered mark groups loaded) opens some sink cause = opens
 folder_ends t shelf shelf_now out out_now (end.Rebuilt kept skipped) opens some sink cause = absurd cause

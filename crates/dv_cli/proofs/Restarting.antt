@@ -1,14 +1,13 @@
 -- A next run starts from the log that a folder gives.
-use Rattle.std.proofs.Common.{◌≡◌, inl, ℕ, Option, refl, subst}
+use Rattle.std.proofs.Common.{◌≡◌, inl, ℕ, refl, subst}
 use Rattle.dv_model.specs.declared.types.Mailbox.{Mailbox}
 use Rattle.dv_model.specs.declared.types.Mark.{Mark}
 use Rattle.dv_shelf.specs.declared.shelf.Name.TheVariants as name
 use Rattle.dv_shelf.specs.Folders.{Folder}
 use Rattle.dv_logfile.specs.Scans.{BadHeader, BadSpot, Good, IsScanned, Missing, Scanned}
 use Rattle.dv_openings.specs.Numbers.{IsNamed}
-use Rattle.dv_openings.specs.Openings.{Finds, Found, IsFound, found_in}
+use Rattle.dv_openings.specs.Openings.{Finds, IsFound, found_in}
 use Rattle.dv_cli.specs.Restarts.{LogsStart}
-use Rattle.dv_cli.specs.Starts.{log_from}
 
 -- where a mailbox is found the log is a good one, which has a number
 named_found : (c : Folder) (m : Mailbox) (mark : Mark) → IsFound c (Finds m mark) → (n : ℕ) × IsNamed c n

@@ -1,6 +1,6 @@
 -- Lines are served from where a run begins.
-use Rattle.std.proofs.Common.{◌≡◌, ◌⊎◌, ⊎_elim, inl, inr, ℕ, ◌+◌, ◌≤◌, ◌<◌, Bool, true, false, List, [], ◌∷◌, ◌++◌, append-nil, length, Option, Result, Ok, Err, refl, sym, ◌∙◌, ap, subst, arith}
-use Rattle.std.specs.Prelude.{replicate, if◌then◌else◌}
+use Rattle.std.proofs.Common.{◌≡◌, ◌⊎◌, ⊎_elim, inl, inr, ℕ, ◌+◌, ◌≤◌, ◌<◌, List, [], ◌∷◌, ◌++◌, append-nil, length, Option, Result, Ok, Err, refl, sym, ◌∙◌, ap, subst, arith}
+use Rattle.std.specs.Prelude.{replicate}
 use Rattle.std.proofs.lemmas.List.{get_or-replicate, length-replicate}
 use Rattle.std.proofs.lemmas.List.Elements.{All-nil, All-replicate}
 use Rattle.dv_model.specs.declared.types.Mailbox.{Mailbox}
@@ -8,7 +8,7 @@ use Rattle.dv_model.specs.declared.types.Mark.{Mark}
 use Rattle.dv_model.specs.declared.types.Reply.{Reply}
 use Rattle.dv_model.specs.Journals.{Log}
 use Rattle.dv_model.specs.Sessions.{new_session}
-use Rattle.dv_model.specs.Transcripts.{Line, Serial, touches_disk}
+use Rattle.dv_model.specs.Transcripts.{Line, Serial}
 use Rattle.dv_shelf.specs.Causes.{Stayed}
 use Rattle.dv_shelf.specs.Clocks.{behind}
 use Rattle.dv_shelf.specs.Crashes.{LeavesOnly}
@@ -19,33 +19,38 @@ use Rattle.dv_writing.specs.Debts.{Nothing}
 use Rattle.dv_answer.specs.Following.{Follower, IsAbreast, new_follower}
 use Rattle.dv_playing.specs.Laws.{IsAttempt, MayPlay, MayWrite, RiseFrom, failure_of, failures_of, lines_of}
 use Rattle.dv_playing.proofs.Failures.{failures_append, rose_over}
-use Rattle.dv_playing.specs.Playing.{Attempt, Outcome, Play, Served, begin, fared, replies_to, step, stepped_by, with_group_here}
+use Rattle.dv_playing.specs.Playing.{Attempt, Outcome, Play, Served, begin, replies_to, step, with_group_here}
 use Rattle.dv_playing.proofs.Plays.{goes_on, leaves, serial}
 use Rattle.dv_store.specs.States.{State}
 use Rattle.dv_serial.specs.declared.lines.LineEnd.{LineEnd}
 use Rattle.dv_serial.specs.declared.lines.LineEnd.TheVariants as line_end
 use Rattle.dv_serial.specs.Following.{AreSeated, Follows, IsLeft, Keeps, MayBeLeft, origin_of}
 use Rattle.dv_cli.proofs.Leaving.{leaves_next}
-use Rattle.dv_serial.specs.Places.{GivesBehind, GivesPlay, MayGive, play_of}
+use Rattle.dv_serial.specs.Places.{GivesBehind, MayGive, play_of}
+use Rattle.dv_serving.specs.Places.{GivesPlay}
 use Rattle.dv_serial.specs.Runs.{EndsWith, HasRead, IsCaused, Runs, Writes}
-use Rattle.dv_serial.specs.Scripts.{numbered}
+use Rattle.dv_serving.specs.Scripts.{numbered}
 use Rattle.dv_serial.specs.Servings.{Serving, serving_over}
 use Rattle.dv_serial.proofs.Crashing.{keeps_behind, longer_may, stays_may}
 use Rattle.dv_serial.proofs.Running.{served_log}
 use Rattle.dv_clients.proofs.Clients.{serial_alike, serial_numbers}
 use Rattle.dv_cli.specs.declared.ending.End.{End}
 use Rattle.dv_cli.specs.declared.ending.End.TheVariants as end
-use Rattle.dv_cli.specs.Begins.{IsBegun}
+use Rattle.dv_beginning.specs.Begins.{IsBegun}
 use Rattle.dv_cli.specs.declared.words.Load.{Load}
 use Rattle.dv_cli.specs.declared.ending.Loaded.{Loaded}
 use Rattle.dv_cli.specs.Behind.{end_behind, loaded_by}
 use Rattle.dv_cli.specs.Causes.{EndCause, EndsServing}
-use Rattle.dv_cli.specs.Runs.{ClientsKnow, EndsAt, IsAnswered, MayLeave, NoneFailed, OpensFirst, RunsOver, ServesLines, WritesLines}
-use Rattle.dv_cli.specs.Spans.{Times}
-use Rattle.dv_serial.specs.Faults.{Faults}
-use Rattle.dv_cli.proofs.Starting.{IsBare, behind_both, behind_none, start_bare}
+use Rattle.dv_cli.specs.Runs.{ClientsKnow, EndsAt, IsAnswered, NoneFailed, OpensFirst, RunsOver, ServesLines, WritesLines}
+use Rattle.dv_beginning.specs.Leaving.{MayLeave}
+use Rattle.dv_cli.specs.Spans.{Times, times_with}
+use Rattle.dv_serving.specs.Faults.{Faults}
+use Rattle.dv_serving.specs.Readings.{AreReadings, AtReadings}
+use Rattle.dv_serving.proofs.Readings.{alike_back, readings_then, then_alike, then_behind, then_small, then_told}
+use Rattle.dv_beginning.proofs.Alike.{begun_alike}
+use Rattle.dv_beginning.proofs.Starting.{IsBare, behind_both, behind_none, start_bare}
 use Rattle.dv_shelf.specs.Sees.{SeesFolder, SeesTime}
-use Rattle.dv_serial.specs.Outputs.{Output, output_with}
+use Rattle.dv_serving.specs.Outputs.{Output, output_with}
 
 -- ---- the first line that wasn't answered
 
@@ -185,7 +190,7 @@ module _ {S C : Type 0} (sees : SeesFolder S) (ticks : SeesTime C) (clock : ℕ 
 
   keeps_start : (seats : List Follower) → Keeps sees time start [] (serving_over store seats)
   keeps_start seats = record {
-    at = record { rotates = bare.rotates; groups = ap length bare.entries; mailbox = begun.mailbox; mark = begun.mark; place = (sym begun.mark, begun.owed) };
+    at = record { rotates = bare.rotates; groups = ap length bare.entries; mailbox = begun.mailbox; mark = begun.place ∙ sym begun.mark; place = (sym begun.place, begun.owed) };
     debt = Nothing;
     owed = tt;
     rests = begun.rests;
@@ -204,9 +209,15 @@ module _ {S C : Type 0} (sees : SeesFolder S) (ticks : SeesTime C) (clock : ℕ 
       fewer k lt = subst (λ (m : ℕ). k < m) (length-replicate n new_follower) lt
 
   -- new sessions follow the play that is to come
-  pub follows_start : (n : ℕ) (seats : List Follower) (faults : ℕ) → base ≤ faults → seats ≡ replicate n new_follower → Follows sees ticks (origin_of time start base) faults [] (serving_over store seats)
-  follows_start n seats faults later is =
-      record { may = may_start faults later; failures = later; keeps = keeps_start seats; readings = begun.readings ∙ behind_none time; seats = seated n seats is }
+  pub follows_start : AreReadings clock → (n : ℕ) (seats : List Follower) (faults : ℕ) → base ≤ faults → seats ≡ replicate n new_follower → Follows sees ticks (origin_of time start base) faults [] (serving_over store seats)
+  follows_start small n seats faults later is = record {
+    may = may_start faults later;
+    failures = later;
+    keeps = keeps_start seats;
+    small = λ k. small (begun.used + k);
+    readings = λ reads. begun.readings reads ∙ behind_none time;
+    seats = seated n seats is;
+  }
 
   -- what a crash leaves before the first line
   start_kept : (c : Folder) → sees.may_leave store.shelf c → GivesBehind time start [] c
@@ -220,12 +231,12 @@ module _ {S C : Type 0} (sees : SeesFolder S) (ticks : SeesTime C) (clock : ℕ 
 
   module _ (faults : ℕ) (lines : List NamedLine) (told : Type 0) (taken taken_now : List ℕ) (seats : List Follower) (result : Result (Unit {0}) LineEnd) (new : Serving S C)
       (runs : Runs sees ticks (origin_of time start base) faults lines result (output_with told taken taken_now) (serving_over store seats) new)
-      (there : sees.may_leave new.store.shelf (sees.files new.store.shelf)) where
+      (there : sees.may_leave new.store.shelf (sees.files new.store.shelf)) (stays : Stayed base faults → Stayed (sees.fault_count store.shelf) (sees.fault_count new.store.shelf)) where
     abbrev all : List Attempt
     all = runs.answered ++ runs.left
 
     abbrev how : End
-    how = end_behind result new.mark new.groups (loaded_by load new.store.chain.live.mailbox)
+    how = end_behind result new.store.mark new.groups (loaded_by load new.store.chain.live.mailbox)
 
     kept : (c : Folder) → sees.may_leave new.store.shelf c → GivesBehind time start all c
     kept c left = keeps_behind sees time start all new runs.keeps c left
@@ -237,7 +248,7 @@ module _ {S C : Type 0} (sees : SeesFolder S) (ticks : SeesTime C) (clock : ℕ 
     whole_serial = subst (λ (ls : List Line). Serial (play_of time start all).log base faults ls (replies_to time (begin start) runs.answered)) (sym runs.parts)
         (serial_left time start base faults runs.answered runs.may runs.left runs.rest (first_of time base start runs.answered runs.left runs.rest result runs.ends))
 
-    pub serves_lines : ServesLines sees (record { clock = clock; clock_now = ticks.upcoming new.store.clock }) (record { before = base; now = faults }) load lines how (output_with told taken taken_now) old new.store.shelf
+    pub serves_lines : ServesLines sees (times_with ticks.tells clock (ticks.upcoming new.store.clock)) (record { before = base; now = faults }) load lines how (output_with told taken taken_now) old new.store.shelf
     serves_lines =
         let crash : LeavesOnly sees old new.store.shelf (MayLeave time start all (sees.files old)) =
         joined sees old store.shelf new.store.shelf (MayLeave time start all (sees.files old))
@@ -251,33 +262,22 @@ module _ {S C : Type 0} (sees : SeesFolder S) (ticks : SeesTime C) (clock : ℕ 
           left = runs.left;
           rest = runs.rest;
           parts = runs.parts;
-          ends = ends_at time base start load runs.answered runs.left runs.rest result new.mark new.groups new.store.chain.live.mailbox runs.keeps.at.mark runs.keeps.at.groups runs.keeps.at.mailbox runs.ends;
+          ends = ends_at time base start load runs.answered runs.left runs.rest result new.store.mark new.groups new.store.chain.live.mailbox runs.keeps.at.mark runs.keeps.at.groups runs.keeps.at.mailbox runs.ends;
           serial = whole_serial;
           clients = clients_know (play_of time start all).log base faults (numbered lines) (replies_to time (begin start) runs.answered) whole_serial;
           may = runs.may;
           failures = runs.failures;
           whole = λ stayed. none_failed sees time start all base faults new.store.shelf runs.failures stayed there kept;
-          output = λ tells. writes_lines time start runs.answered runs.left lines result new.mark new.groups (loaded_by load new.store.chain.live.mailbox) taken taken_now (runs.output tells);
-          readings = has_read clock begun.used (play_of time start runs.answered).used (ticks.upcoming new.store.clock) result new.mark new.groups (loaded_by load new.store.chain.live.mailbox) runs.readings;
+          output = λ tells. writes_lines time start runs.answered runs.left lines result new.store.mark new.groups (loaded_by load new.store.chain.live.mailbox) taken taken_now (runs.output tells);
+          readings = λ timed. has_read clock begun.used (play_of time start runs.answered).used (ticks.upcoming new.store.clock) result new.store.mark new.groups (loaded_by load new.store.chain.live.mailbox) (runs.readings timed);
           others = λ n other none. runs.others n none ∙ begun.others n other;
           folder = kept (sees.files new.store.shelf) there;
           after = kept;
           crash = crash;
           opens = opens;
           next = leaves_next sees time start all old new.store.shelf there kept crash;
+          settled = λ stayed. runs.settled (stays stayed) begun.settled;
         }
-
-  -- the play begins with new sessions
-  module _ (counts : S → ℕ) (later : base ≤ counts store.shelf) (faults : ℕ) (lines : List NamedLine) (told : Type 0) (taken taken_now : List ℕ) (n : ℕ) (seats : List Follower) (result : Result (Unit {0}) LineEnd) (serial new : Serving S C) where
-    pub serves_all : seats ≡ replicate n new_follower → serial ≡ serving_over store seats
-        → (Follows sees ticks (origin_of time start base) (counts serial.store.shelf) [] serial → Runs sees ticks (origin_of time start base) faults lines result (output_with told taken taken_now) serial new)
-        → sees.may_leave new.store.shelf (sees.files new.store.shelf)
-        → ServesLines sees (record { clock = clock; clock_now = ticks.upcoming new.store.clock }) (record { before = base; now = faults }) load lines (end_behind result new.mark new.groups (loaded_by load new.store.chain.live.mailbox)) (output_with told taken taken_now) old new.store.shelf
-    serves_all is over run there =
-        let follows : Follows sees ticks (origin_of time start base) (counts serial.store.shelf) [] serial =
-        subst (λ (s : Serving S C). Follows sees ticks (origin_of time start base) (counts s.store.shelf) [] s) (sym over) (follows_start n seats (counts store.shelf) later is) in
-        let runs = subst (λ (s : Serving S C). Runs sees ticks (origin_of time start base) faults lines result (output_with told taken taken_now) s new) over (run follows) in
-        serves_lines faults lines told taken taken_now seats result new runs there
 
   -- ---- no line was
 
@@ -290,7 +290,7 @@ module _ {S C : Type 0} (sees : SeesFolder S) (ticks : SeesTime C) (clock : ℕ 
     none_ends [] = refl
     none_ends (line ∷ rest) = tt
 
-    pub serves_none : ServesLines sees (record { clock = clock; clock_now = ticks.upcoming store.clock }) (record { before = base; now = faults }) load lines end.NoMemory (output_with told taken taken) old store.shelf
+    pub serves_none : ServesLines sees (times_with ticks.tells clock (ticks.upcoming store.clock)) (record { before = base; now = faults }) load lines end.NoMemory (output_with told taken taken) old store.shelf
     serves_none = record {
       start = start;
       used = begun.used;
@@ -306,7 +306,7 @@ module _ {S C : Type 0} (sees : SeesFolder S) (ticks : SeesTime C) (clock : ℕ 
       failures = later;
       whole = λ stayed. none_failed sees time start [] base faults store.shelf later stayed there start_kept;
       output = λ tells. sym (append-nil taken);
-      readings = λ answered. absurd answered;
+      readings = λ timed answered. absurd answered;
       others = λ n other none. begun.others n other;
       folder = start_kept (sees.files store.shelf) there;
       after = start_kept;
@@ -318,7 +318,45 @@ module _ {S C : Type 0} (sees : SeesFolder S) (ticks : SeesTime C) (clock : ℕ 
         since = stays_may sees time start [] (serving_over store []) (keeps_start []) now;
       };
       next = leaves_next sees time start [] old store.shelf there start_kept begun.since;
+      settled = λ stayed. begun.settled;
     }
+
+-- ---- the play begins with new sessions
+
+module _ {S C : Type 0} (sees : SeesFolder S) (ticks : SeesTime C) (clock : ℕ → ℕ) (old : S) (store : State S C)
+    (begun : IsBegun sees ticks clock old store) (base : ℕ) (load : Option Load) (small : AreReadings clock) (counts : S → ℕ) (later : base ≤ counts store.shelf) (faults : ℕ) (lines : List NamedLine) (told : Type 0)
+    (taken taken_now : List ℕ) (n : ℕ) (seats : List Follower) (result : Result (Unit {0}) LineEnd) (serial new : Serving S C) where
+  abbrev lines_clock : ℕ → ℕ
+  lines_clock = behind clock begun.used
+
+  -- a run of the lines at these readings
+  abbrev RunsAt : Serving S C → (ℕ → ℕ) → Type 0
+  RunsAt from now = Runs sees ticks (origin_of now begun.start base) faults lines result (output_with told taken taken_now) from new
+
+  -- the readings until the first line, and then those of the lines
+  pub serves_all : seats ≡ replicate n new_follower → serial ≡ serving_over store seats
+      → (Follows sees ticks (origin_of lines_clock begun.start base) (counts serial.store.shelf) [] serial → AtReadings ticks.tells lines_clock (RunsAt serial))
+      → sees.may_leave new.store.shelf (sees.files new.store.shelf) → (Stayed base faults → Stayed (sees.fault_count store.shelf) (sees.fault_count new.store.shelf))
+      → AtReadings ticks.tells clock (λ (readings : ℕ → ℕ).
+      ServesLines sees (times_with ticks.tells readings (ticks.upcoming new.store.clock)) (record { before = base; now = faults }) load lines (end_behind result new.store.mark new.groups (loaded_by load new.store.chain.live.mailbox))
+      (output_with told taken taken_now) old new.store.shelf)
+  serves_all is over run there stays =
+      let follows : Follows sees ticks (origin_of lines_clock begun.start base) (counts serial.store.shelf) [] serial =
+      subst (λ (s : Serving S C). Follows sees ticks (origin_of lines_clock begun.start base) (counts s.store.shelf) [] s) (sym over)
+      (follows_start sees ticks clock old store begun base load small n seats (counts store.shelf) later is) in
+      let dated = run follows in
+      let all : ℕ → ℕ = readings_then clock begun.used dated.clock in
+      let known : ticks.tells → (k : ℕ) → all k ≡ clock k = λ reads. then_told clock begun.used dated.clock (dated.told reads) in
+      record {
+        clock = all;
+        small = then_small clock begun.used dated.clock small dated.small;
+        told = known;
+        holds = serves_lines sees ticks all old store
+            (begun_alike sees ticks clock all old store begun (alike_back begun.used all clock (then_alike clock begun.used dated.clock)) known)
+            base load faults lines told taken taken_now seats result new
+            (subst (RunsAt (serving_over store seats)) (sym (then_behind clock begun.used dated.clock)) (subst (λ (s : Serving S C). RunsAt s dated.clock) over dated.holds))
+            there stays;
+      }
 
 -- ---- a run over a folder
 

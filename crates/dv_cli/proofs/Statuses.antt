@@ -11,10 +11,11 @@ use Rattle.dv_script.specs.declared.types.ScriptEnd.{ScriptEnd}
 use Rattle.dv_script.specs.declared.types.ScriptEnd.TheVariants as script
 use Rattle.dv_cli.specs.declared.ending.End.{End}
 use Rattle.dv_cli.specs.declared.ending.End.TheVariants as end
-use Rattle.dv_cli.specs.Causes.{ComesFrom, Counts, HasCauses, HasFault, TellsFaults, TellsScript, counts_of}
+use Rattle.dv_cli.specs.Causes.{ComesFrom, Counts, HasCauses, TellsFaults, TellsScript, counts_of}
 use Rattle.dv_cli.specs.declared.words.Task.{Task}
 use Rattle.dv_cli.specs.declared.words.Task.TheVariants as task
-use Rattle.dv_cli.specs.Endings.{IsFault, IsStatus, fault_status, status_of}
+use Rattle.dv_cli.specs.Endings.{IsStatus, status_of}
+use Rattle.dv_beginning.specs.Causes.{HasFault, IsFault, fault_status}
 use Rattle.dv_cli.specs.Tasks.{EndsBy, Opens}
 
 -- ---- counts
@@ -92,15 +93,16 @@ opened_end t (end.Source faults) by is = absurd (omega (arith, is))
 opened_end t end.Sink by is = absurd (omega (arith, is))
 
 -- a script that is refused or couldn't be read is that of a run
-read_end : (t : Option Task) (e : End) → EndsBy t e → 5 ≤ status_of e → t ≡ Some task.Run
-read_end t (end.Answered mark groups loaded) by ge = absurd (omega (arith, ge))
-read_end t (end.Rebuilt kept skipped) by ge = absurd (omega (arith, ge))
-read_end t end.Usage by ge = absurd (omega (arith, ge))
-read_end t (end.Unopened f) by ge = let r = fault_range f in absurd (omega (arith, ge, r))
-read_end t end.NoMemory by ge = absurd (omega (arith, ge))
-read_end t (end.Script s) by ge = by
-read_end t (end.Source faults) by ge = by
-read_end t end.Sink by ge = by
+read_end : (t : Option Task) (e : End) → EndsBy t e → 5 ≤ status_of e → status_of e ≤ 6
+    → t ≡ Some task.Run
+read_end t (end.Answered mark groups loaded) by ge le = absurd (omega (arith, ge))
+read_end t (end.Rebuilt kept skipped) by ge le = absurd (omega (arith, ge))
+read_end t end.Usage by ge le = absurd (omega (arith, ge))
+read_end t (end.Unopened f) by ge le = let r = fault_range f in absurd (omega (arith, ge, r))
+read_end t end.NoMemory by ge le = absurd (omega (arith, ge))
+read_end t (end.Script s) by ge le = by
+read_end t (end.Source faults) by ge le = by
+read_end t end.Sink by ge le = absurd (omega (arith, le))
 
 disk_fault : (before now : Counts) (f : OpenFault) → ComesFrom before now (end.Unopened f)
     → fault_status f ≡ 2 → Rose before.shelf now.shelf
@@ -227,10 +229,10 @@ causes_of status t before now folder read holds told e is by cause sink faults l
           (opened_end t e by k, λ h. found_end folder e (faults h) k);
       script = λ at.
           let k = status_is e status 5 is at (λ x. omega (arith, x)) (λ x. omega (arith, x)) in
-          let run = read_end t e by (omega (arith, k)) in
+          let run = read_end t e by (omega (arith, k)) (omega (arith, k)) in
           (run, λ tells. script_end read e (lines run tells) k);
       source = λ at.
           let k = status_is e status 6 is at (λ x. omega (arith, x)) (λ x. omega (arith, x)) in
-          (read_end t e by (omega (arith, k)), source_end before now e cause k);
+          (read_end t e by (omega (arith, k)) (omega (arith, k)), source_end before now e cause k);
       output = sink;
     }

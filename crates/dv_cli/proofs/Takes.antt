@@ -1,26 +1,18 @@
 -- How often the clock is read.
-use Rattle.std.proofs.Common.{◌≡◌, ℕ, ◌+◌, ◌≤◌, Err, refl, ◌∙◌, arith}
+use Rattle.std.proofs.Common.{◌≡◌, ℕ, ◌≤◌, Err, refl, arith}
 use Rattle.dv_model.specs.declared.types.OpenFault.{OpenFault}
 use Rattle.dv_model.specs.declared.types.OpenFault.TheVariants as fault
 use Rattle.dv_script.specs.declared.types.ScriptEnd.{ScriptEnd}
-use Rattle.dv_shelf.specs.Clocks.{behind}
-use Rattle.dv_serial.specs.Serves.{TakesUpTo}
+use Rattle.dv_serving.specs.Readings.{TakesUpTo}
+use Rattle.dv_beginning.proofs.Readings.{takes_none}
 use Rattle.dv_cli.specs.declared.ending.End.{End}
 use Rattle.dv_cli.specs.declared.ending.End.TheVariants as end
-use Rattle.dv_cli.specs.Causes.{TakesByEnd, TakesByStatus, TakesForOpening, TakesForRun, most_readings}
-use Rattle.dv_cli.specs.Endings.{IsStatus, fault_status, status_of}
+use Rattle.dv_cli.specs.Causes.{TakesByEnd, TakesByStatus, TakesForRun, most_readings}
+use Rattle.dv_cli.specs.Endings.{IsStatus, status_of}
+use Rattle.dv_beginning.specs.Causes.{TakesForOpening, fault_status}
 use Rattle.dv_cli.proofs.Statuses.{fault_range, status_is}
 
 -- ---- so many at most
-
-none_behind : (old : ℕ → ℕ) → old ≡ behind old 0
-none_behind old = λ i k. old (zero_plus k i)
-  where
-    zero_plus : (k : ℕ) → k ≡ 0 + k
-    zero_plus k = omega arith
-
-pub takes_none : (most : ℕ) (old new : ℕ → ℕ) → new ≡ old → TakesUpTo most old new
-takes_none most old new is = (0, omega arith, is ∙ none_behind old)
 
 pub takes_more : (few most : ℕ) (old new : ℕ → ℕ) → few ≤ most → TakesUpTo few old new
     → TakesUpTo most old new

@@ -2,19 +2,20 @@
 use Rattle.std.proofs.Common.{ℕ, List}
 use Rattle.std.specs.Prelude.{Option}
 use Rattle.dv_formats.specs.Scripts.{NamedLine}
-use Rattle.dv_serial.specs.Outputs.{output_with}
+use Rattle.dv_serving.specs.Outputs.{output_with}
 use Rattle.dv_cli.specs.declared.ending.End.{End}
 use Rattle.dv_cli.specs.declared.ending.End.TheVariants as end
 use Rattle.dv_cli.specs.declared.words.Load.{Load}
 use Rattle.dv_cli.specs.Runs.{RunsOver, ServesLines}
+use Rattle.dv_cli.specs.Spans.{times_with}
 use Rattle.dv_shelf.specs.Sees.{SeesFolder}
 
-module _ {S : Type 0} (sees : SeesFolder S) (clock clock_now : ℕ → ℕ) (base faults : ℕ) (load : Option Load) (lines : List NamedLine) (old new : S) (a b c d : List ℕ) where
+module _ {S : Type 0} (sees : SeesFolder S) (timed : Type 0) (clock clock_now : ℕ → ℕ) (base faults : ℕ) (load : Option Load) (lines : List NamedLine) (old new : S) (a b c d : List ℕ) where
   abbrev Serves : End → List ℕ → List ℕ → Type 0
-  Serves e before now = ServesLines sees (record { clock = clock; clock_now = clock_now }) (record { before = base; now = faults }) load lines e (output_with ⊥ before now) old new
+  Serves e before now = ServesLines sees (times_with timed clock clock_now) (record { before = base; now = faults }) load lines e (output_with ⊥ before now) old new
 
   abbrev Runs : End → List ℕ → List ℕ → Type 0
-  Runs e before now = RunsOver sees (record { clock = clock; clock_now = clock_now }) (record { before = base; now = faults }) load lines e (output_with ⊥ before now) old new
+  Runs e before now = RunsOver sees (times_with timed clock clock_now) (record { before = base; now = faults }) load lines e (output_with ⊥ before now) old new
 
   served : (e : End) → Serves e a b → Serves e c d
   served e s = record {
@@ -39,6 +40,7 @@ module _ {S : Type 0} (sees : SeesFolder S) (clock clock_now : ℕ → ℕ) (bas
     crash = s.crash;
     opens = s.opens;
     next = s.next;
+    settled = s.settled;
   }
 
   pub ran : (e : End) → Runs e a b → Runs e c d

@@ -19,13 +19,15 @@ use Rattle.dv_script.specs.declared.types.ScriptEnd.{ScriptEnd}
 use Rattle.dv_script.specs.declared.types.ScriptEnd.TheVariants as script
 use Rattle.dv_playing.specs.Laws.{lines_of}
 use Rattle.dv_playing.specs.Playing.{Attempt, begin, played, replies_to}
-use Rattle.dv_serial.specs.Outputs.{output_with}
+use Rattle.dv_serving.specs.Outputs.{output_with}
 use Rattle.dv_serial.specs.Places.{play_of}
-use Rattle.dv_serial.specs.Scripts.{numbered, replies_text}
+use Rattle.dv_serving.specs.Scripts.{numbered, replies_text}
 use Rattle.dv_cli.specs.declared.ending.End.{End}
 use Rattle.dv_cli.specs.declared.ending.End.TheVariants as end
-use Rattle.dv_cli.specs.Causes.{AnyRose, ComesFrom, Counts, EndsRefused, HasFault, IsOr, TellsFaults, TellsScript}
-use Rattle.dv_cli.specs.Endings.{Concludes, IsFault, IsStatus, fault_status, status_of, text_of}
+use Rattle.dv_cli.specs.Causes.{AnyRose, ComesFrom, Counts, EndsRefused, IsOr, TellsFaults, TellsScript}
+use Rattle.dv_cli.specs.Endings.{Concludes, IsStatus, status_of, text_of}
+use Rattle.dv_beginning.specs.Causes.{HasFault, IsFault, fault_status}
+use Rattle.dv_qresync.specs.declared.types.Old.{Old}
 use Rattle.dv_cli.specs.declared.words.Load.{Load}
 use Rattle.dv_cli.specs.declared.words.Task.{Task}
 use Rattle.dv_cli.specs.declared.words.Task.TheVariants as task
@@ -37,16 +39,18 @@ use Rattle.dv_rebuild.specs.declared.rebuilding.Rebuilt.{Rebuilt}
 use Rattle.dv_rebuild.specs.Rebuilding.{LeavesRebuilt}
 use Rattle.dv_cli.specs.Rebuilding.{RebuildsFolder, rebuilt_end}
 use Rattle.dv_notices.specs.declared.telling.Told.{Told}
-use Rattle.dv_cli.specs.Outputs.{IsOutputBy, IsOutputOf, IsOutputOver, IsRebuiltOutput, all_served, last_over, output_over, replies_over, script_fault_text, served}
+use Rattle.dv_cli.specs.Outputs.{IsOutputBy, IsOutputOf, IsOutputOver, IsOutputTo, IsRebuiltOutput, all_served, last_over, output_over, replies_over, script_fault_text, served}
 use Rattle.dv_cli.specs.Running.{answered_text, fault_text, rebuilt_text, usage_text}
-use Rattle.dv_cli.specs.Runs.{LeavesUnopened, RunsOver, ServesLines, WritesLines}
-use Rattle.dv_cli.specs.Starts.{Starts}
-use Rattle.dv_cli.specs.Tasks.{Answers, EndsBy, HasScript, Opens, RepliesTold, generated_by, load_in}
+use Rattle.dv_cli.specs.Runs.{RunsOver, ServesLines, WritesLines}
+use Rattle.dv_beginning.specs.Leaving.{LeavesUnopened}
+use Rattle.dv_beginning.specs.Starts.{Starts}
+use Rattle.dv_cli.specs.Tasks.{EndsBy, HasLines, HasScript, Reaches, RepliesTold, generated_by, load_in}
 use Rattle.dv_cli.specs.Wholes.{EndsReading, IsUnread}
 use Rattle.dv_cli.proofs.AllServed.{all_served_so}
-use Rattle.dv_cli.proofs.FoundStarts.{faults_one, starts_faultless, starts_one}
+use Rattle.dv_beginning.proofs.FoundStarts.{faults_one, starts_faultless, starts_one}
 use Rattle.dv_cli.proofs.Reached.{good_script}
 use Rattle.dv_cli.proofs.Statuses.{fault_told, none_failed}
+use Rattle.dv_cli.specs.Spans.{times_with}
 use Rattle.dv_shelf.specs.Sees.{SeesFolder}
 
 -- ---- how a run over good lines ends
@@ -62,7 +66,7 @@ abbrev pub WellOr : ℕ → End → Counts → Counts → Type 0
 WellOr status e before now =
     ((status ≡ status_of e) × EndsWell e) ⊎ (status ≡ 4) ⊎ AnyRose before now
 
-unopened_well : (status : ℕ) (before now : Counts) (f : OpenFault)
+pub unopened_well : (status : ℕ) (before now : Counts) (f : OpenFault)
     → ComesFrom before now (end.Unopened f) → status ≡ fault_status f
     → WellOr status (end.Unopened f) before now
 unopened_well status before now (fault.Disk faults) cause is = inr (inr (inl cause.0))
@@ -84,43 +88,43 @@ script_well status before now read lines (script.ShortLiteral line) good tells i
     absurd (good_script read lines _ good tells)
 script_well status before now read lines script.NoMemory good tells is = inr (inl is)
 
--- the task's lines are those of a script, unless they were generated
+-- a script that is refused is that of a run
 refused_well : (status : ℕ) (before now : Counts) (t : Option Task) (told : Type 0)
-    (read : Result (List NamedLine) ScriptFault) (lines : List NamedLine) (s : ScriptEnd)
-    → Answers t told read lines → t ≡ Some task.Run → (t ≡ Some task.Run → told → TellsScript read (end.Script s))
+    (read : Result (List NamedLine) ScriptFault) (s : ScriptEnd)
+    → Reaches t told read → t ≡ Some task.Run → (t ≡ Some task.Run → told → TellsScript read (end.Script s))
     → status ≡ status_of (end.Script s) → WellOr status (end.Script s) before now
-refused_well status before now t told read lines s answers run tells is =
-    let has = subst (λ (x : Option Task). Answers x told read lines) run answers in
-    script_well status before now read lines s has.1 (tells run has.0) is
+refused_well status before now t told read s reaches run tells is =
+    let has = subst (λ (x : Option Task). Reaches x told read) run reaches in
+    script_well status before now read has.1 s has.2 (tells run has.0) is
 
 own_status : (status : ℕ) (before now : Counts) (t : Option Task) (told : Type 0)
-    (read : Result (List NamedLine) ScriptFault) (lines : List NamedLine) (e : End)
-    → Answers t told read lines → EndsBy t e → (t ≡ Some task.Run → told → TellsScript read e)
+    (read : Result (List NamedLine) ScriptFault) (e : End)
+    → Reaches t told read → EndsBy t e → (t ≡ Some task.Run → told → TellsScript read e)
     → ComesFrom before now e → status ≡ status_of e → WellOr status e before now
-own_status status before now t told read lines (end.Answered mark groups loaded) answers by tells cause is = inl (is, tt)
-own_status status before now t told read lines (end.Rebuilt kept skipped) answers by tells cause is =
-    absurd (subst (λ (x : Option Task). Answers x told read lines) by answers)
-own_status status before now t told read lines end.Usage answers by tells cause is =
-    absurd (subst (λ (x : Option Task). Answers x told read lines) by answers)
-own_status status before now t told read lines (end.Unopened f) answers by tells cause is =
+own_status status before now t told read (end.Answered mark groups loaded) reaches by tells cause is = inl (is, tt)
+own_status status before now t told read (end.Rebuilt kept skipped) reaches by tells cause is =
+    absurd (subst (λ (x : Option Task). Reaches x told read) by reaches)
+own_status status before now t told read end.Usage reaches by tells cause is =
+    absurd (subst (λ (x : Option Task). Reaches x told read) by reaches)
+own_status status before now t told read (end.Unopened f) reaches by tells cause is =
     unopened_well status before now f cause is
-own_status status before now t told read lines end.NoMemory answers by tells cause is = inr (inl is)
-own_status status before now t told read lines (end.Script s) answers by tells cause is =
-    refused_well status before now t told read lines s answers by tells is
-own_status status before now t told read lines (end.Source faults) answers by tells cause is =
+own_status status before now t told read end.NoMemory reaches by tells cause is = inr (inl is)
+own_status status before now t told read (end.Script s) reaches by tells cause is =
+    refused_well status before now t told read s reaches by tells is
+own_status status before now t told read (end.Source faults) reaches by tells cause is =
     inr (inr (inr (inl cause.0)))
-own_status status before now t told read lines end.Sink answers by tells cause is =
+own_status status before now t told read end.Sink reaches by tells cause is =
     inr (inr (inr (inr cause)))
 
 pub ends_well : (status : ℕ) (before now : Counts) (t : Option Task) (told : Type 0)
-    (read : Result (List NamedLine) ScriptFault) (lines : List NamedLine) (e : End)
-    → Answers t told read lines → EndsBy t e → (t ≡ Some task.Run → told → TellsScript read e)
+    (read : Result (List NamedLine) ScriptFault) (e : End)
+    → Reaches t told read → EndsBy t e → (t ≡ Some task.Run → told → TellsScript read e)
     → ComesFrom before now e → IsStatus e status → (status ≡ 7 → Rose before.output now.output)
     → WellOr status e before now
-ends_well status before now t told read lines e answers by tells cause (inl is) sink =
-    own_status status before now t told read lines e answers by tells cause is
-ends_well status before now t told read lines e answers by tells cause (inr (inl four)) sink = inr (inl four.1)
-ends_well status before now t told read lines e answers by tells cause (inr (inr seven)) sink =
+ends_well status before now t told read e reaches by tells cause (inl is) sink =
+    own_status status before now t told read e reaches by tells cause is
+ends_well status before now t told read e reaches by tells cause (inr (inl four)) sink = inr (inl four.1)
+ends_well status before now t told read e reaches by tells cause (inr (inr seven)) sink =
     inr (inr (inr (inr (sink seven))))
 
 -- where a fault is found it is told
@@ -244,11 +248,11 @@ served_play clock start lines answered base faults are few still =
       ap (replies_text lines) replies,
     )
 
-module _ {S : Type 0} (sees : SeesFolder S) (clock clock_now : ℕ → ℕ) (base faults : ℕ)
+module _ {S : Type 0} (sees : SeesFolder S) (timed : Type 0) (clock clock_now : ℕ → ℕ) (base faults : ℕ)
     (t : Option Task) (lines : List NamedLine) (told : Type 0)
     (taken between taken_now : List ℕ) (old new : S) (still : Rose base faults → ⊥) where
   abbrev Serving : End → Type 0
-  Serving e = ServesLines sees (record { clock = clock; clock_now = clock_now }) (record { before = base; now = faults }) (load_in t) lines e (output_with (RepliesTold t told) taken between) old new
+  Serving e = ServesLines sees (times_with timed clock clock_now) (record { before = base; now = faults }) (load_in t) lines e (output_with (RepliesTold t told) taken between) old new
 
   module _ (mark : Mark) (groups : ℕ) (loaded : Option Loaded) (serves : Serving (end.Answered mark groups loaded)) where
     abbrev clock_then : ℕ → ℕ
@@ -268,7 +272,7 @@ module _ {S : Type 0} (sees : SeesFolder S) (clock clock_now : ℕ → ℕ) (bas
         ∙ (λ i. answered_text (same_play.0 i).mark (length (same_play.0 i).log.entries) (loaded_by (load_in t) (same_play.0 i).mailbox))
 
     -- of a script the replies stand before them
-    written : (x : Option Task) (load : Option Load) → Opens x → load ≡ load_in x
+    written : (x : Option Task) (load : Option Load) → HasLines x → load ≡ load_in x
         → (RepliesTold x told → Appends taken between (replies_over clock_then serves.start lines))
         → ((HasScript x → ⊥) → between ≡ taken) → told
         → Appends between taken_now (last_over clock_then load serves.start lines)
@@ -281,6 +285,7 @@ module _ {S : Type 0} (sees : SeesFolder S) (clock clock_now : ℕ → ℕ) (bas
         last ∙ ap (λ (bs : List ℕ). bs ++ last_over clock_then (Some other) serves.start lines) (silent (λ none. none))
     written (Some (task.Generate load)) None opens is replies silent tells last = absurd (some_none load (sym is))
     written (Some task.Rebuild) load opens is replies silent tells last = absurd opens
+    written (Some (task.Resync client)) load opens is replies silent tells last = absurd opens
     written None load opens is replies silent tells last = absurd opens
 
     -- of lines that were all answered the output has all replies
@@ -288,7 +293,7 @@ module _ {S : Type 0} (sees : SeesFolder S) (clock clock_now : ℕ → ℕ) (bas
         → Appends taken between (replies_text lines (replies_to clock_then (begin serves.start) serves.answered))
     plain l writes = writes
 
-    answered_output : told → Opens t → ((HasScript t → ⊥) → between ≡ taken)
+    answered_output : told → HasLines t → ((HasScript t → ⊥) → between ≡ taken)
         → Appends between taken_now (answered_text mark groups loaded)
         → Writes taken taken_now (IsOutputOver (load_in t) lines clock (sees.files old))
     answered_output tells opens silent last = (
@@ -320,16 +325,17 @@ module _ {S : Type 0} (sees : SeesFolder S) (clock clock_now : ℕ → ℕ) (bas
   )
 
   -- a folder that isn't opened has nothing written before its last line
-  nothing_before : (x : Option Task) → Opens x → (RepliesTold x told → between ≡ taken)
+  nothing_before : (x : Option Task) → HasLines x → (RepliesTold x told → between ≡ taken)
       → ((HasScript x → ⊥) → between ≡ taken) → told → between ≡ taken
   nothing_before (Some task.Run) opens replies silent tells = replies tells
   nothing_before (Some (task.Generate load)) opens replies silent tells = silent (λ none. none)
   nothing_before (Some task.Rebuild) opens replies silent tells = absurd opens
+  nothing_before (Some (task.Resync client)) opens replies silent tells = absurd opens
   nothing_before None opens replies silent tells = absurd opens
 
-  module _ (tells : told) (opens : Opens t) (silent : (HasScript t → ⊥) → between ≡ taken) where
+  module _ (tells : told) (opens : HasLines t) (silent : (HasScript t → ⊥) → between ≡ taken) where
     abbrev Running : End → Type 0
-    Running e = RunsOver sees (record { clock = clock; clock_now = clock_now }) (record { before = base; now = faults }) (load_in t) lines e (output_with (RepliesTold t told) taken between) old new
+    Running e = RunsOver sees (times_with timed clock clock_now) (record { before = base; now = faults }) (load_in t) lines e (output_with (RepliesTold t told) taken between) old new
 
     run_output : (e : End) → EndsWell e → Running e → Appends between taken_now (text_of e)
         → Writes taken taken_now (IsOutputOver (load_in t) lines clock (sees.files old))
@@ -373,14 +379,15 @@ module _ {S : Type 0} (sees : SeesFolder S) (clock clock_now : ℕ → ℕ) (bas
 -- ---- of a rebuild
 
 -- it kept and skipped what it says, unless memory ran out or the disk failed
-pub rebuilt_output : {S : Type 0} (sees : SeesFolder S) (clock clock_now : ℕ → ℕ) (e : End)
+pub rebuilt_output : {S : Type 0} (sees : SeesFolder S) (timed : Type 0) (clock clock_now : ℕ → ℕ) (e : End)
     (said : Told) (old_shelf new_shelf : S) (status : ℕ) (before now : Counts)
     (old new : List ℕ)
-    → RebuildsFolder sees (record { clock = clock; clock_now = clock_now }) e said old_shelf new_shelf
+    → timed → RebuildsFolder sees (times_with timed clock clock_now) e said old_shelf new_shelf
     → ComesFrom before now e → (AnyRose before now → ⊥) → (status ≡ 4 → ⊥) → (status ≡ 7 → ⊥)
     → Concludes e status old new → Writes old new (IsRebuiltOutput clock (sees.files old_shelf))
-rebuilt_output sees clock clock_now e said old_shelf new_shelf status before now old new rebuilds cause still not-four not-seven last =
-    by_result rebuilds.result rebuilds.told rebuilds.leaves
+rebuilt_output sees timed clock clock_now e said old_shelf new_shelf status before now old new tells rebuilds cause still not-four not-seven last =
+    by_result rebuilds.result rebuilds.told
+    (subst (λ (n : ℕ). LeavesRebuilt (sees.files old_shelf) n (sees.files new_shelf) rebuilds.result) (rebuilds.clock tells) rebuilds.leaves)
   where
     plain : (status ≡ status_of e) × Appends old new (text_of e)
     plain = told_plainly e status old new last not-four not-seven
@@ -418,8 +425,11 @@ pub task_output : (t : Option Task) (b : List ℕ) (clock : ℕ → ℕ) (folder
     → (t ≡ Some task.Rebuild → Writes old new (IsRebuiltOutput clock folder))
     → ((load : Load) → t ≡ Some (task.Generate load)
     → Writes old new (IsOutputOver (Some load) (generated_by load) clock folder))
+    → ((client : Old) → t ≡ Some (task.Resync client)
+    → Writes old new (IsOutputTo client clock folder))
     → Writes old new (IsOutputOf t b clock folder)
-task_output None b clock folder old new nothing script rebuild load = nothing refl
-task_output (Some task.Run) b clock folder old new nothing script rebuild load = script refl
-task_output (Some task.Rebuild) b clock folder old new nothing script rebuild load = rebuild refl
-task_output (Some (task.Generate l)) b clock folder old new nothing script rebuild load = load l refl
+task_output None b clock folder old new nothing script rebuild load resync = nothing refl
+task_output (Some task.Run) b clock folder old new nothing script rebuild load resync = script refl
+task_output (Some task.Rebuild) b clock folder old new nothing script rebuild load resync = rebuild refl
+task_output (Some (task.Generate l)) b clock folder old new nothing script rebuild load resync = load l refl
+task_output (Some (task.Resync client)) b clock folder old new nothing script rebuild load resync = resync client refl

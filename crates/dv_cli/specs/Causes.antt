@@ -1,30 +1,25 @@
 -- What each end and each status of a run comes from, and how often the clock is read.
 use Rattle.std.specs.Prelude.{◌≡◌, ◌⊎◌, ◌≤◌, ◌+◌, ◌*◌, ℕ, List, length, Option, Some, None, Result, Ok, Err, ⊤}
-use Rattle.dv_model.specs.declared.types.OpenFault.{OpenFault}
 use Rattle.dv_model.specs.declared.types.OpenFault.TheVariants as fault
 use Rattle.dv_model.specs.Counts.{Rose}
+use Rattle.dv_model.specs.Journals.{Log}
 use Rattle.dv_shelf.specs.Folders.{Folder, IsNew}
 use Rattle.dv_formats.specs.Parsing.{ScriptFault}
 use Rattle.dv_formats.specs.Scripts.{NamedLine}
 use Rattle.dv_script.specs.Sources.{ScriptFails}
 use Rattle.dv_openings.specs.Openings.{IsFound}
 use Rattle.dv_chain.specs.Openings.{FaultFound}
-use Rattle.dv_serial.specs.Serves.{TakesUpTo}
-use Rattle.dv_cli.specs.Endings.{IsFault}
+use Rattle.dv_serving.specs.Readings.{TakesUpTo}
+use Rattle.dv_beginning.specs.Causes.{HasFault, IsFault, TakesForOpening}
+use Rattle.dv_beginning.specs.Starts.{Starts}
 use Rattle.dv_cli.specs.Tasks.{Answers, Opens}
+use Rattle.dv_qresync.specs.declared.types.Old.{Old}
 use Rattle.dv_cli.specs.declared.words.Task.{Task}
 use Rattle.dv_cli.specs.declared.words.Task.TheVariants as task
 use Rattle.dv_cli.specs.declared.ending.End.{End}
 use Rattle.dv_cli.specs.declared.ending.End.TheVariants as end
 
 -- ---- the clock
-
--- once at most, and not at all where a fault is found
-abbrev pub TakesForOpening : (ℕ → ℕ) → (ℕ → ℕ) → {A : Type 0} → Result A OpenFault → Type 0
-TakesForOpening old new (Ok store) = TakesUpTo 1 old new
-TakesForOpening old new (Err (fault.Disk faults)) = TakesUpTo 1 old new
-TakesForOpening old new (Err fault.NoMemory) = TakesUpTo 1 old new
-TakesForOpening old new (Err found) = new ≡ old
 
 -- once for a mailbox that is made, and twice at most for each line
 abbrev pub most_readings : ℕ → ℕ
@@ -58,20 +53,6 @@ FolderCause shelf shelf_now out out_now e = ⊥
 pub record EndCause (shelf shelf_now out out_now : ℕ) (e : End) : Type 0 where
   pub later : (shelf ≤ shelf_now) × (out ≤ out_now)
   pub cause : FolderCause shelf shelf_now out out_now e
-
--- a fault is found in a folder that has a file of a mailbox
-pub record HasFault (folder : Folder) : Type 0 where
-  pub fault : OpenFault
-  pub is : IsFault fault
-  pub found : FaultFound fault (IsFound folder)
-  pub some : IsNew folder → ⊥
-
--- So opening a folder tells: the fault that is found, where it has a file of a mailbox; else it has
--- none.
-abbrev pub TellsOpening : {A : Type 0} → Folder → Result A OpenFault → Type 0
-TellsOpening folder (Ok x) = HasFault folder → ⊥
-TellsOpening folder (Err f) =
-    IsFault f → FaultFound f (IsFound folder) × (IsNew folder → ⊥)
 
 -- What the folder holds is told: a fault that is found, where it has a file of a mailbox; all lines
 -- are answered only where there is none.
@@ -154,6 +135,15 @@ TakesByEnd old new (end.Source faults) = new ≡ old
 TakesByEnd old new (end.Unopened f) = TakesForOpening old new {A = Unit {0}} (Err f)
 TakesByEnd old new e = ⊤
 
+-- So often a task read the clock before the last line: as its lines need, or a client, and by the
+-- end.
+pub record IsRead (t : Option Task) (told : Type 0) (read : Result (List NamedLine) ScriptFault)
+    (e : End) (old new : ℕ → ℕ) : Type 0 where
+  pub lines : (ls : List NamedLine) → Answers t told read ls
+      → TakesUpTo (most_readings (length ls)) old new
+  pub client : (c : Old) → t ≡ Some (task.Resync c) → TakesUpTo 1 old new
+  pub ends : TakesByEnd old new e
+
 -- ---- the statuses
 
 -- The clock isn't read where words or folder are refused, or the script is or can't be read; it is
@@ -165,11 +155,12 @@ pub record TakesByStatus (status : ℕ) (old new : ℕ → ℕ) : Type 0 where
   pub script : status ≡ 5 → new ≡ old
   pub source : status ≡ 6 → new ≡ old
 
--- So it is of a run of a task, which reads it at most so often as its lines need.
+-- So it is of a run of a task, which reads it at most so often as its lines need, or as a client.
 pub record IsTimed (t : Option Task) (told : Type 0) (read : Result (List NamedLine) ScriptFault)
     (status : ℕ) (old new : ℕ → ℕ) : Type 0 where
   pub lines : (ls : List NamedLine) → Answers t told read ls
       → TakesUpTo (most_readings (length ls)) old new
+  pub client : (c : Old) → t ≡ Some (task.Resync c) → TakesUpTo 1 old new
   pub statuses : TakesByStatus status old new
 
 -- one of them rose
@@ -193,3 +184,11 @@ pub record HasCauses (status : ℕ) (t : Option Task) (before now : Counts) (fin
 -- the status is this one, unless memory ran out or something outside failed
 abbrev pub IsOr : ℕ → ℕ → Counts → Counts → Type 0
 IsOr wanted status before now = (status ≡ wanted) ⊎ (status ≡ 4) ⊎ AnyRose before now
+
+-- The status says what the folder holds, unless memory ran out or something outside failed: a fault
+-- that is found, or a mailbox that is found or made.
+pub record IsByFolder (clock : ℕ → ℕ) (folder : Folder) (status : ℕ) (before now : Counts)
+    : Type 0 where
+  pub fault : HasFault folder → IsOr 3 status before now
+  pub served : (start : Log) (used : ℕ) → Starts clock folder start used
+      → IsOr 0 status before now

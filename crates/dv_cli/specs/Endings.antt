@@ -1,22 +1,11 @@
 -- How a run ends: its status and its last line.
 use Rattle.std.specs.Prelude.{◌≡◌, ◌⊎◌, ℕ, Bool, true, false, List, []}
-use Rattle.dv_model.specs.declared.types.OpenFault.{OpenFault}
-use Rattle.dv_model.specs.declared.types.OpenFault.TheVariants as fault
 use Rattle.dv_script.specs.declared.types.ScriptEnd.TheVariants as script
+use Rattle.dv_beginning.specs.Causes.{fault_status}
 use Rattle.dv_cli.specs.declared.ending.End.{End}
 use Rattle.dv_cli.specs.declared.ending.End.TheVariants as end
 use Rattle.dv_shelf.specs.Streams.{Appends, AppendsFront}
 use Rattle.dv_cli.specs.Running.{answered_text, rebuilt_text, usage_text, fault_text, memory_text, script_text, source_text}
-
--- the status by why the folder's mailbox isn't opened
-abbrev pub fault_status : OpenFault → ℕ
-fault_status (fault.Disk faults) = 2
-fault_status fault.NoMemory = 4
-fault_status other = 3
-
--- what the folder holds is why, neither memory nor a failure
-abbrev pub IsFault : OpenFault → Type 0
-IsFault f = fault_status f ≡ 3
 
 -- the exit status of a run that ends so
 abbrev pub status_of : End → ℕ

@@ -3,14 +3,13 @@ pub mod Words
 pub mod Readings
 pub mod Running
 pub mod Endings
-pub mod Starts
 pub mod Tasks
 pub mod Behind
-pub mod Begins
 pub mod Runs
 pub mod Causes
 pub mod Outputs
 pub mod Rebuilding
+pub mod Resyncing
 pub mod Wholes
 pub mod Told
 pub mod Obeying

@@ -13,15 +13,18 @@ use Rattle.dv_openings.specs.Openings.{IsFound}
 use Rattle.dv_playing.specs.Playing.{Attempt, Play, Served, begin, replies_to}
 use Rattle.dv_script.specs.declared.types.ScriptEnd.TheVariants as script
 use Rattle.dv_serial.specs.Places.{play_of}
-use Rattle.dv_serial.specs.Scripts.{numbered, replies_text}
+use Rattle.dv_serving.specs.Scripts.{numbered, replies_text}
 use Rattle.dv_openings.specs.Rebuilds.{IsRebuild, Rebuild}
+use Rattle.dv_qresync.specs.declared.types.Old.{Old}
+use Rattle.dv_qresync.specs.Answers.{resynced}
+use Rattle.dv_qresync.specs.Texts.{answers_text}
 use Rattle.dv_cli.specs.declared.words.Load.{Load}
 use Rattle.dv_cli.specs.declared.words.Task.{Task}
 use Rattle.dv_cli.specs.declared.words.Task.TheVariants as task
 use Rattle.dv_cli.specs.Behind.{loaded_by}
-use Rattle.dv_cli.specs.Endings.{IsFault}
+use Rattle.dv_beginning.specs.Causes.{IsFault}
 use Rattle.dv_cli.specs.Running.{answered_text, fault_text, rebuilt_text, script_text, usage_text}
-use Rattle.dv_cli.specs.Starts.{Starts}
+use Rattle.dv_beginning.specs.Starts.{Starts}
 use Rattle.dv_cli.specs.Tasks.{generated_by}
 
 -- a line that is served
@@ -75,6 +78,15 @@ pub record IsRebuiltOutput (clock : ℕ → ℕ) (folder : Folder) (text : List 
   pub is : IsRebuild folder (clock 0) does
   pub text_is : text ≡ rebuilt_text (length does.kept) does.skipped
 
+-- To a client with an older state it is what it hears of a mailbox that is found or made; else it
+-- is the fault of the folder.
+abbrev pub IsOutputTo : Old → (ℕ → ℕ) → Folder → List ℕ → Type 0
+IsOutputTo client clock folder text =
+    ((start : Log) (used : ℕ) → Starts clock folder start used
+    → text ≡ answers_text (resynced start.start client) ++ answered_text start.start_mark 0 None)
+    × ((f : OpenFault) → IsFault f → (IsNew folder → ⊥) → FaultFound f (IsFound folder)
+    → text ≡ fault_text f)
+
 -- by the task, or that there is none
 abbrev pub IsOutputOf : Option Task → List ℕ → (ℕ → ℕ) → Folder → List ℕ → Type 0
 IsOutputOf None b clock folder text = text ≡ usage_text
@@ -82,3 +94,5 @@ IsOutputOf (Some task.Run) b clock folder text = IsOutputBy (parsed b) clock fol
 IsOutputOf (Some task.Rebuild) b clock folder text = IsRebuiltOutput clock folder text
 IsOutputOf (Some (task.Generate load)) b clock folder text =
     IsOutputOver (Some load) (generated_by load) clock folder text
+IsOutputOf (Some (task.Resync client)) b clock folder text =
+    IsOutputTo client clock folder text

@@ -1,6 +1,5 @@
 -- What a whole run answers, writes and leaves. The records take what a shelf shows.
-use Rattle.std.specs.Prelude.{◌≡◌, ◌≢◌, ◌⊎◌, ◌+◌, ◌++◌, ℕ, List, [], ◌∷◌, drop, length, Option, ⊤}
-use Rattle.dv_model.specs.declared.types.OpenFault.{OpenFault}
+use Rattle.std.specs.Prelude.{◌≡◌, ◌≢◌, ◌+◌, ◌++◌, ℕ, List, [], ◌∷◌, drop, length, Option, ⊤}
 use Rattle.dv_model.specs.declared.types.Reply.{Reply}
 use Rattle.dv_model.specs.Journals.{Log}
 use Rattle.dv_model.specs.Transcripts as transcripts
@@ -9,32 +8,30 @@ use Rattle.dv_shelf.specs.declared.shelf.Name.{Name}
 use Rattle.dv_shelf.specs.declared.shelf.Name.TheVariants as name
 use Rattle.dv_shelf.specs.Causes.{Stayed}
 use Rattle.dv_shelf.specs.Clocks.{behind}
-use Rattle.dv_shelf.specs.Crashes.{LeavesOnly}
-use Rattle.dv_shelf.specs.Folders.{Folder, IsNew}
+use Rattle.dv_shelf.specs.Crashes.{IsSettled, LeavesOnly}
+use Rattle.dv_shelf.specs.Folders.{Folder}
 use Rattle.dv_shelf.specs.Streams.{Appends, AppendsFront}
 use Rattle.dv_formats.specs.Scripts.{NamedLine}
-use Rattle.dv_chain.specs.Creations.{IsOldOrCreated}
-use Rattle.dv_chain.specs.Openings.{FaultFound, IsQuiet}
-use Rattle.dv_openings.specs.Openings.{IsFound}
 use Rattle.dv_playing.specs.Laws.{MayPlay, RiseFrom, failures_of, lines_of}
 use Rattle.dv_playing.specs.Playing.{Attempt, begin, replies_to}
 use Rattle.dv_serial.specs.Following.{IsLeft}
-use Rattle.dv_serial.specs.NextRuns.{IsTrueFolder, LeavesTrue}
+use Rattle.dv_serving.specs.NextRuns.{LeavesTrue}
 use Rattle.dv_serial.specs.Others.{MayTouch}
-use Rattle.dv_serial.specs.Outputs.{Output}
-use Rattle.dv_serial.specs.Places.{GivesBehind, GivesPlay, MayGive, play_of}
+use Rattle.dv_serving.specs.Outputs.{Output}
+use Rattle.dv_serial.specs.Places.{GivesBehind, MayGive, play_of}
+use Rattle.dv_serving.specs.Places.{GivesPlay}
 use Rattle.dv_serial.specs.Runs.{IsTried}
-use Rattle.dv_serial.specs.Scripts.{numbered, replies_text}
+use Rattle.dv_serving.specs.Scripts.{numbered, replies_text}
 use Rattle.dv_interleavings.specs.Promises.{KeepsNumbers}
 use Rattle.dv_clients.specs.Clients.{KnowAlikeWhereTold, line_answers}
+use Rattle.dv_beginning.specs.Leaving.{LeavesUnopened, MayLeave}
 use Rattle.dv_cli.specs.declared.words.Load.{Load}
 use Rattle.dv_cli.specs.declared.ending.End.{End}
 use Rattle.dv_cli.specs.declared.ending.End.TheVariants as end
 use Rattle.dv_cli.specs.Behind.{loaded_by}
-use Rattle.dv_cli.specs.Endings.{IsFault}
 use Rattle.dv_cli.specs.Spans.{Times}
-use Rattle.dv_serial.specs.Faults.{Faults}
-use Rattle.dv_cli.specs.Starts.{Starts}
+use Rattle.dv_serving.specs.Faults.{Faults}
+use Rattle.dv_beginning.specs.Starts.{Starts}
 use Rattle.dv_shelf.specs.Sees.{SeesFolder}
 
 -- ---- lines that were answered
@@ -70,12 +67,6 @@ WritesLines end.Sink clock start answered left lines old new =
     × AppendsFront (old ++ replies_text lines (replies_to clock (begin start) answered)) new text
 WritesLines e clock start answered left lines old new =
     Appends old new (replies_text lines (replies_to clock (begin start) answered))
-
--- What a crash during a run may leave: the folder as it was, where it had no mailbox; or the log
--- behind some of the lines, or, where the disk failed the next one, that with its group.
-abbrev pub MayLeave : (ℕ → ℕ) → Log → List Attempt → Folder → Folder → Type 0
-MayLeave clock start attempts old c =
-    (IsNew old × (c ≡ old)) ⊎ MayGive clock start attempts c
 
 -- A crash at a moment until the mailbox was opened or made leaves the folder as it was, where it
 -- had none, or the log without an entry; and from then on the log behind some of the lines, or that
@@ -113,7 +104,8 @@ pub record NoneFailed {S : Type 0} (sees : SeesFolder S) (clock : ℕ → ℕ) (
 -- that with the group of the last write that the disk failed, behind which none was written; so
 -- does what a crash behind the run leaves, and a crash during it leaves a front of it. A file that
 -- none of these lines may change is as it was, but for the log, whose end the opening may close. A
--- next run may begin from what is left, and from what a crash leaves, behind the run or during it.
+-- next run may begin from what is left where the count didn't rise, since that is settled then; and
+-- from what a crash leaves, behind the run or during it.
 pub record ServesLines {S : Type 0} (sees : SeesFolder S) (times : Times) (faults : Faults)
     (load : Option Load) (lines : List NamedLine) (e : End) (out : Output) (old new : S)
     : Type 0 where
@@ -136,7 +128,7 @@ pub record ServesLines {S : Type 0} (sees : SeesFolder S) (times : Times) (fault
       → NoneFailed sees (behind times.clock used) start (answered ++ left) new
   pub output : out.told → WritesLines e (behind times.clock used) start answered left lines
       out.taken out.taken_now
-  pub readings : IsAnswered e → times.clock_now
+  pub readings : times.told → IsAnswered e → times.clock_now
       ≡ behind times.clock (used + (play_of (behind times.clock used) start answered).used)
   pub others : (n : Name) → n ≢ name.Log
       → (MayTouch (behind times.clock used) start (answered ++ left) n → ⊥)
@@ -148,24 +140,7 @@ pub record ServesLines {S : Type 0} (sees : SeesFolder S) (times : Times) (fault
       (MayLeave (behind times.clock used) start (answered ++ left) (sees.files old))
   pub opens : OpensFirst sees (behind times.clock used) start (answered ++ left) old new
   pub next : LeavesTrue sees old new
-
--- ---- a folder that isn't opened
-
--- What is left of a folder that isn't opened, or is while one is made: it opens to what it did, and
--- its files but the log are as they were; or, where it had no mailbox, that was made.
-abbrev pub IsUnopened : (ℕ → ℕ) → Folder → Folder → Type 0
-IsUnopened clock old c = IsQuiet old c ⊎ (IsNew old × IsOldOrCreated old (clock 0) c)
-
--- No line was answered: a fault was found in the folder, memory ran out, or the disk failed; and
--- what is left then, and what a crash leaves. Where this run might begin, so may a next one.
-pub record LeavesUnopened {S : Type 0} (sees : SeesFolder S) (clock : ℕ → ℕ) (f : OpenFault)
-    (old new : S) : Type 0 where
-  pub found : FaultFound f (IsFound (sees.files old))
-  pub some : IsFault f → IsNew (sees.files old) → ⊥
-  pub folder : IsUnopened clock (sees.files old) (sees.files new)
-  pub after : (c : Folder) → sees.may_leave new c → IsUnopened clock (sees.files old) c
-  pub crash : LeavesOnly sees old new (IsUnopened clock (sees.files old))
-  pub next : IsTrueFolder (sees.files old) → LeavesTrue sees old new
+  pub settled : Stayed faults.before faults.now → IsSettled sees new
 
 -- ---- both
 

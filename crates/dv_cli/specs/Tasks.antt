@@ -3,13 +3,13 @@ use Rattle.std.specs.Prelude.{◌≡◌, List, Option, Some, None, IsSome, Resul
 use Rattle.dv_formats.specs.Generators.{generated}
 use Rattle.dv_formats.specs.Parsing.{ScriptFault}
 use Rattle.dv_formats.specs.Scripts.{NamedLine}
-use Rattle.dv_serial.specs.Outputs.{Output}
+use Rattle.dv_serving.specs.Outputs.{Output}
 use Rattle.dv_cli.specs.declared.words.Load.{Load}
 use Rattle.dv_cli.specs.declared.words.Task.{Task}
 use Rattle.dv_cli.specs.declared.words.Task.TheVariants as task
 use Rattle.dv_cli.specs.declared.ending.End.{End}
 use Rattle.dv_cli.specs.declared.ending.End.TheVariants as end
-use Rattle.dv_cli.specs.Endings.{IsFault}
+use Rattle.dv_beginning.specs.Causes.{IsFault}
 
 -- the lines of a load
 abbrev pub generated_by : Load → List NamedLine
@@ -22,6 +22,14 @@ abbrev pub Answers : Option Task → Type 0 → Result (List NamedLine) ScriptFa
 Answers (Some task.Run) told read lines = told × (read ≡ Ok lines)
 Answers (Some (task.Generate load)) told read lines = lines ≡ generated_by load
 Answers other told read lines = ⊥
+
+-- The task comes to its folder: it needs no script, or has a good one, which the source has to
+-- tell.
+abbrev pub Reaches : Option Task → Type 0 → Result (List NamedLine) ScriptFault → Type 0
+Reaches (Some task.Run) told read = told × (lines : List NamedLine) × (read ≡ Ok lines)
+Reaches (Some (task.Generate load)) told read = ⊤
+Reaches (Some (task.Resync client)) told read = ⊤
+Reaches other told read = ⊥
 
 -- the load that a task generates
 abbrev pub load_in : Option Task → Option Load
@@ -42,14 +50,28 @@ RepliesTold other told = ⊥
 abbrev pub replies_of : Option Task → Output → Output
 replies_of t out = record out { told = RepliesTold t out.told }
 
--- a mailbox is opened or made where lines are answered
+-- lines are answered
+abbrev pub HasLines : Option Task → Type 0
+HasLines (Some task.Run) = ⊤
+HasLines (Some (task.Generate load)) = ⊤
+HasLines other = ⊥
+
+-- a mailbox is opened or made where lines are answered, or a client with an older state
 abbrev pub Opens : Option Task → Type 0
 Opens (Some task.Run) = ⊤
 Opens (Some (task.Generate load)) = ⊤
+Opens (Some (task.Resync client)) = ⊤
 Opens other = ⊥
 
+-- something is written before the last line: replies to a script, or what a client hears
+abbrev pub HasAnswers : Option Task → Type 0
+HasAnswers (Some task.Run) = ⊤
+HasAnswers (Some (task.Resync client)) = ⊤
+HasAnswers other = ⊥
+
 -- Each end is of its tasks: the words ask for nothing only where there is none, a rebuild finds no
--- fault in its folder, and only a script that is read may be refused or its replies not written.
+-- fault in its folder, only a script that is read may be refused, and only what is written before
+-- the last line may fail there.
 abbrev pub EndsBy : Option Task → End → Type 0
 EndsBy t (end.Answered mark groups loaded) = Opens t
 EndsBy t (end.Rebuilt kept skipped) = t ≡ Some task.Rebuild
@@ -58,4 +80,4 @@ EndsBy t (end.Unopened f) = IsSome t × (IsFault f → Opens t)
 EndsBy t end.NoMemory = IsSome t
 EndsBy t (end.Script fault) = t ≡ Some task.Run
 EndsBy t (end.Source faults) = t ≡ Some task.Run
-EndsBy t end.Sink = t ≡ Some task.Run
+EndsBy t end.Sink = HasAnswers t

@@ -3,7 +3,7 @@ use Rattle.std.specs.Prelude.{◌≡◌, ◌⊎◌, ℕ, List, Option, ⊤}
 use Rattle.dv_script.specs.declared.types.ScriptEnd.TheVariants as script
 use Rattle.dv_formats.specs.Parsing.{ScriptFault}
 use Rattle.dv_formats.specs.Scripts.{NamedLine}
-use Rattle.dv_serial.specs.Outputs.{Output}
+use Rattle.dv_serving.specs.Outputs.{Output}
 use Rattle.dv_cli.specs.declared.ending.End.{End}
 use Rattle.dv_cli.specs.declared.ending.End.TheVariants as end
 use Rattle.dv_cli.specs.Causes.{ComesFrom, Counts, EndsRefused}
@@ -11,7 +11,7 @@ use Rattle.dv_cli.specs.Endings.{Concludes, IsStatus}
 use Rattle.dv_cli.specs.Rebuilding.{RebuildsFolder}
 use Rattle.dv_cli.specs.Runs.{RunsOver}
 use Rattle.dv_cli.specs.Spans.{Times}
-use Rattle.dv_serial.specs.Faults.{Faults, faults_between}
+use Rattle.dv_serving.specs.Faults.{Faults, faults_between}
 use Rattle.dv_cli.specs.Tasks.{HasScript, load_in, replies_of}
 use Rattle.dv_cli.specs.declared.words.Task.{Task}
 use Rattle.dv_notices.specs.declared.telling.Told.{Told}

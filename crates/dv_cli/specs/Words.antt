@@ -2,6 +2,7 @@
 use Rattle.std.specs.Prelude.{◌≡◌, ◌⊎◌, ◌≤◌, ◌^◌, ⊤, ℕ, Bool, false, List, [], ◌∷◌, Option, Some, None, bytes_eq, codes, nat_le, option_map, if◌then◌else◌}
 use Rattle.dv_shelf.specs.Streams.{Appends, AppendsFront}
 use Rattle.dv_formats.specs.Parsing.{◌>>=◌, number_of}
+use Rattle.dv_catching.specs.Clients.{client_of}
 use Rattle.dv_disk.specs.declared.files.Missing.{Missing}
 use Rattle.dv_disk.specs.declared.files.Missing.TheVariants as missing
 use Rattle.dv_cli.specs.declared.words.Load.{Load}
@@ -44,16 +45,24 @@ abbrev pub IsTask : Task → Type 0
 IsTask task.Run = ⊤
 IsTask task.Rebuild = ⊤
 IsTask (task.Generate load) = IsLoad load
+IsTask (task.Resync client) = ⊤
 
--- the words behind the folder: `run`, `rebuild`, or `gen` with a load
+-- the words behind the folder: `run`, `rebuild`, `gen` with a load, or `resync` with what a client
+-- knows
 abbrev pub task_of : List (List ℕ) → Option Task
 task_of (word ∷ []) =
     if bytes_eq word (codes "run") then Some task.Run
     else (if bytes_eq word (codes "rebuild") then Some task.Rebuild else None)
-task_of (word ∷ seed ∷ count ∷ sessions ∷ []) =
-    if bytes_eq word (codes "gen") then option_map task.Generate (load_of seed count sessions)
-    else None
+task_of (word ∷ first ∷ second ∷ third ∷ []) =
+    if bytes_eq word (codes "gen") then option_map task.Generate (load_of first second third)
+    else (if bytes_eq word (codes "resync")
+    then option_map task.Resync (client_of first second third) else None)
 task_of words = None
+
+-- a client's state is among the words
+abbrev pub IsResync : Option Task → Type 0
+IsResync (Some (task.Resync client)) = ⊤
+IsResync other = ⊥
 
 -- a rebuild doesn't make a folder that is missing
 abbrev pub missing_for : Option Task → Missing

@@ -1,14 +1,15 @@
-//! A mailbox folder served to the sessions of a script, or rebuilt, as the program's words ask.
+//! A mailbox folder served to the sessions of a script or to a client that catches up, or rebuilt,
+//! as the program's words ask.
 #![tactic(auto)]
 
 mod ending;
 mod errors;
 mod loading;
-mod opening;
 mod program;
 mod reading;
 mod rebuilding;
 mod restarts;
+mod resyncing;
 mod running;
 #[cfg(test)]
 mod tests;
@@ -17,5 +18,5 @@ mod words;
 
 pub use errors::ErrorOutput;
 pub use program::{obey_read, words_given};
-pub use restarts::restarts_may_run;
+pub use restarts::{restarts_may_run, runs_may_follow};
 pub use top_call::{Ran, run};

@@ -2,12 +2,13 @@
 
 ghost use Rattle.std.specs.Prelude.{◌≡◌, [], Some, length};
 ghost use Rattle.dv_shelf.specs.Crashes.{IsSettled};
-ghost use Rattle.dv_serial.specs.NextRuns.{IsTrueFolder};
-ghost use Rattle.dv_serial.specs.Outputs.{output_with};
+ghost use Rattle.dv_serving.specs.NextRuns.{IsTrueFolder};
+ghost use Rattle.dv_serving.specs.Outputs.{output_with};
+ghost use Rattle.dv_serving.specs.Readings.{AtReadings};
 ghost use Rattle.dv_cli.specs.Causes.{EndCause, TakesForRun, TellsFaults};
 ghost use Rattle.dv_cli.specs.Runs.{RunsOver};
-ghost use Rattle.dv_cli.specs.Spans.{times_of};
-ghost use Rattle.dv_serial.specs.Faults.{faults_of};
+ghost use Rattle.dv_cli.specs.Spans.{times_from};
+ghost use Rattle.dv_serving.specs.Faults.{faults_of};
 ghost use Rattle.dv_cli.specs.Tasks.{EndsBy, generated_by};
 ghost use Rattle.dv_cli.specs.Words.{IsLoad};
 ghost use Rattle.dv_notices.specs.declared.telling.Told.TheVariants as telling;
@@ -16,7 +17,8 @@ ghost use Rattle.dv_cli.specs.declared.words.Task.TheVariants as task;
 use crate::running::{Outcome, run_folder};
 use crate::words::Load;
 use dv_gen::generated_lines;
-use dv_serial::{NullSink, generated_are_servable};
+use dv_serial::NullSink;
+use dv_serving::generated_are_servable;
 use dv_shelf::{Clock, Gate, Shelf};
 use std::alloc::Global;
 
@@ -30,10 +32,11 @@ pub fn run_load<S: Shelf, C: Clock, G: Gate>(
 ) -> Outcome<S, C>
     requires few { IsLoad load }
     // Of a settled folder with a true cache: what is answered and left, at any moment too.
-    ensures runs { S.sees.tells → C.sees.tells → IsSettled S.sees shelf →
-        IsTrueFolder (S.sees.files shelf) →
-        RunsOver S.sees (times_of C.sees clock result.clock) (faults_of S.sees shelf result.shelf)
-        (Some load) (generated_by load) result.end (output_with ⊥ [] []) shelf result.shelf }
+    ensures runs { S.sees.tells → IsSettled S.sees shelf → IsTrueFolder (S.sees.files shelf) →
+        AtReadings C.sees.tells (C.sees.upcoming clock) (λ readings.
+        RunsOver S.sees (times_from C.sees readings result.clock)
+        (faults_of S.sees shelf result.shelf) (Some load) (generated_by load) result.end
+        (output_with ⊥ [] []) shelf result.shelf) }
     // A fault that is found is told, and only where there is none all lines are answered.
     ensures found { S.sees.tells → TellsFaults (S.sees.files shelf) result.end }
     // Each end is of such a run and has its cause, and the clock is read so often.

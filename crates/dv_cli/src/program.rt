@@ -11,7 +11,6 @@ ghost use Rattle.dv_folder.specs.Ways.{folder_path};
 
 use crate::ending::{End, conclude, write_text};
 use crate::top_call::{Ran, run};
-use crate::words::{Task, task_of};
 use dv_folder::{Folder, Input, Layout, Missing, SystemClock};
 use dv_model::NoMemory;
 use dv_notices::{Told, told_text};
@@ -31,11 +30,13 @@ const VERSION: &[u8] = b"sdbox 0.1.0\n";
 const USAGE: &[u8] = b"usage: sdbox FOLDER run < SCRIPT
        sdbox FOLDER rebuild
        sdbox FOLDER gen SEED COUNT SESSIONS
+       sdbox FOLDER resync VALIDITY MODSEQ SET
 ";
 
 const HELP: &[u8] = b"usage: sdbox FOLDER run < SCRIPT
        sdbox FOLDER rebuild
        sdbox FOLDER gen SEED COUNT SESSIONS
+       sdbox FOLDER resync VALIDITY MODSEQ SET
 
 run keeps a mailbox in FOLDER and answers the commands of the script. Where FOLDER has no mailbox
 one is made. A line of the script is a session's name, of 1 to 16 small letters and digits, a space
@@ -65,9 +66,12 @@ no way back, so copy the folder first.
 gen answers COUNT generated commands, at most 1000000, of up to 64 SESSIONS, the same ones for each
 SEED, and prints no replies. It is for measuring: never use it on a folder with mail.
 
+resync tells what a client hears that knows an older state of FOLDER's mailbox: its UIDVALIDITY, its
+highest modification sequence, and the UIDs of its messages as a SET. It changes no message.
+
 The last line of the output says how the run ended, and the exit status says it too:
 
-  0  every command was answered, or the folder was rebuilt
+  0  every command was answered, or the client, or the folder was rebuilt
   1  the words are none of these
   2  the folder couldn't be opened, made, rebuilt or locked
   3  the folder's mailbox is damaged, or isn't of this program
@@ -117,28 +121,30 @@ fn asks(words: &[String], word: &str) -> bool
     }
 }
 
-/// What is done about a folder that is missing: a rebuild makes none.
-fn missing_for(task: Option<Task>) -> Missing
-    ensures { result ≡ missing_for task }
+/// What is done about a folder that is missing, by the words behind it: a rebuild makes none.
+fn missing_for(words: &[String]) -> Missing
+    ensures { result ≡ missing_for (task_of (map string_bytes words.now)) }
 {
-    match task {
-        Some(Task::Rebuild) => Missing::Refuse,
-        Some(Task::Run | Task::Generate(_)) | None => Missing::Make,
+    match words {
+        [word] if word.as_str() == "rebuild" => Missing::Refuse,
+        _ => Missing::Make,
     }
 }
 
-/// The mailbox folder that the first word names, which the task makes where it is missing, or not.
-fn folder_named(rt: HostRuntime, words: &[String], task: Option<Task>) -> Result<Folder, NoMemory>
+/// The mailbox folder that the first word names, which is made where it is missing, or not.
+fn folder_named(rt: HostRuntime, words: &[String]) -> Result<Folder, NoMemory>
     ensures path { IfOk result (λ shelf. path_of shelf
         ≡ folder_path Layout.Mailbox (folder_word (map string_bytes words.now))) }
     ensures layout { IfOk result (λ shelf. layout_of shelf ≡ Layout.Mailbox) }
-    ensures missing { IfOk result (λ shelf. missing_of shelf ≡ missing_for task) }
+    ensures missing { IfOk result (λ shelf. missing_of shelf
+        ≡ missing_for (task_of (run_words (map string_bytes words.now)))) }
 {
     let path = match words {
         [path, ..] => path.as_str(),
         [] => "",
     };
-    Folder::new(rt.alloc(), rt, path, Layout::Mailbox, missing_for(task))
+    let missing = missing_for(words_behind(words));
+    Folder::new(rt.alloc(), rt, path, Layout::Mailbox, missing)
 }
 
 /// The words behind the folder's.
@@ -238,7 +244,7 @@ fn obey<O: Sink, E: Sink>(rt: HostRuntime, out: &mut O, errors: &mut E, words: &
         return write_text(out, VERSION, 0);
     }
     let behind = words_behind(words);
-    match folder_named(rt, words, task_of(behind)) {
+    match folder_named(rt, words) {
         Ok(shelf) => serve(rt, out, errors, shelf, behind),
         Err(_) => conclude(rt.alloc(), out, &End::NoMemory),
     }

@@ -44,7 +44,7 @@ fn rebuilt_told(rebuilt: Result<Rebuilt, RebuildFault>) -> Told
 
 /// Rebuilds the folder.
 pub fn run_rebuild<S: Shelf, C: Clock>(alloc: Global, mut shelf: S, mut clock: C) -> Outcome<S, C>
-    ensures rebuilds { S.sees.tells → C.sees.tells → IsSettled S.sees shelf →
+    ensures rebuilds { S.sees.tells → IsSettled S.sees shelf →
         RebuildsFolder S.sees (times_of C.sees clock result.clock) result.end result.told shelf
         result.shelf }
     // Each end is of a rebuild and has its cause, and the clock is read once.

@@ -5,19 +5,20 @@ ghost use Rattle.dv_cli.specs.declared.ending.End.TheVariants as how;
 ghost use Rattle.dv_notices.specs.declared.telling.Told.TheVariants as telling;
 ghost use Rattle.dv_shelf.specs.Crashes.{IsSettled};
 ghost use Rattle.dv_formats.specs.Scripts.{NamedLine, sessions_of};
-ghost use Rattle.dv_serial.specs.NextRuns.{IsTrueFolder};
-ghost use Rattle.dv_serial.specs.Outputs.{output_of};
-ghost use Rattle.dv_serial.specs.Serves.{IsServable, TakesUpTo};
-ghost use Rattle.dv_cli.specs.Begins.{IsBegun};
+ghost use Rattle.dv_serving.specs.NextRuns.{IsTrueFolder};
+ghost use Rattle.dv_serving.specs.Outputs.{output_of};
+ghost use Rattle.dv_serving.specs.Readings.{AreReadings, AtReadings, TakesUpTo};
+ghost use Rattle.dv_serving.specs.Servable.{IsServable};
+ghost use Rattle.dv_beginning.specs.Begins.{IsBegun};
 ghost use Rattle.dv_cli.specs.Behind.{end_behind, loaded_by};
 ghost use Rattle.dv_cli.specs.Causes.{EndCause, EndsServing, TakesForRun, TellsFaults};
 ghost use Rattle.dv_cli.specs.Runs.{RunsOver, ServesLines};
-ghost use Rattle.dv_cli.specs.Spans.{times_of};
-ghost use Rattle.dv_serial.specs.Faults.{faults_of};
+ghost use Rattle.dv_cli.specs.Spans.{times_from};
+ghost use Rattle.dv_serving.specs.Faults.{faults_of};
 
 use crate::ending::{End, Loaded};
-use crate::opening::open_folder;
 use crate::words::Load;
+use dv_beginning::open_folder;
 use dv_model::Mark;
 use dv_notices::Told;
 use dv_script::Lines;
@@ -109,12 +110,13 @@ fn serve_lines<S: Shelf, C: Clock, L: Lines, O: Sink, G: Gate>(
     requires few { length (L.left lines.old) ≤ 2 ^ 26 }
     requires sessions { sessions ≡ length (sessions_of (L.left lines.old)) }
     // Where the store is one from which a run begins: what is answered, written and left.
-    ensures runs { S.sees.tells → C.sees.tells → (clock : ℕ → ℕ) (old : S) →
+    ensures runs { S.sees.tells → (clock : ℕ → ℕ) (old : S) → AreReadings clock →
         IsBegun S.sees C.sees clock old store →
         (base : ℕ) → base ≤ S.sees.fault_count store.shelf →
-        ServesLines S.sees (record { clock = clock; clock_now = C.sees.upcoming result.clock })
+        AtReadings C.sees.tells clock (λ readings.
+        ServesLines S.sees (times_from C.sees readings result.clock)
         (record { before = base; now = S.sees.fault_count result.shelf }) load (L.left lines.old)
-        result.end (output_of O.sees out.old out.new) old result.shelf }
+        result.end (output_of O.sees out.old out.new) old result.shelf) }
     ensures ends { EndsServing result.end × (result.told ≡ telling.Nothing) }
     ensures cause { EndCause (S.sees.fault_count store.shelf) (S.sees.fault_count result.shelf)
         (O.sees.fault_count out.old) (O.sees.fault_count out.new) result.end }
@@ -153,10 +155,11 @@ pub fn run_folder<S: Shelf, C: Clock, L: Lines, O: Sink, G: Gate>(
     requires few { length (L.left lines.old) ≤ 2 ^ 26 }
     requires sessions { sessions ≡ length (sessions_of (L.left lines.old)) }
     // Of a settled folder with a true cache: what is answered, written and left, at any moment too.
-    ensures runs { S.sees.tells → C.sees.tells → IsSettled S.sees shelf →
-        IsTrueFolder (S.sees.files shelf) →
-        RunsOver S.sees (times_of C.sees clock result.clock) (faults_of S.sees shelf result.shelf)
-        load (L.left lines.old) result.end (output_of O.sees out.old out.new) shelf result.shelf }
+    ensures runs { S.sees.tells → IsSettled S.sees shelf → IsTrueFolder (S.sees.files shelf) →
+        AtReadings C.sees.tells (C.sees.upcoming clock) (λ readings.
+        RunsOver S.sees (times_from C.sees readings result.clock)
+        (faults_of S.sees shelf result.shelf) load (L.left lines.old) result.end
+        (output_of O.sees out.old out.new) shelf result.shelf) }
     // A fault that is found is told, and only where there is none all lines are answered; nothing
     // is told beside it.
     ensures found { S.sees.tells → TellsFaults (S.sees.files shelf) result.end }

@@ -1,24 +1,25 @@
 //! The whole run.
 
 ghost use Rattle.std.specs.Prelude.{◌≡◌, ◌≢◌, ◌⊎◌, ◌≤◌, ℕ, Err, IfErr, IfOk, List, None, Ok, Result, Some, length, map, string_bytes, take};
-ghost use Rattle.dv_model.specs.Journals.{Log};
 ghost use Rattle.dv_shelf.specs.Crashes.{IsSettled};
 ghost use Rattle.dv_shelf.specs.Streams.{Appends};
 ghost use Rattle.dv_formats.specs.Parsing.{ScriptFault, parsed};
 ghost use Rattle.dv_formats.specs.Scripts.{NamedLine};
-ghost use Rattle.dv_serial.specs.NextRuns.{IsTrueFolder};
-ghost use Rattle.dv_serial.specs.Outputs.{output_of};
-ghost use Rattle.dv_serial.specs.Serves.{TakesUpTo};
-ghost use Rattle.dv_cli.specs.Causes.{AnyRose, EndsRefused, HasCauses, HasFault, HasRunCause, IsOr, IsReadEnd, IsTimed, IsUntouched, ScriptEnds, TakesByEnd, TellsFaults, TellsScript, counts_of, most_readings};
+ghost use Rattle.dv_serving.specs.NextRuns.{IsTrueFolder};
+ghost use Rattle.dv_serving.specs.Outputs.{output_of};
+ghost use Rattle.dv_serving.specs.Readings.{AtReadings, TakesUpTo};
+ghost use Rattle.dv_cli.specs.Causes.{AnyRose, EndsRefused, HasCauses, HasRunCause, IsByFolder, IsRead, IsReadEnd, IsTimed, IsUntouched, ScriptEnds, TakesByEnd, TellsFaults, TellsScript, counts_of, most_readings};
+ghost use Rattle.dv_beginning.specs.Causes.{HasFault};
 ghost use Rattle.dv_cli.specs.Outputs.{IsOutputOf};
 ghost use Rattle.dv_cli.specs.Readings.{TakesFront, read_limit};
 ghost use Rattle.dv_cli.specs.Rebuilding.{RebuildsFolder};
+ghost use Rattle.dv_cli.specs.Resyncing.{IsClientRun, RunsClient};
+ghost use Rattle.dv_qresync.specs.declared.types.Old.{Old};
 ghost use Rattle.dv_cli.specs.Running.{usage_text};
 ghost use Rattle.dv_cli.specs.Runs.{RunsOver};
-ghost use Rattle.dv_cli.specs.Spans.{times_of};
-ghost use Rattle.dv_serial.specs.Faults.{faults_of};
-ghost use Rattle.dv_cli.specs.Starts.{Starts};
-ghost use Rattle.dv_cli.specs.Tasks.{Answers, EndsBy, HasScript};
+ghost use Rattle.dv_cli.specs.Spans.{times_from, times_of};
+ghost use Rattle.dv_serving.specs.Faults.{faults_of};
+ghost use Rattle.dv_cli.specs.Tasks.{Answers, EndsBy, HasScript, Reaches};
 ghost use Rattle.dv_cli.specs.Told.{IsToldAt, IsToldBy, TellsEnd, TellsFault};
 ghost use Rattle.dv_cli.specs.Wholes.{IsRebuildRun, IsRefused, IsRun, IsUnread, RunsTask};
 ghost use Rattle.dv_cli.specs.Words.{Prints, task_of};
@@ -29,12 +30,13 @@ use crate::ending::{End, conclude};
 use crate::loading::run_load;
 use crate::reading::{ReadEnd, read_script};
 use crate::rebuilding::run_rebuild;
+use crate::resyncing::run_resync;
 use crate::running::{Outcome, run_folder, untouched};
 use crate::words::{Task, task_of};
 use dv_model::Bytes;
 use dv_notices::{Told, told_line};
 use dv_script::{Script, ScriptEnd, open_script};
-use dv_serial::commands_are_servable;
+use dv_serving::commands_are_servable;
 use dv_shelf::{Clock, Gate, Shelf, Sink, Source};
 use std::alloc::Global;
 
@@ -92,12 +94,14 @@ fn run_script<S: Shelf, I: Source, O: Sink, C: Clock, G: Gate>(
     gate: &G,
 ) -> Outcome<S, C>
     // The lines of a good script are answered, unless it couldn't be read.
-    ensures runs { S.sees.tells → C.sees.tells → I.sees.tells → IsSettled S.sees shelf →
+    ensures runs { S.sees.tells → I.sees.tells → IsSettled S.sees shelf →
         IsTrueFolder (S.sees.files shelf) → (lines : List NamedLine) →
         parsed (I.sees.left script.old) ≡ Ok lines →
+        AtReadings C.sees.tells (C.sees.upcoming clock) (λ readings.
         IsUnread result.end (O.sees.taken out.old) (O.sees.taken out.new) shelf result.shelf
-        ⊎ RunsOver S.sees (times_of C.sees clock result.clock) (faults_of S.sees shelf result.shelf)
-        None lines result.end (output_of O.sees out.old out.new) shelf result.shelf }
+        ⊎ RunsOver S.sees (times_from C.sees readings result.clock)
+        (faults_of S.sees shelf result.shelf) None lines result.end
+        (output_of O.sees out.old out.new) shelf result.shelf) }
     // One that is refused leaves everything but its source untouched.
     ensures refused { I.sees.tells → (fault : ScriptFault) →
         parsed (I.sees.left script.old) ≡ Err fault →
@@ -153,18 +157,26 @@ fn perform<S: Shelf, I: Source, O: Sink, C: Clock, G: Gate>(
     clock: C,
     gate: &G,
 ) -> Outcome<S, C>
-    // The lines of a script, or generated ones, are answered; a folder is rebuilt.
-    ensures runs { S.sees.tells → C.sees.tells → IsSettled S.sees shelf →
+    // The lines of a script, or generated ones, are answered; a folder is rebuilt; a client with an
+    // older state is answered.
+    ensures runs { S.sees.tells → IsSettled S.sees shelf →
         IsTrueFolder (S.sees.files shelf) → (lines : List NamedLine) →
         Answers (task_of (map string_bytes words.now)) I.sees.tells
         (parsed (I.sees.left script.old)) lines →
-        RunsTask S.sees (times_of C.sees clock result.clock) (faults_of S.sees shelf result.shelf)
-        (task_of (map string_bytes words.now)) lines result.end (output_of O.sees out.old out.new)
-        shelf result.shelf }
+        AtReadings C.sees.tells (C.sees.upcoming clock) (λ readings.
+        RunsTask S.sees (times_from C.sees readings result.clock)
+        (faults_of S.sees shelf result.shelf) (task_of (map string_bytes words.now)) lines
+        result.end (output_of O.sees out.old out.new) shelf result.shelf) }
     ensures rebuilds { task_of (map string_bytes words.now) ≡ Some task.Rebuild → S.sees.tells →
-        C.sees.tells → IsSettled S.sees shelf → (out.new ≡ out.old)
+        IsSettled S.sees shelf → (out.new ≡ out.old)
         × RebuildsFolder S.sees (times_of C.sees clock result.clock) result.end result.told shelf
         result.shelf }
+    ensures resyncs { (client : Old) →
+        task_of (map string_bytes words.now) ≡ Some (task.Resync client) → S.sees.tells →
+        IsSettled S.sees shelf → IsTrueFolder (S.sees.files shelf) →
+        AtReadings C.sees.tells (C.sees.upcoming clock) (λ readings.
+        RunsClient S.sees (times_from C.sees readings result.clock) client result.end
+        (output_of O.sees out.old out.new) shelf result.shelf) }
     // What is left untouched where they ask for nothing, or the script is refused.
     ensures usage { task_of (map string_bytes words.now) ≡ None → (out.new ≡ out.old)
         × (result.end ≡ how.Usage)
@@ -188,28 +200,29 @@ fn perform<S: Shelf, I: Source, O: Sink, C: Clock, G: Gate>(
     // What is taken of the script, and how often the clock is read.
     ensures bound { (I.sees.tells → TakesFront (I.sees.left script.old) (I.sees.left script.new))
         × ((HasScript (task_of (map string_bytes words.now)) → ⊥) → script.new ≡ script.old) }
-    ensures readings { C.sees.tells → (lines : List NamedLine) →
-        Answers (task_of (map string_bytes words.now)) I.sees.tells
-        (parsed (I.sees.left script.old)) lines →
-        TakesUpTo (most_readings (length lines)) (C.sees.upcoming clock)
+    ensures readings { C.sees.tells → IsRead (task_of (map string_bytes words.now)) I.sees.tells
+        (parsed (I.sees.left script.old)) result.end (C.sees.upcoming clock)
         (C.sees.upcoming result.clock) }
-    ensures unread { C.sees.tells →
-        TakesByEnd (C.sees.upcoming clock) (C.sees.upcoming result.clock) result.end }
 {
-    let Some(task) = task_of(words) else {
+    let Ok(task) = task_of(alloc, words) else {
+        return untouched(shelf, clock, End::NoMemory, Told::Nothing);
+    };
+    let Some(task) = task else {
         return untouched(shelf, clock, End::Usage, Told::Nothing);
     };
     match task {
         Task::Run => run_script(alloc, shelf, script, out, clock, gate),
         Task::Rebuild => run_rebuild(alloc, shelf, clock),
         Task::Generate(load) => run_load(alloc, load, shelf, clock, gate),
+        Task::Resync(client) => run_resync(alloc, &client, shelf, clock, out),
     }
 }
 
 /// Does what the program's words behind the folder's name ask for, and writes a last line. `run`
 /// serves a mailbox folder to the sessions of a script: it opens its mailbox, or makes one, answers
 /// each line, and writes the replies. `gen` does so with a generated script, and writes no reply.
-/// `rebuild` gives a damaged folder a new log.
+/// `rebuild` gives a damaged folder a new log. `resync` tells what a client with an older state of
+/// the mailbox hears.
 pub fn run<S: Shelf + Send, I: Source, O: Sink, C: Clock + Send, G: Gate + Sync>(
     alloc: Global,
     words: &[String],
@@ -224,27 +237,44 @@ pub fn run<S: Shelf + Send, I: Source, O: Sink, C: Clock + Send, G: Gate + Sync>
     // and that the written groups go on, line by line. The bytes written are these replies, but to
     // generated lines, and the last lines. What is left gives that log with its messages and a true
     // cache, behind all these groups, or with the group of the last write that the disk failed; and
-    // so does a crash at any moment, behind a front of them.
-    ensures runs { S.sees.tells → C.sees.tells → IsSettled S.sees shelf →
+    // so does a crash at any moment, behind a front of them. All this is so at readings, which are
+    // the clock's where it tells them.
+    ensures runs { S.sees.tells → IsSettled S.sees shelf →
         IsTrueFolder (S.sees.files shelf) → (lines : List NamedLine) →
         Answers (task_of (map string_bytes words.now)) I.sees.tells
         (parsed (I.sees.left script.old)) lines →
-        IsRun S.sees (times_of C.sees clock result.clock)
+        AtReadings C.sees.tells (C.sees.upcoming clock) (λ readings.
+        IsRun S.sees (times_from C.sees readings result.clock)
         (counts_of (S.sees.fault_count shelf) (I.sees.fault_count script.old)
         (O.sees.fault_count out.old))
         (counts_of (S.sees.fault_count result.shelf) (I.sees.fault_count script.new)
         (O.sees.fault_count out.new))
         (task_of (map string_bytes words.now)) lines result.status
-        (output_of O.sees out.old out.new) shelf result.shelf }
-    // A settled folder is rebuilt, or left as it was; so does a crash at any moment.
+        (output_of O.sees out.old out.new) shelf result.shelf) }
+    // A settled folder is rebuilt at a reading, the clock's where it tells, or left as it was; so
+    // does a crash at any moment.
     ensures rebuilds { task_of (map string_bytes words.now) ≡ Some task.Rebuild → S.sees.tells →
-        C.sees.tells → IsSettled S.sees shelf →
+        IsSettled S.sees shelf →
         IsRebuildRun S.sees (times_of C.sees clock result.clock)
         (counts_of (S.sees.fault_count shelf) (I.sees.fault_count script.old)
         (O.sees.fault_count out.old))
         (counts_of (S.sees.fault_count result.shelf) (I.sees.fault_count script.new)
         (O.sees.fault_count out.new))
         result.status result.told (output_of O.sees out.old out.new) shelf result.shelf }
+
+    // A client with an older state is answered from the mailbox that was found, or made, and
+    // nothing else is written. The folder is left as opening leaves it, by a crash at any moment
+    // too.
+    ensures resyncs { (client : Old) →
+        task_of (map string_bytes words.now) ≡ Some (task.Resync client) → S.sees.tells →
+        IsSettled S.sees shelf → IsTrueFolder (S.sees.files shelf) →
+        AtReadings C.sees.tells (C.sees.upcoming clock) (λ readings.
+        IsClientRun S.sees (times_from C.sees readings result.clock)
+        (counts_of (S.sees.fault_count shelf) (I.sees.fault_count script.old)
+        (O.sees.fault_count out.old))
+        (counts_of (S.sees.fault_count result.shelf) (I.sees.fault_count script.new)
+        (O.sees.fault_count out.new))
+        client result.status (output_of O.sees out.old out.new) shelf result.shelf) }
 
     // Words that ask for nothing leave everything untouched, and a script that is refused leaves
     // folder and clock so; what is written then. Of such a script its first bad line is told.
@@ -273,19 +303,9 @@ pub fn run<S: Shelf + Send, I: Source, O: Sink, C: Clock + Send, G: Gate + Sync>
         (O.sees.fault_count out.new))
         (S.sees.tells → HasFault (S.sees.files shelf))
         (I.sees.tells → (fault : ScriptFault) × (parsed (I.sees.left script.old) ≡ Err fault)) }
-    ensures fault { S.sees.tells → (lines : List NamedLine) →
-        Answers (task_of (map string_bytes words.now)) I.sees.tells
-        (parsed (I.sees.left script.old)) lines →
-        HasFault (S.sees.files shelf) → IsOr 3 result.status
-        (counts_of (S.sees.fault_count shelf) (I.sees.fault_count script.old)
-        (O.sees.fault_count out.old))
-        (counts_of (S.sees.fault_count result.shelf) (I.sees.fault_count script.new)
-        (O.sees.fault_count out.new)) }
-    ensures complete { S.sees.tells → (lines : List NamedLine) →
-        Answers (task_of (map string_bytes words.now)) I.sees.tells
-        (parsed (I.sees.left script.old)) lines →
-        (start : Log) (used : ℕ) → Starts (C.sees.upcoming clock) (S.sees.files shelf) start used →
-        IsOr 0 result.status
+    ensures complete { S.sees.tells → Reaches (task_of (map string_bytes words.now)) I.sees.tells
+        (parsed (I.sees.left script.old)) →
+        IsByFolder (C.sees.upcoming clock) (S.sees.files shelf) result.status
         (counts_of (S.sees.fault_count shelf) (I.sees.fault_count script.old)
         (O.sees.fault_count out.old))
         (counts_of (S.sees.fault_count result.shelf) (I.sees.fault_count script.new)

@@ -1,10 +1,14 @@
 //! What the program's words behind the folder's ask for.
 
-ghost use Rattle.std.specs.Prelude.{◌≡◌, ◌+◌, ◌^◌, ◌<◌, ◌≤◌, IfSome, map, string_bytes};
+ghost use Rattle.std.specs.Prelude.{◌≡◌, ◌+◌, ◌^◌, ◌<◌, ◌≤◌, ◌∷◌, [], IfErr, IfOk, IfSome, map, string_bytes};
 ghost use Rattle.dv_formats.specs.Parsing.{number_of};
-ghost use Rattle.dv_cli.specs.Words.{IsLoad, IsTask, load_of, task_of};
+ghost use Rattle.dv_cli.specs.Words.{IsLoad, IsResync, IsTask, load_of, task_of};
 
+use dv_catching::client_of;
 use dv_commands::read_decimal;
+use dv_model::NoMemory;
+use dv_qresync::Old;
+use std::alloc::Global;
 
 /// The most commands that are generated, not counting a SELECT of each session.
 const MOST_COMMANDS: u32 = 1_000_000;
@@ -21,7 +25,7 @@ pub struct Load {
 }
 
 /// What the words behind the folder's ask for.
-#[derive(Clone, Copy, PartialEq, Eq, Debug)]
+#[derive(Drop)]
 pub enum Task {
     /// The script is answered over the folder.
     Run,
@@ -29,6 +33,8 @@ pub enum Task {
     Rebuild,
     /// A generated script is answered over the folder, and no reply is written.
     Generate(Load),
+    /// A client with an older state hears of the folder's mailbox.
+    Resync(Old),
 }
 
 /// A number of 64 bits is one.
@@ -81,18 +87,52 @@ fn load_of(seed: &[u8], count: &[u8], sessions: &[u8]) -> Option<Load>
     })
 }
 
-/// What the words behind the folder's ask for, or nothing.
-pub fn task_of(words: &[String]) -> Option<Task>
-    ensures is { result ≡ task_of (map string_bytes words.now) }
-    ensures some { IfSome result IsTask }
+/// What a word and three behind it ask for, or nothing.
+fn task_with(
+    alloc: Global,
+    word: &str,
+    first: &[u8],
+    second: &[u8],
+    third: &[u8],
+) -> Result<Option<Task>, NoMemory>
+    ensures is { IfOk result (λ task.
+        task ≡ task_of (word.now ∷ first.now ∷ second.now ∷ third.now ∷ [])) }
+    ensures some { IfOk result (λ task. IfSome task IsTask) }
+    ensures lacking { IfErr result (λ e.
+        IsResync (task_of (word.now ∷ first.now ∷ second.now ∷ third.now ∷ []))) }
+{
+    if word == "gen" {
+        return match load_of(first, second, third) {
+            Some(load) => Ok(Some(Task::Generate(load))),
+            None => Ok(None),
+        };
+    }
+    if word != "resync" {
+        return Ok(None);
+    }
+    match client_of(alloc, first, second, third)? {
+        Some(client) => Ok(Some(Task::Resync(client))),
+        None => Ok(None),
+    }
+}
+
+/// What the words behind the folder's ask for, or nothing. Memory lacks only where a client's state
+/// is among them.
+pub fn task_of(alloc: Global, words: &[String]) -> Result<Option<Task>, NoMemory>
+    ensures is { IfOk result (λ task. task ≡ task_of (map string_bytes words.now)) }
+    ensures some { IfOk result (λ task. IfSome task IsTask) }
+    ensures lacking { IfErr result (λ e. IsResync (task_of (map string_bytes words.now))) }
 {
     match words {
-        [word] if word.as_str() == "run" => Some(Task::Run),
-        [word] if word.as_str() == "rebuild" => Some(Task::Rebuild),
-        [word, seed, count, sessions] if word.as_str() == "gen" => {
-            let load = load_of(seed.as_bytes(), count.as_bytes(), sessions.as_bytes())?;
-            Some(Task::Generate(load))
-        }
-        _ => None,
+        [word] if word.as_str() == "run" => Ok(Some(Task::Run)),
+        [word] if word.as_str() == "rebuild" => Ok(Some(Task::Rebuild)),
+        [word, first, second, third] => task_with(
+            alloc,
+            word.as_str(),
+            first.as_bytes(),
+            second.as_bytes(),
+            third.as_bytes(),
+        ),
+        _ => Ok(None),
     }
 }

@@ -11,3 +11,4 @@ pub mod MailRows
 pub mod RunRows
 pub mod PlayRows
 pub mod ReplyRows
+pub mod ResyncRows

@@ -13,7 +13,7 @@ use Rattle.dv_examples.proofs.Played.{NamedLine, after_lines, created, groups_te
 
 -- ---- commands of two sessions
 
-abbrev a : Command → NamedLine
+abbrev pub a : Command → NamedLine
 a c = served (codes "a") 1 c
 
 abbrev b : Command → NamedLine
@@ -22,7 +22,7 @@ b c = served (codes "b") 2 c
 abbrev span : End → End → List Span
 span from to = record { from = from; to = to } ∷ []
 
-abbrev numbers : ℕ → ℕ → List Span
+abbrev pub numbers : ℕ → ℕ → List Span
 numbers from to = span (Number from) (Number to)
 
 abbrev append : ℕ → List ℕ → Command
@@ -52,7 +52,7 @@ first_append = refl
 abbrev store_seen : NamedLine
 store_seen = a (store 1 1 how.Add 8)
 
-abbrev one_seen : List NamedLine
+abbrev pub one_seen : List NamedLine
 one_seen = a command.Select ∷ hello ∷ store_seen ∷ []
 
 -- a session hears its own write
@@ -101,7 +101,7 @@ abbrev repeated : ℕ → NamedLine → List NamedLine
 repeated n line = replicate n line
 
 -- nine messages, the last five of which are expunged
-abbrev nine : List NamedLine
+abbrev pub nine : List NamedLine
 nine = a command.Select ∷ repeated 9 hello ++ a (store 5 9 how.Add 4) ∷ []
 
 expunged_five : said_by nine (a command.Expunge ∷ [])

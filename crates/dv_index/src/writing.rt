@@ -1,6 +1,6 @@
-ghost use Rattle.std.specs.Prelude.{◌≡◌, ◌↔◌, ◌+◌, ◌++◌, ◌^◌, ◌<◌, ◌≤◌, [], List, IfOk, IsTrue, length};
+ghost use Rattle.std.specs.Prelude.{◌≡◌, ◌↔◌, ◌+◌, ◌*◌, ◌++◌, ◌^◌, ◌<◌, ◌≤◌, [], List, IfOk, IsTrue, length, min};
 ghost use Rattle.dv_model.specs.Mailboxes.{IsValid};
-ghost use Rattle.dv_formats.specs.Snapshots.{Fits, IsSnapshot, header_text, tables_text};
+ghost use Rattle.dv_formats.specs.Snapshots.{Fits, IsSnapshot, header_text, row_size, tables_text};
 ghost use Rattle.dv_index.specs.Fronts.{HasCounts, with_rows};
 
 use crate::header::{row_size, write_header};
@@ -23,6 +23,7 @@ fn room_for(m: &Mailbox, counts: Tally, tables: usize) -> usize
     requires valid { IsValid (with_rows [] m.now) }
     requires tables { tables ≡ length (tables_text m.now) }
     requires room { 120 + tables < 2 ^ 32 }
+    ensures { result ≡ min (counts.rows * row_size 2 m.now + tables + 120) usize.MAX }
 {
     let rows = (counts.rows as usize).saturating_mul(row_size(m) as usize);
     rows.saturating_add(tables).saturating_add(120)

@@ -1,6 +1,7 @@
 -- What a command takes of the messages that it reads, one after another.
-use Rattle.std.specs.Prelude.{ℕ, List, [], ◌∷◌, Option, Some, None, Bool, filter, flat_map, map}
+use Rattle.std.specs.Prelude.{ℕ, ◌+◌, length, List, [], ◌∷◌, Option, Some, None, Bool, filter, flat_map, map}
 use Rattle.dv_model.specs.declared.types.Item.{Item}
+use Rattle.dv_model.specs.declared.types.Item.TheVariants.{Field}
 use Rattle.dv_model.specs.declared.types.Key.{Key}
 use Rattle.dv_model.specs.declared.types.Mailbox.{Mailbox}
 use Rattle.dv_model.specs.declared.types.Reply.{Reply}
@@ -46,3 +47,8 @@ numbers_found folder m key view by_uid rows =
 -- the UIDs of rows
 abbrev pub uids_of : List (ℕ × Shown) → List ℕ
 uids_of rows = map (λ row. row.1.uid) rows
+
+-- about what an item takes of its line, but for what messages have
+abbrev pub item_room : Item → ℕ
+item_room (Field name) = length name + 24
+item_room item = 24

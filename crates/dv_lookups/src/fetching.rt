@@ -1,20 +1,20 @@
 //! The lines of a FETCH that reads messages.
 
-ghost use Rattle.std.specs.Prelude.{◌≡◌, ◌++◌, ℕ, All, Err, IfOk, List as Listed, OnOk, Option, count_by, false, true};
+ghost use Rattle.std.specs.Prelude.{◌≡◌, ◌++◌, ℕ, All, IfOk, OnErr, OnOk, Option, count_by, false, min, sum_by, true};
 ghost use Rattle.dv_model.specs.declared.types.Command.TheVariants as command;
-ghost use Rattle.dv_model.specs.declared.types.Reply.{Reply};
 ghost use Rattle.dv_model.specs.Journals.{Mail as Message};
 ghost use Rattle.dv_model.specs.Sessions.{data_of, has_uid, reads_mail};
 ghost use Rattle.dv_shelf.specs.Causes.{HasCauseOf};
 ghost use Rattle.dv_chain.specs.Openings.{OnlyLooks};
 ghost use Rattle.dv_openings.specs.TrueCaches.{HasTrueCache};
+ghost use Rattle.dv_view.specs.Taken.{HasTaken};
 ghost use Rattle.dv_responses.specs.Asked.{fetch_asks};
 ghost use Rattle.dv_responses.specs.Damaged.{damaged_uids};
 ghost use Rattle.dv_responses.specs.Rows.{IsNumber, rows_at};
 ghost use Rattle.dv_lookups.specs.Commands.{SparesEach, uids_read};
 ghost use Rattle.dv_lookups.specs.Founds.{AreMessages, facts_found, mail_of};
 ghost use Rattle.dv_lookups.specs.Kept.{CountsUpTo, Economy, IsFileOf, IsSpared, Spares, can_stand, is_read};
-ghost use Rattle.dv_lookups.specs.Reads.{damaged_in, damaged_of, line_of, lines_of, uids_of};
+ghost use Rattle.dv_lookups.specs.Reads.{damaged_in, damaged_of, item_room, line_of, lines_of, uids_of};
 
 use crate::cache_file::CacheFile;
 use crate::found::FactsFound;
@@ -30,20 +30,27 @@ use std::alloc::Global;
 // About what stands around the value of an item.
 const AROUND: usize = 24;
 
-// Makes room for so many lines with these items, but for what messages have. Memory and time alone
-// go by it.
-fn make_room<R: Responses>(items: &List<Item>, count: usize, lines: &mut R) -> Result<(), NoMemory>
-    ensures { lines.new ≡ lines.old }
+// About how many bytes a line with these items has, but for what messages have. Memory and time
+// alone go by it.
+fn line_room(items: &[Item]) -> usize
+    ensures { result ≡ min (sum_by item_room items.now) usize.MAX }
 {
     let mut room: usize = 0;
-    for item in items.as_slice() {
+    for item in items {
         let name = match item {
             Item::Field(name) => name.len(),
             _ => 0,
         };
-        room = room.saturating_add(AROUND).saturating_add(name);
+        room = room.saturating_add(AROUND.saturating_add(name));
     }
-    lines.expect(count, count.saturating_mul(room))
+    room
+}
+
+// Makes room for so many lines with these items.
+fn make_room<R: Responses>(items: &List<Item>, count: usize, lines: &mut R) -> Result<(), NoMemory>
+    ensures { lines.new ≡ lines.old }
+{
+    lines.expect(count, count.saturating_mul(line_room(items.as_slice())))
 }
 
 // Adds the line of a row, where its message is there, and its UID, where that is damaged.
@@ -64,6 +71,7 @@ fn take_row<R: Responses>(
     ensures damaged { (mail : Option Message) →
         found ≡ facts_found (fetch_asks items.now) s.now.uid mail →
         OnOk result (damaged.new ≡ damaged.old ++ damaged_in s.now.uid mail) }
+    ensures err { OnErr result (lines.new ≡ lines.old) }
 {
     match found {
         FactsFound::Known(facts) => lines.take_fetch(alloc, live, number, s, items, &facts),
@@ -99,7 +107,7 @@ impl CacheFile {
             HasTrueCache (S.sees.files shelf.old) chain.now.indexid chain.now.live.mailbox →
             OnOk result (damaged.new ≡ damaged.old ++ damaged_in s.now.uid
             (mail_of (S.sees.files shelf.old) chain.now.live.mailbox s.now.uid)) }
-        ensures failed { result ≡ Err ShelfFault.Failed → lines.new ≡ lines.old }
+        ensures err { OnErr result (lines.new ≡ lines.old) }
         ensures file { S.sees.tells → IsFileOf (S.sees.files shelf.old) self.old →
             IsFileOf (S.sees.files shelf.old) self.new }
         // Nothing is changed, and the shelf is called no more than is due.
@@ -139,10 +147,10 @@ impl CacheFile {
             chain.now.live.mailbox items.now (rows_at rows.now numbers.now))) ×
             IfOk result (λ damaged. damaged ≡ damaged_of (S.sees.files shelf.old)
             chain.now.live.mailbox (uids_of (rows_at rows.now numbers.now))) }
-        ensures failed { S.sees.tells → IsFileOf (S.sees.files shelf.old) self.old →
+        // What was taken before is kept.
+        ensures replies { S.sees.tells → IsFileOf (S.sees.files shelf.old) self.old →
             HasTrueCache (S.sees.files shelf.old) chain.now.indexid chain.now.live.mailbox →
-            result ≡ Err ShelfFault.Failed →
-            (told : Listed Reply) × (lines.new ≡ R.with lines.old told) }
+            OnErr result (HasTaken R.with lines.old lines.new) }
         ensures file { S.sees.tells → IsFileOf (S.sees.files shelf.old) self.old →
             IsFileOf (S.sees.files shelf.old) self.new }
         ensures again { is_read self.old ≡ true → self.new ≡ self.old }
@@ -202,10 +210,10 @@ impl CacheFile {
             (command.Fetch by_uid set.now items.now) view.now chain.now.live.mailbox)) ×
             IfOk result (λ damaged. damaged ≡ damaged_uids mail
             (command.Fetch by_uid set.now items.now) view.now chain.now.live.mailbox) }
-        ensures failed { S.sees.tells → IsFileOf (S.sees.files shelf.old) self.old →
+        // What was taken before is kept.
+        ensures replies { S.sees.tells → IsFileOf (S.sees.files shelf.old) self.old →
             HasTrueCache (S.sees.files shelf.old) chain.now.indexid chain.now.live.mailbox →
-            result ≡ Err ShelfFault.Failed →
-            (told : Listed Reply) × (lines.new ≡ R.with lines.old told) }
+            OnErr result (HasTaken R.with lines.old lines.new) }
         ensures file { S.sees.tells → IsFileOf (S.sees.files shelf.old) self.old →
             IsFileOf (S.sees.files shelf.old) self.new }
         ensures again { is_read self.old ≡ true → self.new ≡ self.old }

@@ -1,12 +1,12 @@
 //! The data lines of a command that reads messages, one message after another.
 
-ghost use Rattle.std.specs.Prelude.{◌≡◌, ℕ, Err, IfOk, List as Listed, OnOk, count_by, true};
-ghost use Rattle.dv_model.specs.declared.types.Reply.{Reply};
+ghost use Rattle.std.specs.Prelude.{◌≡◌, ℕ, IfOk, OnErr, OnOk, count_by, true};
 ghost use Rattle.dv_model.specs.Journals.{Mail as Message};
 ghost use Rattle.dv_model.specs.Sessions.{data_of, has_uid, reads_mail};
 ghost use Rattle.dv_shelf.specs.Causes.{HasCauseOf};
 ghost use Rattle.dv_chain.specs.Openings.{OnlyLooks};
 ghost use Rattle.dv_openings.specs.TrueCaches.{HasTrueCache};
+ghost use Rattle.dv_view.specs.Taken.{HasTaken};
 ghost use Rattle.dv_responses.specs.Damaged.{damaged_uids};
 ghost use Rattle.dv_responses.specs.Depth.{IsShallow};
 ghost use Rattle.dv_lookups.specs.Commands.{CanStand, CannotStand, SparesEach, uids_read};
@@ -27,7 +27,7 @@ impl CacheFile {
     /// `facts`, and adds the data lines of its answer (RFC 3501, sections 6.4.4 and 6.4.5). The
     /// answer has the UIDs of those whose files are missing or damaged. The facts of one message
     /// are held at a time, and each message file is read once at most. After an error what was read
-    /// of the cache file stays.
+    /// of the cache file stays, and some of the lines may have been added.
     pub fn read_for<S: Shelf, R: Responses>(
         &mut self,
         alloc: Global,
@@ -49,11 +49,10 @@ impl CacheFile {
             (data_of mail c.now view.now chain.now.live.mailbox)) ×
             IfOk result (λ damaged. damaged
             ≡ damaged_uids mail c.now view.now chain.now.live.mailbox) }
-        // What was taken before the disk failed is some replies more.
-        ensures failed { S.sees.tells → IsFileOf (S.sees.files shelf.old) self.old →
+        // What was taken before is kept, also where memory or the disk failed.
+        ensures replies { S.sees.tells → IsFileOf (S.sees.files shelf.old) self.old →
             HasTrueCache (S.sees.files shelf.old) chain.now.indexid chain.now.live.mailbox →
-            result ≡ Err ShelfFault.Failed →
-            (told : Listed Reply) × (lines.new ≡ R.with lines.old told) }
+            OnErr result (HasTaken R.with lines.old lines.new) }
         // The cache file is as it was read, and isn't read again, or without need.
         ensures file { S.sees.tells → IsFileOf (S.sees.files shelf.old) self.old →
             IsFileOf (S.sees.files shelf.old) self.new }

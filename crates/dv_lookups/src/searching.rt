@@ -1,9 +1,8 @@
 //! The line of a SEARCH that reads messages.
 
-ghost use Rattle.std.specs.Prelude.{◌≡◌, ◌++◌, ◌∷◌, [], ◌^◌, ◌<◌, ◌≤◌, ℕ, Err, IfOk, List as Listed, OnOk, Option, cond, count_by, false, length, true};
+ghost use Rattle.std.specs.Prelude.{◌≡◌, ◌++◌, ◌∷◌, [], ◌^◌, ◌<◌, ◌≤◌, ℕ, IfOk, OnErr, OnOk, Option, cond, count_by, false, length, true};
 ghost use Rattle.dv_model.specs.declared.types.Command.TheVariants as command;
 ghost use Rattle.dv_model.specs.declared.types.Key.{Key as Searched};
-ghost use Rattle.dv_model.specs.declared.types.Reply.{Reply as Said};
 ghost use Rattle.dv_model.specs.Journals.{Mail as Message};
 ghost use Rattle.dv_model.specs.Sessions.{candidate, data_of, has_uid, number_of, reads_mail};
 ghost use Rattle.dv_model.specs.Sets.{numbered};
@@ -263,8 +262,8 @@ impl CacheFile {
             (command.Search by_uid key.now) view.now chain.now.live.mailbox)) ×
             IfOk result (λ damaged. damaged ≡ damaged_uids mail
             (command.Search by_uid key.now) view.now chain.now.live.mailbox) }
-        ensures failed { result ≡ Err ShelfFault.Failed →
-            (told : Listed Said) × (lines.new ≡ R.with lines.old told) }
+        // What was taken before is all there is.
+        ensures err { OnErr result (lines.new ≡ lines.old) }
         ensures file { S.sees.tells → IsFileOf (S.sees.files shelf.old) self.old →
             IsFileOf (S.sees.files shelf.old) self.new }
         ensures again { is_read self.old ≡ true → self.new ≡ self.old }

@@ -13,6 +13,7 @@ pub trait Keeping {
     ghost use Rattle.std.specs.Prelude.{ℕ};
     ghost use Rattle.atomic_table.specs.Seated.{TableId};
     ghost use Rattle.dv_model.specs.Journals.{Log};
+    ghost use Rattle.dv_shelf.specs.Folders.{Folder};
 
     /// The roll that names the tables of all generations.
     ghost roll: { TableId };
@@ -20,8 +21,11 @@ pub trait Keeping {
     /// The log when the run began, with the messages and GUIDs of its mailbox.
     ghost start: { Log };
 
-    /// The shelf's moment before the folder was opened.
+    /// The shelf's moment when the run began.
     ghost moment: { ℕ };
+
+    /// What a crash since an earlier moment might have left by then.
+    ghost past: { ℕ → Folder → Type 0 };
 
     /// The shelf's count of failures then.
     ghost count: { ℕ };
@@ -40,6 +44,8 @@ impl Keeping for Brand {
     ghost start = { no_log };
 
     ghost moment = { 0 };
+
+    ghost past = { λ moment folder. Unit {0} };
 
     ghost count = { 0 };
 

@@ -26,11 +26,11 @@ use Rattle.dv_notes.proofs.Notes.{behind, fronts_apply, fronts_are_good}
 
 -- ---- messages
 
-mail_append : (mail : ℕ → Mail) (xs ys : List Note) → mail_by mail (xs ++ ys) ≡ mail_by (mail_by mail xs) ys
+pub mail_append : (mail : ℕ → Mail) (xs ys : List Note) → mail_by mail (xs ++ ys) ≡ mail_by (mail_by mail xs) ys
 mail_append mail [] ys = refl
 mail_append mail (x ∷ xs) ys = mail_append (posted x.post mail) xs ys
 
-guid_append : (guid : ℕ → List ℕ) (xs ys : List Note) → guid_by guid (xs ++ ys) ≡ guid_by (guid_by guid xs) ys
+pub guid_append : (guid : ℕ → List ℕ) (xs ys : List Note) → guid_by guid (xs ++ ys) ≡ guid_by (guid_by guid xs) ys
 guid_append guid [] ys = refl
 guid_append guid (x ∷ xs) ys = guid_append (named x.post guid) xs ys
 

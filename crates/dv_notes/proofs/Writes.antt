@@ -25,13 +25,13 @@ use Rattle.dv_notes.proofs.Logs.{fresh_entries, logs_are_sound, mailbox_at_end}
 use Rattle.dv_notes.proofs.Notes.{notes_go_on}
 
 -- its message is that of the UID that the mailbox gives out next
-is_placed : (log : Log) (c : Command) (received : ℕ) (view : View) (m after : Mailbox) (guid : ℕ → List ℕ) → applied m (group_of c view m guid).records ≡ Some after
+pub is_placed : (log : Log) (c : Command) (received : ℕ) (view : View) (m after : Mailbox) (guid : ℕ → List ℕ) → applied m (group_of c view m guid).records ≡ Some after
     → IsPlaced m.next_uid after.next_uid (post_of log c received m)
 is_placed log (command.Append flags keywords message) received view m after guid is =
     (omega arith, append_raises flags keywords message view m after guid is, new_guid_is log.indexid m.uid_validity m.next_uid received)
 is_placed log c received view m after guid is = tt
 
-mark_at_end : (start : Log) (notes : List Note) → start.entries ≡ [] → start.rotates ≡ true → mark_of (log_of start notes) (length (log_of start notes).entries) ≡ mark_from start.start_mark (entries_of notes)
+pub mark_at_end : (start : Log) (notes : List Note) → start.entries ≡ [] → start.rotates ≡ true → mark_of (log_of start notes) (length (log_of start notes).entries) ≡ mark_from start.start_mark (entries_of notes)
 mark_at_end start notes fresh rotates =
     mark_all (log_of start notes)
     ∙ ap (λ (es : List Entry). fold (λ mark e. mark_behind start.rotates mark e.group) start.start_mark es) (fresh_entries start notes fresh)

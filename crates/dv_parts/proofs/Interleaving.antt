@@ -11,7 +11,7 @@ use Rattle.std.proofs.lemmas.Option.{get_or_from_slice_get, slice_get-get_or, sl
 use Rattle.dv_model.specs.declared.types.Command.{Command}
 use Rattle.dv_model.specs.Transcripts.{Line, commands_of}
 use Rattle.dv_formats.specs.Scripts.{NamedLine, sessions_of}
-use Rattle.dv_serial.specs.Scripts.{numbered, numbered_by}
+use Rattle.dv_serving.specs.Scripts.{numbered, numbered_by}
 use Rattle.dv_parts.specs.declared.parts.Part.{Part}
 use Rattle.dv_parts.specs.Interleaving.{Interleaves, LinesAreNumbered, OneParting, PartsAddUp, PartsInterleave, commands_by_part}
 use Rattle.dv_parts.proofs.Naming.{AreKnown, lines_known, number_within}

@@ -6,7 +6,7 @@ use Rattle.std.specs.Str.{bytes_eq}
 use Rattle.std.proofs.lemmas.Bool.Decides.{nat_tests}
 use Rattle.std.proofs.lemmas.Slice.Eq.{bytes_eq-Decides}
 use Rattle.dv_formats.specs.Scripts.{NamedLine, and_session, sessions_of}
-use Rattle.dv_serial.specs.Scripts.{number_among}
+use Rattle.dv_serving.specs.Scripts.{number_among}
 
 -- ---- equal bytes
 

@@ -14,7 +14,7 @@ use Rattle.dv_model.specs.Transcripts.{Line, commands_of}
 use Rattle.dv_formats.specs.Scripts.{NamedLine, and_session, sessions_of}
 use Rattle.dv_script.specs.declared.types.Line.{Line as ScriptLine}
 use Rattle.dv_script.specs.Sources.{IsNext}
-use Rattle.dv_serial.specs.Scripts.{number_among, numbered_by}
+use Rattle.dv_serving.specs.Scripts.{number_among, numbered_by}
 use Rattle.dv_parts.specs.declared.parts.Part.{Part}
 use Rattle.dv_parts.specs.Parts.{AreGiven, AreParts, commands_in, commands_named}
 use Rattle.dv_parts.proofs.Naming.{AreApart, Lacks, equal_bytes, lacks_at, number_test, same_bytes, sessions_apart, turned}

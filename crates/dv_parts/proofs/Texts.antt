@@ -6,7 +6,7 @@ use Rattle.std.proofs.lemmas.List.Elements.{All-cons, All-head, All-tail}
 use Rattle.dv_model.specs.declared.types.Reply.{Reply}
 use Rattle.dv_model.specs.Texts.{line_text}
 use Rattle.dv_formats.specs.Scripts.{NamedLine, sessions_of}
-use Rattle.dv_serial.specs.Scripts.{replies_text}
+use Rattle.dv_serving.specs.Scripts.{replies_text}
 use Rattle.dv_parts.specs.Texts.{OneSessionIsSerial, SessionIsSerial, TranscriptsGoOn, transcript_text, transcripts_text}
 use Rattle.dv_parts.proofs.Naming.{AreKnown, equal_bytes, lines_known}
 

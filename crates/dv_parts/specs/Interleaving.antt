@@ -4,7 +4,7 @@ use Rattle.std.specs.List.{sum_by}
 use Rattle.dv_model.specs.declared.types.Command.{Command}
 use Rattle.dv_model.specs.Transcripts.{Line, commands_of}
 use Rattle.dv_formats.specs.Scripts.{NamedLine, sessions_of}
-use Rattle.dv_serial.specs.Scripts.{numbered}
+use Rattle.dv_serving.specs.Scripts.{numbered}
 use Rattle.dv_parts.specs.declared.parts.Part.{Part}
 use Rattle.dv_parts.specs.Parts.{AreParts}
 

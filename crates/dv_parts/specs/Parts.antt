@@ -3,7 +3,7 @@ use Rattle.std.specs.Prelude.{◌≡◌, ℕ, ◌+◌, ◌<◌, List, [], ◌∷
 use Rattle.dv_model.specs.declared.types.Command.{Command}
 use Rattle.dv_model.specs.Transcripts.{commands_of}
 use Rattle.dv_formats.specs.Scripts.{NamedLine, sessions_of}
-use Rattle.dv_serial.specs.Scripts.{numbered}
+use Rattle.dv_serving.specs.Scripts.{numbered}
 use Rattle.dv_parts.specs.declared.parts.Part.{Part}
 
 -- one part for each session, in the order of first lines, each with the commands of its session's

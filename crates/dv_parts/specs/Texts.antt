@@ -3,7 +3,7 @@ use Rattle.std.specs.Prelude.{◌≡◌, ℕ, ◌≤◌, List, [], ◌∷◌, �
 use Rattle.dv_model.specs.declared.types.Reply.{Reply}
 use Rattle.dv_model.specs.Texts.{line_text}
 use Rattle.dv_formats.specs.Scripts.{NamedLine, sessions_of}
-use Rattle.dv_serial.specs.Scripts.{replies_text}
+use Rattle.dv_serving.specs.Scripts.{replies_text}
 
 -- the text that answers a session's commands, one after another
 abbrev pub transcript_text : List ℕ → List (List Reply) → List ℕ

@@ -14,9 +14,14 @@ use Rattle.dv_rebuild.specs.declared.fault.RebuildFault.{RebuildFault}
 use Rattle.dv_rebuild.specs.declared.fault.RebuildFault.TheVariants as fault
 use Rattle.dv_rebuild.specs.declared.planning.NewLog.{NewLog}
 use Rattle.dv_rebuild.specs.declared.rebuilding.Rebuilt.{Rebuilt}
-use Rattle.dv_rebuild.specs.Rebuilding.{IsOldOrPut, IsOldOrRebuilt, IsPrepared, IsRebuilt, LeavesPut, LeavesRebuilt, Rebuilds}
+use Rattle.dv_rebuild.specs.Rebuilding.{IsOldOrPut, IsOldOrRebuilt, IsPrepared, IsRebuilt, LeavesPut, LeavesRebuilt, Rebuilds, UnlessDisk}
 use Rattle.dv_rebuild.proofs.Opens.{rebuilt_opens}
 use Rattle.dv_shelf.specs.Sees.{SeesFolder}
+
+-- the fault alone says whether the disk failed
+pub unless_so : (A B P : Type 0) (e : RebuildFault) → UnlessDisk {A = A} (Err e) P → UnlessDisk {A = B} (Err e) P
+unless_so A B P fault.NoMemory is = is
+unless_so A B P (fault.Disk faults) is = tt
 
 module _ (old : Folder) (now : ℕ) (log : NewLog) (rebuilt : Rebuilt) (is : IsPrepared old now (log, rebuilt)) (clock : now < 2 ^ 32) where
   abbrev pub put_rebuilds : (new : Folder) → new ≡ with_file old name.Log (Some log.text) → IsRebuilt old now new

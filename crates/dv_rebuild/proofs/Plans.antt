@@ -1,19 +1,22 @@
 -- The new log, made ready.
-use Rattle.std.proofs.Common.{◌≡◌, inl, inr, ℕ, zero, suc, ◌+◌, ◌<◌, ◌≤◌, true, false, Bool, List, [], ◌∷◌, ◌++◌, length, take, drop, nat_eq, Option, Some, None, refl, sym, ◌∙◌, ap, subst, arith}
-use Rattle.std.specs.Prelude.{if◌then◌else◌, is_some, option_map, IfOk, IfSome, IsNone, Result, Ok, Err}
+use Rattle.std.proofs.Common.{append_assoc, length-append, ◌≡◌, inl, inr, ℕ, zero, suc, ◌+◌, ◌<◌, ◌≤◌, true, false, Bool, List, [], ◌∷◌, ◌++◌, length, take, drop, nat_eq, Option, Some, None, refl, sym, ◌∙◌, ap, subst, arith}
+use Rattle.std.specs.Prelude.{flat_map, if◌then◌else◌, is_some, nat_le, option_map, IfOk, IfSome, IsNone, Result, Ok, Err}
 use Rattle.std.specs.List.{list_any}
-use Rattle.std.proofs.lemmas.Bool.{le-leb}
+use Rattle.std.proofs.lemmas.Bool.{le-leb, leb-false, leb-true, lt-leb}
 use Rattle.std.proofs.lemmas.List.{drop_all}
+use Rattle.std.proofs.lemmas.Option.{same_Some}
 use Rattle.dv_model.specs.declared.types.OpenFault.{OpenFault}
 use Rattle.dv_model.specs.declared.types.OpenFault.TheVariants as fault
+use Rattle.dv_model.specs.declared.types.Record.{Record}
 use Rattle.dv_model.specs.Sessions.{next_number}
+use Rattle.dv_model.specs.Spelling.{written}
 use Rattle.dv_shelf.specs.Folders.{Folder}
 use Rattle.dv_logfile.specs.declared.header.LogHeader.{LogHeader}
-use Rattle.dv_logfile.specs.Layout.{IsHeader, closing, last_end, log_end}
+use Rattle.dv_logfile.specs.Layout.{IsHeader, closing, header_text, last_end, log_end, log_text, longest_log}
 use Rattle.dv_logfile.specs.Scans.{BadHeader, BadSpot, Good, GoodLog, IsFaulty, IsGood, IsScanned, Missing, Scanned, Spot}
 use Rattle.dv_logfile.proofs.OneScan.{scans_one}
 use Rattle.dv_openings.specs.Openings.{IsIndex, Snapshot, joining, joins}
-use Rattle.dv_openings.specs.Rebuilds.{IsHeaderIn, IsRebuild, Rebuild, new_indexid, raised_while, stamp_of}
+use Rattle.dv_openings.specs.Rebuilds.{IsHeaderIn, IsRebuild, Rebuild, new_indexid, raised_while, records_of, stamp_of}
 use Rattle.dv_openings.specs.Salvages.{IsFront, IsLogFront, Salvaged, rebuilt_records, salvaged_in}
 use Rattle.dv_chain.specs.declared.file.File.{File}
 use Rattle.dv_chain.specs.Files.{HasHeader, IsFileOf, ReadsFile, good_file}
@@ -29,9 +32,10 @@ use Rattle.dv_rebuild.specs.declared.sourcing.Taken.{Taken}
 use Rattle.dv_rebuild.specs.declared.sourcing.Which.{Which}
 use Rattle.dv_rebuild.specs.declared.rebuilding.Rebuilt.{Rebuilt}
 use Rattle.dv_rebuild.specs.Mails.{AreNumbersOf, IsSifted, is_cache}
-use Rattle.dv_rebuild.specs.Plans.{AreUsed, IsPlan, Salvages, there_in}
+use Rattle.dv_rebuild.specs.Plans as plans
+use Rattle.dv_rebuild.specs.Plans.{AreUsed, IsPlan, Salvages, text_in_time, there_in}
 use Rattle.dv_rebuild.specs.Reading.{AreTexts, IsCut, IsFrontOf, IsGoodOf, IsWholeIn}
-use Rattle.dv_rebuild.specs.Rebuilding.{IsPrepared}
+use Rattle.dv_rebuild.specs.Rebuilding.{IsPrepared, IsTooLong}
 use Rattle.dv_rebuild.specs.Reports as reports
 use Rattle.dv_rebuild.specs.Sources.{read_in, sources_in, sources_of, taken_in}
 use Rattle.dv_rebuild.proofs.Sorted.{cache_listed, mail_numbers}
@@ -183,7 +187,75 @@ raised_stop used i n less is =
 pub raised_end : (used : List ℕ) (i n : ℕ) → length used ≤ i → raised_while used (drop i used) n ≡ n
 raised_end used i n past = ap (λ (l : List ℕ). raised_while used l n) (drop_all i used past)
 
+-- ---- the text
+
+text_end : (h : LogHeader) (rs : List Record) → length (log_text h rs) ≡ log_end rs + 4
+text_end h rs =
+    let records = flat_map written rs in
+    let text-is : log_text h rs ≡ header_text h ++ (records ++ closing) = append_assoc (header_text h) records closing in
+    omega (arith, ap length text-is, length-append (header_text h) (records ++ closing), length-append records closing)
+
+module _ (h : LogHeader) (rs : List Record) where
+  by_end : (b : Bool) → nat_le (log_end rs) last_end ≡ b → text_in_time h rs ≡ (if b then Some (log_text h rs) else None)
+  by_end b is = ap (λ (b : Bool). if b then Some (log_text h rs) else None) is
+
+  pub in_time : (text : List ℕ) → text ≡ log_text h rs → length text ≤ longest_log → Some text ≡ text_in_time h rs
+  in_time text is short =
+      let fits : log_end rs ≤ last_end = omega (arith, ap length is, text_end h rs, short) in
+      ap (λ (t : List ℕ). Some t) is ∙ sym (by_end true (le-leb (log_end rs) last_end fits))
+
+  pub too_late : (text : List ℕ) → text ≡ log_text h rs → longest_log < length text → None ≡ text_in_time h rs
+  too_late text is long =
+      let late : last_end < log_end rs = omega (arith, ap length is, text_end h rs, long) in
+      sym (by_end false (lt-leb (log_end rs) last_end late))
+
+  pub ends_in_time : (text : List ℕ) → Some text ≡ text_in_time h rs → (text ≡ log_text h rs) × (log_end rs ≤ last_end)
+  ends_in_time text is = by_test (nat_le (log_end rs) last_end) refl
+    where
+      by_test : (b : Bool) → nat_le (log_end rs) last_end ≡ b → (text ≡ log_text h rs) × (log_end rs ≤ last_end)
+      by_test true fits = (same_Some text (log_text h rs) (is ∙ by_end true fits), leb-true (log_end rs) last_end fits)
+      by_test false late = let none : Some text ≡ None = is ∙ by_end false late in absurd cc
+
+  pub ends_late : None ≡ text_in_time h rs → last_end < log_end rs
+  ends_late is = by_test (nat_le (log_end rs) last_end) refl
+    where
+      by_test : (b : Bool) → nat_le (log_end rs) last_end ≡ b → last_end < log_end rs
+      by_test true fits = let some : None ≡ Some (log_text h rs) = is ∙ by_end true fits in absurd cc
+      by_test false late = leb-false (log_end rs) last_end late
+
 -- ---- all of it
+
+-- what a rebuild does that salvages this and keeps these messages
+abbrev does_of : ℕ → Salvaged → Sifted → ℕ → Rebuild
+does_of now salvaged sifted indexid = record {
+  salvaged = salvaged;
+  kept = sifted.kept;
+  skipped = sifted.skipped;
+  indexid = indexid;
+  stamp = stamp_of now;
+}
+
+abbrev rebuild_is : (folder : Folder) (now : ℕ) (texts : Texts) (numbers : List ℕ) (sifted : Sifted) (salvaged : Salvaged) (used : List ℕ) (sources : Sources) (indexid : ℕ) → AreTexts folder texts → AreNumbersOf texts.names numbers → IsSifted folder numbers sifted
+    → Salvages texts salvaged used sources → indexid ≡ new_indexid used now → IsRebuild folder now (does_of now salvaged sifted indexid)
+rebuild_is folder now texts numbers sifted salvaged used sources indexid read are sifts s named = record {
+  salvages = record {
+    log = s.log;
+    rotated = s.rotated;
+    index = s.index;
+    log_file = subst (λ (x : Option (List ℕ)). IsLogFront x s.log) read.log s.log_file;
+    rotated_file = subst (λ (x : Option (List ℕ)). IsScanned x s.rotated) read.rotated s.rotated_file;
+    index_file = subst (λ (x : Option (List ℕ)). IsIndex x s.index) read.index s.index_file;
+    is = s.is;
+  };
+  rotated = s.used_are.header;
+  rotated_header = subst (λ (x : Option (List ℕ)). IsHeaderIn x s.used_are.header) read.rotated s.used_are.there;
+  numbers = numbers;
+  mails = mail_numbers folder texts.names numbers read.names are;
+  keeps = sifts.kept;
+  skips = sifts.skipped;
+  named = named ∙ ap (λ (used : List ℕ). new_indexid used now) s.used_are.are;
+  made = refl;
+}
 
 pub prepared : (folder : Folder) (now : ℕ) (texts : Texts) (numbers : List ℕ) (sifted : Sifted) (log : NewLog) (rebuilt : Rebuilt) → AreTexts folder texts → AreNumbersOf texts.names numbers → IsSifted folder numbers sifted → IsPlan texts sifted.kept now log
     → rebuilt.kept ≡ length sifted.kept → rebuilt.skipped ≡ sifted.skipped → rebuilt.indexid ≡ log.indexid → rebuilt.report.remains ≡ log.remains → rebuilt.report.skips ≡ sifted.skips → rebuilt.report.has_cache ≡ list_any is_cache texts.names
@@ -192,26 +264,8 @@ prepared folder now texts numbers sifted log rebuilt read are sifts plan kept sk
     let s = plan.salvages in
     let told = remains ∙ plan.remains in
     let there : there_in texts ≡ reports.there_in folder = λ i. record { log = is_some (read.log i); rotated = is_some (read.rotated i); index = is_some (read.index i) } in
-    let does : Rebuild = record { salvaged = plan.salvaged; kept = sifted.kept; skipped = sifted.skipped; indexid = log.indexid; stamp = stamp_of now } in
-    let is : IsRebuild folder now does = record {
-      salvages = record {
-        log = s.log;
-        rotated = s.rotated;
-        index = s.index;
-        log_file = subst (λ (x : Option (List ℕ)). IsLogFront x s.log) read.log s.log_file;
-        rotated_file = subst (λ (x : Option (List ℕ)). IsScanned x s.rotated) read.rotated s.rotated_file;
-        index_file = subst (λ (x : Option (List ℕ)). IsIndex x s.index) read.index s.index_file;
-        is = s.is;
-      };
-      rotated = s.used_are.header;
-      rotated_header = subst (λ (x : Option (List ℕ)). IsHeaderIn x s.used_are.header) read.rotated s.used_are.there;
-      numbers = numbers;
-      mails = mail_numbers folder texts.names numbers read.names are;
-      keeps = sifts.kept;
-      skips = sifts.skipped;
-      named = plan.named ∙ ap (λ (used : List ℕ). new_indexid used now) s.used_are.are;
-      made = refl;
-    } in
+    let does = does_of now plan.salvaged sifted log.indexid in
+    let is = rebuild_is folder now texts numbers sifted plan.salvaged plan.used plan.sources log.indexid read are sifts s plan.named in
     record {
       does = does;
       is = is;
@@ -229,4 +283,14 @@ prepared folder now texts numbers sifted log rebuilt read are sifts plan kept sk
       good = plan.good;
       records = plan.records;
       left = plan.left;
+    }
+
+pub too_long : (folder : Folder) (now : ℕ) (texts : Texts) (numbers : List ℕ) (sifted : Sifted) → AreTexts folder texts → AreNumbersOf texts.names numbers → IsSifted folder numbers sifted → plans.IsTooLong texts sifted.kept now → IsTooLong folder now
+too_long folder now texts numbers sifted read are sifts plan =
+    let indexid = new_indexid plan.used now in
+    let does = does_of now plan.salvaged sifted indexid in
+    record {
+      does = does;
+      is = rebuild_is folder now texts numbers sifted plan.salvaged plan.used plan.sources indexid read are sifts plan.salvages refl;
+      long = lt-leb (log_end (records_of does)) last_end plan.long;
     }

@@ -1,6 +1,7 @@
 -- The new log, made ready.
-use Rattle.std.specs.Prelude.{◌≡◌, ℕ, ◌^◌, ◌<◌, ◌≤◌, List, All, Option, is_some}
+use Rattle.std.specs.Prelude.{◌≡◌, ℕ, ◌^◌, ◌<◌, ◌≤◌, List, All, Option, Some, None, is_some, nat_le, if◌then◌else◌}
 use Rattle.dv_model.specs.declared.types.Mailbox.{Mailbox}
+use Rattle.dv_model.specs.declared.types.Record.{Record}
 use Rattle.dv_model.specs.Mailboxes.{IsValid}
 use Rattle.dv_model.specs.Spelling.{IsRecord}
 use Rattle.dv_logfile.specs.declared.header.LogHeader.{LogHeader}
@@ -20,6 +21,10 @@ use Rattle.dv_rebuild.specs.Sources.{sources_in}
 abbrev pub header_of : ℕ → ℕ → ℕ → LogHeader
 header_of indexid stamp highest =
     record (new_header indexid) { create_stamp = stamp; initial_modseq = highest }
+
+-- the text of a log of these records; none where they don't end in time
+abbrev pub text_in_time : LogHeader → List Record → Option (List ℕ)
+text_in_time h records = if nat_le (log_end records) last_end then Some (log_text h records) else None
 
 -- the indexids of a log, of the header in a rotated log's bytes, and of a snapshot
 pub record AreUsed (log : Option GoodLog) (rotated : Option (List ℕ)) (index : Option Snapshot)
@@ -68,3 +73,16 @@ pub record IsPlan (texts : Texts) (kept : List ℕ) (now : ℕ) (plan : NewLog) 
   pub good : IsGoodHeader (header_of plan.indexid (stamp_of now) salvaged.mailbox.highest)
   pub records : All IsRecord (rebuilt_records salvaged kept plan.indexid)
   pub left : HasLogNumbers salvaged.mailbox
+
+-- the records of the new log don't end in time
+pub record IsTooLong (texts : Texts) (kept : List ℕ) (now : ℕ) : Type 0 where
+  pub salvaged : Salvaged
+  pub used : List ℕ
+  pub sources : Sources
+  pub salvages : Salvages texts salvaged used sources
+  pub long : last_end < log_end (rebuilt_records salvaged kept (new_indexid used now))
+
+-- the new log; there is none only where it would be too long
+abbrev pub Plans : Texts → List ℕ → ℕ → Option NewLog → Type 0
+Plans texts kept now (Some plan) = IsPlan texts kept now plan
+Plans texts kept now None = IsTooLong texts kept now

@@ -1,11 +1,13 @@
 -- What a rebuild answers, and what it leaves of the folder.
-use Rattle.std.specs.Prelude.{◌≡◌, ◌⊎◌, ℕ, ◌+◌, max, ◌≤◌, true, List, [], length, map, fold, Some, option_map, unwrap_or, Result, Ok, Err, ⊤, All, if◌then◌else◌}
+use Rattle.std.specs.Prelude.{◌≡◌, ◌⊎◌, ℕ, ◌+◌, max, ◌≤◌, true, false, List, [], length, map, fold, Option, Some, None, option_map, unwrap_or, Result, Ok, Err, ⊤, All, if◌then◌else◌}
 use Rattle.dv_model.specs.declared.types.Mailbox.{Mailbox}
 use Rattle.dv_model.specs.Counts.{Rose}
 use Rattle.dv_model.specs.Spelling.{IsRecord}
 use Rattle.dv_model.specs.Views.{names_of, row_of}
 use Rattle.dv_shelf.specs.declared.shelf.Name.TheVariants as name
+use Rattle.dv_shelf.specs.Crashes.{IsSettled, LeavesOnly}
 use Rattle.dv_shelf.specs.Folders.{Folder, with_file}
+use Rattle.dv_shelf.specs.Sees.{SeesFolder}
 use Rattle.dv_logfile.specs.Layout.{IsGoodHeader, log_end}
 use Rattle.dv_openings.specs.Openings.{Finds, IsFound}
 use Rattle.dv_openings.specs.Rebuilds.{IsRebuild, Rebuild, rebuilt_fits, rebuilt_folder, rebuilt_header, rebuilt_text, records_of}
@@ -37,6 +39,17 @@ pub record IsPrepared (folder : Folder) (now : ℕ) (x : NewLog × Rebuilt) : Ty
   pub good : IsGoodHeader (rebuilt_header does)
   pub records : All IsRecord (records_of does)
   pub left : HasLogNumbers does.salvaged.mailbox
+
+-- the new log of a rebuild of the folder would be too long
+pub record IsTooLong (folder : Folder) (now : ℕ) : Type 0 where
+  pub does : Rebuild
+  pub is : IsRebuild folder now does
+  pub long : rebuilt_fits does ≡ false
+
+-- a rebuild is made ready; none is only where the new log would be too long
+abbrev pub Prepares : Folder → ℕ → Option (NewLog × Rebuilt) → Type 0
+Prepares folder now (Some x) = IsPrepared folder now x
+Prepares folder now None = IsTooLong folder now
 
 -- the folder as it was, or with this log
 abbrev pub IsOldOrPut : Folder → List ℕ → Folder → Type 0
@@ -96,10 +109,25 @@ LeavesRebuilt old now new (Ok rebuilt) = Rebuilds old now new rebuilt
 LeavesRebuilt old now new (Err fault.NoMemory) = new ≡ old
 LeavesRebuilt old now new (Err (fault.Disk faults)) = IsOldOrRebuilt old now new
 
+-- So it is at a reading of the clock, which is this one where the clock tells; and a crash at any
+-- moment leaves a settled folder as it was, or rebuilt at that reading.
+pub record RebuildsAt {S : Type 0} (sees : SeesFolder S) (told : Type 0) (reading : ℕ)
+    (old new : S) (result : Result Rebuilt RebuildFault) : Type 0 where
+  pub now : ℕ
+  pub clock : told → now ≡ reading
+  pub leaves : LeavesRebuilt (sees.files old) now (sees.files new) result
+  pub crash : IsSettled sees old
+      → LeavesOnly sees old new (IsOldOrRebuilt (sees.files old) now)
+
 -- the disk failed only with this
 abbrev pub OnDisk : {A : Type 0} → Result A RebuildFault → (ℕ → Type 0) → Type 0
 OnDisk (Err (fault.Disk faults)) P = P faults
 OnDisk r P = ⊤
+
+-- this holds, unless the disk failed
+abbrev pub UnlessDisk : {A : Type 0} → Result A RebuildFault → Type 0 → Type 0
+UnlessDisk (Err (fault.Disk faults)) P = ⊤
+UnlessDisk result P = P
 
 -- a fault of the disk comes only where a count rose, and tells the count; the count never falls
 pub record HasCause {A : Type 0} (before now : ℕ) (result : Result A RebuildFault) : Type 0 where

@@ -1,15 +1,14 @@
 //! The new log, made ready before it is written.
 
-ghost use Rattle.std.specs.Prelude.{◌≡◌, ◌≤◌, All, List, None, Option, Some, IfOk, IfSome};
+ghost use Rattle.std.specs.Prelude.{◌≡◌, All, List, None, Option, Some, IfOk, IfSome};
 ghost use Rattle.dv_model.specs.Mailboxes.{IsValid};
 ghost use Rattle.dv_model.specs.Spelling.{IsRecord, IsUid};
-ghost use Rattle.dv_logfile.specs.Layout.{last_end, log_end, log_text};
 ghost use Rattle.dv_logfile.specs.Scans.{GoodLog, Scanned, Spot};
 ghost use Rattle.dv_openings.specs.Openings as openings;
 ghost use Rattle.dv_openings.specs.Openings.{joining};
 ghost use Rattle.dv_openings.specs.Salvages.{rebuilt_records, salvaged_in};
 ghost use Rattle.dv_chain.specs.Files.{HasHeader, HasSpots, IsFileOf, good_file, snapshot_in};
-ghost use Rattle.dv_rebuild.specs.Plans.{AreUsed, HasLogNumbers, IsPlan, Salvages, header_of, there_in};
+ghost use Rattle.dv_rebuild.specs.Plans.{AreUsed, HasLogNumbers, Plans, Salvages, header_of, text_in_time, there_in};
 ghost use Rattle.dv_rebuild.specs.Reading.{IsGoodOf};
 ghost use Rattle.dv_rebuild.specs.Sources.{taken_in};
 ghost use Rattle.dv_rebuild.specs.Walks.{salvaged_of};
@@ -189,20 +188,18 @@ fn header(indexid: u32, stamp: u32, highest: u64) -> LogHeader
     }
 }
 
-/// The new log's text. `NoMemory` is also the answer where it would be too long.
+/// The new log's text, or none where it would be too long.
 fn text_of(
     alloc: Global,
     salvage: &Salvage,
     kept: &[u32],
     indexid: u32,
     stamp: u32,
-) -> Result<Bytes, NoMemory>
+) -> Result<Option<Bytes>, NoMemory>
     requires { All IsUid kept.now }
-    ensures text { IfOk result (λ text. text ≡ log_text
+    ensures text { IfOk result (λ text. text ≡ text_in_time
         (header_of indexid stamp salvage.now.live.mailbox.highest)
         (rebuilt_records (salvaged_of salvage.now) kept.now indexid)) }
-    ensures fits { IfOk result (λ _.
-        log_end (rebuilt_records (salvaged_of salvage.now) kept.now indexid) ≤ last_end) }
     ensures records { IfOk result (λ _.
         All IsRecord (rebuilt_records (salvaged_of salvage.now) kept.now indexid)) }
     ensures left { IfOk result (λ _. HasLogNumbers salvage.now.live.mailbox) }
@@ -211,9 +208,9 @@ fn text_of(
     let header = header(indexid, stamp, salvage.live.highest());
     let text = create(alloc, &header, &records)?;
     if text.len() > LONGEST_LOG {
-        return Err(NoMemory);
+        return Ok(None);
     }
-    Ok(text)
+    Ok(Some(text))
 }
 
 /// A new log: its number and its text, and what was left for it beside the message files.
@@ -225,19 +222,26 @@ pub struct NewLog {
 }
 
 /// The new log of a folder, from the texts of its files, the UIDs that are kept, rising, and a
-/// clock's reading. `NoMemory` is the only error, and also the answer where the log would be too
-/// long.
-pub fn plan(alloc: Global, texts: Texts, kept: &[u32], now: u32) -> Result<NewLog, OpenFault>
+/// clock's reading; none where it would be too long. `NoMemory` is the only error.
+pub fn plan(
+    alloc: Global,
+    texts: Texts,
+    kept: &[u32],
+    now: u32,
+) -> Result<Option<NewLog>, OpenFault>
     requires { All IsUid kept.now }
-    ensures { IfOk result (IsPlan texts kept.now now) }
+    ensures { IfOk result (Plans texts kept.now now) }
 {
     let (salvage, used, sources) = salvage(alloc, texts)?;
     let indexid = new_indexid(used.as_slice(), now);
-    let text = text_of(alloc, &salvage, kept, indexid, now.max(1))?;
+    let made = text_of(alloc, &salvage, kept, indexid, now.max(1))?;
+    let Some(text) = made else {
+        return Ok(None);
+    };
     let remains = remains_of(&salvage, sources, kept, indexid)?;
-    Ok(NewLog {
+    Ok(Some(NewLog {
         indexid,
         text,
         remains,
-    })
+    }))
 }

@@ -1,11 +1,11 @@
 //! A damaged folder is rebuilt.
 
-ghost use Rattle.std.specs.Prelude.{◌≡◌, IfOk, OnOk};
+ghost use Rattle.std.specs.Prelude.{◌≡◌, IfOk};
 ghost use Rattle.dv_shelf.specs.Causes.{HasCauseOf};
 ghost use Rattle.dv_shelf.specs.Clocks.{behind};
 ghost use Rattle.dv_shelf.specs.Crashes.{IsSettled, LeavesOnly};
 ghost use Rattle.dv_chain.specs.Openings.{OnlyLooks};
-ghost use Rattle.dv_rebuild.specs.Rebuilding.{HasCause, IsOldOrPut, IsOldOrRebuilt, IsPrepared, LeavesPut, LeavesRebuilt};
+ghost use Rattle.dv_rebuild.specs.Rebuilding.{HasCause, IsOldOrPut, IsOldOrRebuilt, LeavesPut, LeavesRebuilt, Prepares, RebuildsAt, UnlessDisk};
 
 use crate::RebuildFault;
 use crate::mails::{has_cache, numbers_of, sift};
@@ -29,13 +29,13 @@ pub struct Rebuilt {
     pub report: Report,
 }
 
-/// What is to be written, and what will be said of it.
+/// What is to be written, and what will be said of it; nothing where the new log would be too long.
 fn prepare<S: Shelf>(
     alloc: Global,
     shelf: &mut S,
     now: u32,
-) -> Result<(NewLog, Rebuilt), ShelfFault>
-    ensures prepared { S.sees.tells → IfOk result (IsPrepared (S.sees.files shelf.old) now) }
+) -> Result<Option<(NewLog, Rebuilt)>, ShelfFault>
+    ensures prepared { S.sees.tells → IfOk result (Prepares (S.sees.files shelf.old) now) }
     // Nothing is changed; a fault of the disk has its cause.
     ensures looks { S.sees.tells →
         OnlyLooks S.sees shelf.old shelf.new }
@@ -51,8 +51,11 @@ fn prepare<S: Shelf>(
     let Ok(kept) = u32::try_from(sifted.kept.len()) else {
         return Err(ShelfFault::NoMemory);
     };
-    let Ok(log) = plan(alloc, texts, sifted.kept.as_slice(), now) else {
+    let Ok(planned) = plan(alloc, texts, sifted.kept.as_slice(), now) else {
         return Err(ShelfFault::NoMemory);
+    };
+    let Some(log) = planned else {
+        return Ok(None);
     };
     let rebuilt = Rebuilt {
         kept,
@@ -64,7 +67,7 @@ fn prepare<S: Shelf>(
             has_cache,
         },
     };
-    Ok((log, rebuilt))
+    Ok(Some((log, rebuilt)))
 }
 
 /// Replaces the log by the new one, which was made ready.
@@ -75,7 +78,7 @@ fn put<S: Shelf>(shelf: &mut S, log: &NewLog) -> Result<(), RebuildFault>
         LeavesOnly S.sees shelf.old shelf.new
         (IsOldOrPut (S.sees.files shelf.old) log.now.text) }
     ensures settled { S.sees.tells → IsSettled S.sees shelf.old →
-        OnOk result (IsSettled S.sees shelf.new) }
+        UnlessDisk result (IsSettled S.sees shelf.new) }
     ensures cause { HasCause (S.sees.fault_count shelf.old) (S.sees.fault_count shelf.new) result }
 {
     match shelf.replace(Name::Log, log.text.as_slice()) {
@@ -92,14 +95,16 @@ fn rebuild_at<S: Shelf>(alloc: Global, shelf: &mut S, now: u32) -> Result<Rebuil
         LeavesOnly S.sees shelf.old shelf.new
         (IsOldOrRebuilt (S.sees.files shelf.old) now) }
     ensures settled { S.sees.tells → IsSettled S.sees shelf.old →
-        OnOk result (IsSettled S.sees shelf.new) }
+        UnlessDisk result (IsSettled S.sees shelf.new) }
     ensures cause { HasCause (S.sees.fault_count shelf.old) (S.sees.fault_count shelf.new) result }
 {
     match prepare(alloc, shelf, now) {
-        Ok((log, rebuilt)) => {
+        Ok(Some((log, rebuilt))) => {
             put(shelf, &log)?;
             Ok(rebuilt)
         }
+        // A log that is too long finds no room anywhere.
+        Ok(None) => Err(RebuildFault::NoMemory),
         Err(ShelfFault::Failed) => Err(RebuildFault::Disk(shelf.faults())),
         Err(ShelfFault::NoMemory) => Err(RebuildFault::NoMemory),
     }
@@ -115,15 +120,12 @@ pub fn rebuild<S: Shelf, C: Clock>(
     shelf: &mut S,
     clock: &mut C,
 ) -> Result<Rebuilt, RebuildFault>
-    // What is left behind Ok, and behind an error.
-    ensures files { S.sees.tells → C.sees.tells → LeavesRebuilt
-        (S.sees.files shelf.old) (C.sees.upcoming clock.old 0) (S.sees.files shelf.new) result }
-    // What a crash leaves, at any moment and behind Ok.
-    ensures since { S.sees.tells → C.sees.tells → IsSettled S.sees shelf.old →
-        LeavesOnly S.sees shelf.old shelf.new
-        (IsOldOrRebuilt (S.sees.files shelf.old) (C.sees.upcoming clock.old 0)) }
+    // There is a reading, the clock's where it tells, at which the folder is rebuilt: what is left
+    // behind Ok and behind an error, and what a crash leaves, at any moment and behind it.
+    ensures rebuilds { S.sees.tells →
+        RebuildsAt S.sees C.sees.tells (C.sees.upcoming clock.old 0) shelf.old shelf.new result }
     ensures settled { S.sees.tells → IsSettled S.sees shelf.old →
-        OnOk result (IsSettled S.sees shelf.new) }
+        UnlessDisk result (IsSettled S.sees shelf.new) }
     // The clock is read once; a fault of the disk has its cause.
     ensures clock { C.sees.tells → C.sees.upcoming clock.new
         ≡ behind (C.sees.upcoming clock.old) 1 }

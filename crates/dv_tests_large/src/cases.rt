@@ -16,6 +16,8 @@ pub enum Task {
     Changes,
     /// Two messages with many keywords get a new log.
     Rebuild,
+    /// A client of another UIDVALIDITY hears of all messages of a long log.
+    Resync,
 }
 
 /// A task, the last line of its output, and the fewest bytes that the log then has.
@@ -43,15 +45,33 @@ fn script_of_sessions(alloc: Global, count: u32) -> Result<Bytes, Fail> {
     Ok(script)
 }
 
-// The word, the folder and the script of a task.
-fn given(alloc: Global, task: Task) -> Result<(&'static str, Folder, Bytes), Fail> {
+// The words of a task.
+fn words_of(task: Task) -> &'static [&'static str] {
     match task {
-        Task::Sessions(count) => Ok(("run", List::new(alloc), script_of_sessions(alloc, count)?)),
+        Task::Sessions(_) | Task::Changes => &["run"],
+        Task::Rebuild => &["rebuild"],
+        Task::Resync => &["resync", "1", "0", "1:*"],
+    }
+}
+
+fn strings(alloc: Global, words: &[&str]) -> Result<Vec<String>, Fail> {
+    let mut strings = Vec::new(alloc);
+    for word in words {
+        strings.push(String::from_str(alloc, word)?)?;
+    }
+    Ok(strings)
+}
+
+// The folder and the script of a task.
+fn given(alloc: Global, task: Task) -> Result<(Folder, Bytes), Fail> {
+    match task {
+        Task::Sessions(count) => Ok((List::new(alloc), script_of_sessions(alloc, count)?)),
         Task::Changes => {
             let folder = folder_of(alloc, log_of_rows(alloc)?)?;
-            Ok(("run", folder, Bytes::from_slice(alloc, MARKED)?))
+            Ok((folder, Bytes::from_slice(alloc, MARKED)?))
         }
-        Task::Rebuild => Ok(("rebuild", named_folder(alloc)?, List::new(alloc))),
+        Task::Rebuild => Ok((named_folder(alloc)?, List::new(alloc))),
+        Task::Resync => Ok((folder_of(alloc, log_of_rows(alloc)?)?, List::new(alloc))),
     }
 }
 
@@ -65,9 +85,8 @@ fn log_size(alloc: Global, shelf: &mut MemShelf) -> usize {
 
 /// Fails unless the run ends with status 0 and as it is expected.
 pub fn play(alloc: Global, case: &Case) -> Result<(), Fail> {
-    let (word, folder, script) = given(alloc, case.task)?;
-    let mut words = Vec::new(alloc);
-    words.push(String::from_str(alloc, word)?)?;
+    let (folder, script) = given(alloc, case.task)?;
+    let words = strings(alloc, words_of(case.task))?;
     let shelf = MemShelf::of(alloc, &folder, ROOM, List::new(alloc), None)?;
     let mut script = MemSource::new(alloc, script, List::new(alloc));
     let mut out = MemSink::new(alloc, ROOM, List::new(alloc))?;

@@ -40,3 +40,17 @@ const REBUILD: Case = Case {
 fn log_of_more_than_a_mebibyte_is_rebuilt(rt: HostRuntime) -> Result<(), Fail> {
     play(rt.alloc(), &REBUILD)
 }
+
+// Each message has the number of the one append, behind that of the UIDVALIDITY.
+const RESYNC: Case = Case {
+    task: Task::Resync,
+    last: b"* 70000 FETCH (UID 70000 FLAGS () MODSEQ (3))\n\
+        * OK [HIGHESTMODSEQ 3]\n\
+        END 0 MARK 1:560064 GROUPS 0\n",
+    log: 560_064,
+};
+
+#[test]
+fn seventy_thousand_messages_are_told(rt: HostRuntime) -> Result<(), Fail> {
+    play(rt.alloc(), &RESYNC)
+}

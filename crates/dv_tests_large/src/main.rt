@@ -1,5 +1,5 @@
-//! Tests of runs that need much at once: many sessions, many changed rows, a long rebuilt log. Each
-//! is played through the program's call.
+//! Tests of runs that need much at once: many sessions, many changed or told rows, a long rebuilt
+//! log. Each is played through the program's call.
 #![tactic(auto)]
 
 #[cfg(test)]

@@ -1,4 +1,5 @@
-//! The program's call once more, run to status 0: the program itself is run to another one.
+//! The program's call once more, run to status 0 with commands of every kind over the mailbox of
+//! data/box: the program itself is run to another status.
 #![tactic(auto)]
 
 use dv_cli::{ErrorOutput, obey_read, words_given};

@@ -1,7 +1,8 @@
-//! Live mailboxes, by the records of a log.
+//! Live mailboxes, by the records of a log, and commands, by their texts.
 
 use dv_apply::Live;
-use dv_model::NoMemory;
+use dv_commands::{behind, parse_append, parse_command};
+use dv_model::{Bytes, Command, NoMemory};
 use dv_records::decode;
 use std::alloc::Global;
 
@@ -26,4 +27,27 @@ pub fn live_of(alloc: Global, highest: u32, records: &[&[u8]]) -> Result<Live, N
     live.raise(u64::from(highest));
     apply(alloc, &mut live, records)?;
     Ok(live)
+}
+
+fn append_of(alloc: Global, text: &[u8], message: &[u8]) -> Result<Command, NoMemory> {
+    let message = Bytes::from_slice(alloc, message)?;
+    match parse_append(alloc, text) {
+        Ok(((flags, keywords), _)) => Ok(Command::Append {
+            flags,
+            keywords,
+            message,
+        }),
+        Err(_) => Err(NoMemory),
+    }
+}
+
+/// The command of a line; an APPEND has this message. A text of none counts as want of memory too.
+pub fn command_of(alloc: Global, text: &[u8], message: &[u8]) -> Result<Command, NoMemory> {
+    if let Some(rest) = behind(text, b"APPEND ") {
+        return append_of(alloc, rest, message);
+    }
+    match parse_command(alloc, text) {
+        Ok(command) => Ok(command),
+        Err(_) => Err(NoMemory),
+    }
 }

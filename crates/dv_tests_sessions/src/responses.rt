@@ -1,6 +1,9 @@
-use crate::mailboxes::live_of;
+ghost use Rattle.dv_responses.specs.Depth.{IsShallow};
+
+use crate::ends::{is_so, no_other};
+use crate::mailboxes::{command_of, live_of};
 use dv_apply::Live;
-use dv_model::{Boxed, Bytes, Command, End, How, Item, Key, List, Mark, NoMemory, Span};
+use dv_model::{Bytes, Command, List, Mark, NoMemory, Reply};
 use dv_responses::{
     add_data_lines, add_select_lines, asked_by, damaged_among, ending, facts_from, gone_uid,
     is_shallow, meet, uids_looked_at,
@@ -9,7 +12,7 @@ use dv_script::replies_text;
 use dv_search::Mail;
 use dv_view::View;
 use std::alloc::Global;
-use std::test::*;
+use std::test::Fail;
 
 const APPEND_1: &[u8] = b"\x80\x80\x80\x84\x02\0\0\x10\x01\0\0\0\0\0\0\0";
 
@@ -23,6 +26,20 @@ const ADD_K1_TO_1: &[u8] = b"\x80\x80\x80\x86\0\x04\0\x10\0\0\x02\0k1\0\0\x01\0\
 
 const EXPUNGE_1: &[u8] = b"\x80\x80\x80\x84\x91\xcd\0\x10\x01\0\0\0\x01\0\0\0";
 
+// A command, with the message of an APPEND; the records of the mailbox when it came, and those
+// behind what was written since; the message of UID 1, which has no bytes where its file is
+// damaged; the end of the log; and the lines that answer the command.
+struct Case {
+    name: &'static str,
+    command: &'static str,
+    appended: &'static [u8],
+    met: &'static [&'static [u8]],
+    all: &'static [&'static [u8]],
+    message: &'static [u8],
+    end: u32,
+    says: &'static [u8],
+}
+
 // The facts of the message of UID 1, where it is there; a damaged one has no bytes here.
 fn facts_of(alloc: Global, c: &Command, live: &Live, message: &[u8]) -> Result<Mail, NoMemory> {
     let mut mail = Mail::new(alloc);
@@ -35,168 +52,225 @@ fn facts_of(alloc: Global, c: &Command, live: &Live, message: &[u8]) -> Result<M
     Ok(mail)
 }
 
+// The UIDs of damaged files that the command reads.
+fn damaged_of(
+    alloc: Global,
+    c: &Command,
+    view: &View,
+    live: &Live,
+    facts: &Mail,
+) -> Result<List<u32>, NoMemory>
+    requires { IsShallow c.now }
+{
+    let uids = uids_looked_at(alloc, c, view)?;
+    damaged_among(alloc, c, uids.as_slice(), live, facts)
+}
+
+fn ending_of(
+    alloc: Global,
+    c: &Command,
+    view: &View,
+    met: &Live,
+    live: &Live,
+    facts: &Mail,
+    mark: Mark,
+) -> Result<Reply, NoMemory>
+    requires { IsShallow c.now }
+{
+    let gone = gone_uid(alloc, c, view, live)?;
+    let damaged = damaged_of(alloc, c, view, live, facts)?;
+    let taken = meet(alloc, c, view, met)?;
+    Ok(ending(c, gone, damaged.as_slice(), live, taken, mark))
+}
+
+fn text_of(
+    alloc: Global,
+    c: &Command,
+    view: &View,
+    met: &Live,
+    live: &Live,
+    facts: &Mail,
+    mark: Mark,
+) -> Result<Bytes, NoMemory>
+    requires { IsShallow c.now }
+{
+    let mut lines = List::new(alloc);
+    add_data_lines(alloc, c, view, live, facts, &mut lines)?;
+    lines.push(ending_of(alloc, c, view, met, live, facts, mark)?)?;
+    replies_text(alloc, b"a", &lines)
+}
+
 // What a session that was shown the first mailbox, and whose command met it, is answered at the
-// other one, at this end of its log.
+// other one, at this mark. Each value has one owner, so that it is let go in one place.
+fn answer_with(
+    alloc: Global,
+    c: &Command,
+    met: &Live,
+    live: &Live,
+    facts: &Mail,
+    mark: Mark,
+) -> Result<Bytes, NoMemory>
+    requires { IsShallow c.now }
+{
+    let view = View::of(alloc, met)?;
+    text_of(alloc, c, &view, met, live, facts, mark)
+}
+
 fn answer(
     alloc: Global,
     c: &Command,
     met: &Live,
     live: &Live,
-    message: &[u8],
-    offset: u32,
+    case: &Case,
 ) -> Result<Bytes, NoMemory> {
     if !is_shallow(c) {
         return Err(NoMemory);
     }
-    let facts = facts_of(alloc, c, live, message)?;
-    let view = View::of(alloc, met)?;
-    let taken = meet(alloc, c, &view, met)?;
-    let uids = uids_looked_at(alloc, c, &view)?;
-    let damaged = damaged_among(alloc, c, uids.as_slice(), live, &facts)?;
-    let mut lines = List::new(alloc);
-    add_data_lines(alloc, c, &view, live, &facts, &mut lines)?;
+    let facts = facts_of(alloc, c, live, case.message)?;
     let mark = Mark {
         file_seq: 1,
-        offset,
+        offset: case.end,
     };
-    let gone = gone_uid(alloc, c, &view, live)?;
-    lines.push(ending(c, gone, damaged.as_slice(), live, taken, mark))?;
-    replies_text(alloc, b"a", &lines)
+    answer_with(alloc, c, met, live, &facts, mark)
 }
 
-// Whether the command is answered so, where the mailbox had the first records when it came, and
-// the others since.
-fn says(
-    alloc: Global,
-    c: Result<Command, NoMemory>,
-    shown: &[&[u8]],
-    all: &[&[u8]],
-    message: &[u8],
-    offset: u32,
-    wanted: &[u8],
-) -> Result<bool, NoMemory> {
-    let c = c?;
-    let met = live_of(alloc, 2, shown)?;
-    let live = live_of(alloc, 2, all)?;
-    let text = answer(alloc, &c, &met, &live, message, offset)?;
-    Ok(text.as_slice() == wanted)
+fn answer_behind(alloc: Global, c: &Command, met: &Live, case: &Case) -> Result<Bytes, NoMemory> {
+    let live = live_of(alloc, 2, case.all)?;
+    answer(alloc, c, met, &live, case)
 }
 
-fn span(alloc: Global, from: u32, to: u32) -> Result<List<Span>, NoMemory> {
-    let span = Span {
-        from: End::Number(from),
-        to: End::Number(to),
-    };
-    Ok(List::from_slice(alloc, &[span])?)
+fn answer_of(alloc: Global, c: &Command, case: &Case) -> Result<Bytes, NoMemory> {
+    let met = live_of(alloc, 2, case.met)?;
+    answer_behind(alloc, c, &met, case)
 }
 
-fn search(by_uid: bool, key: Result<Key, NoMemory>) -> Result<Command, NoMemory> {
-    Ok(Command::Search { by_uid, key: key? })
+fn holds(alloc: Global, case: &Case) -> Result<bool, NoMemory> {
+    let c = command_of(alloc, case.command.as_bytes(), case.appended)?;
+    let text = answer_of(alloc, &c, case)?;
+    Ok(text.as_slice() == case.says)
 }
 
-// Whether the search is answered so in a mailbox whose one message is hello.
-fn finds(
-    alloc: Global,
-    by_uid: bool,
-    key: Result<Key, NoMemory>,
-    wanted: &[u8],
-) -> Result<bool, NoMemory> {
-    let records = [APPEND_1, SEE_1, DRAFT_1, ADD_K1_TO_1];
-    says(
-        alloc,
-        search(by_uid, key),
-        &records,
-        &records,
-        b"hello",
-        152,
-        wanted,
-    )
+fn first_other(alloc: Global, cases: &[Case]) -> Option<&'static str> {
+    for case in cases {
+        if holds(alloc, case) != Ok(true) {
+            return Some(case.name);
+        }
+    }
+    None
 }
 
-fn seen_or_k1(alloc: Global) -> Result<Key, NoMemory> {
-    let k1 = Key::Keyword(Bytes::from_slice(alloc, b"k1")?);
-    Ok(Key::Or(Boxed::new(alloc, Key::Has(8))?, Boxed::new(alloc, k1)?))
-}
+const SEARCHED: &[&[u8]] = &[APPEND_1, SEE_1, DRAFT_1, ADD_K1_TO_1];
+
+const SEARCHES: [Case; 2] = [
+    Case {
+        name: "a flag or a keyword",
+        command: "SEARCH OR SEEN KEYWORD k1",
+        appended: b"",
+        met: SEARCHED,
+        all: SEARCHED,
+        message: b"hello",
+        end: 152,
+        says: b"a * SEARCH 1\na OK [MARK 1:152] SEARCH\n",
+    },
+    Case {
+        name: "no message is as large",
+        command: "UID SEARCH LARGER 5",
+        appended: b"",
+        met: SEARCHED,
+        all: SEARCHED,
+        message: b"hello",
+        end: 152,
+        says: b"a * SEARCH\na OK [MARK 1:152] UID SEARCH\n",
+    },
+];
 
 #[test]
 fn searches_name_the_rows_that_are_found(rt: HostRuntime) -> Result<(), Fail> {
-    let alloc = rt.alloc();
-    let one = b"a * SEARCH 1\na OK [MARK 1:152] SEARCH\n";
-    let no_uid = b"a * SEARCH\na OK [MARK 1:152] UID SEARCH\n";
-    assert!(rt; finds(alloc, false, seen_or_k1(alloc), one)?);
-    assert!(rt; finds(alloc, true, Ok(Key::Larger(5)), no_uid)?);
-    Ok(())
+    no_other(first_other(rt.alloc(), &SEARCHES))
 }
 
-// A FETCH of the size and the body of one message.
-fn fetch(alloc: Global) -> Result<Command, NoMemory> {
-    let mut items = List::new(alloc);
-    items.push(Item::Size)?;
-    items.push(Item::Body)?;
-    Ok(Command::Fetch {
-        by_uid: false,
-        set: span(alloc, 1, 1)?,
-        items,
-    })
-}
+const FETCH: &str = "FETCH 1:1 (RFC822.SIZE BODY[])";
+
+const FETCHES: [Case; 3] = [
+    Case {
+        name: "a message",
+        command: FETCH,
+        appended: b"",
+        met: &[APPEND_1],
+        all: &[APPEND_1],
+        message: b"hello",
+        end: 72,
+        says: b"a * 1 FETCH (UID 1 RFC822.SIZE 5 BODY[] {5}\nhello)\na OK [MARK 1:72] FETCH\n",
+    },
+    Case {
+        name: "a damaged file",
+        command: FETCH,
+        appended: b"",
+        met: &[APPEND_1],
+        all: &[APPEND_1],
+        message: b"",
+        end: 72,
+        says: b"a NO [CORRUPTION] UID 1 MARK 1:72\n",
+    },
+    Case {
+        name: "a message that left",
+        command: FETCH,
+        appended: b"",
+        met: &[APPEND_1],
+        all: &[APPEND_1, EXPUNGE_1],
+        message: b"hello",
+        end: 88,
+        says: b"a NO [EXPUNGEISSUED] UID 1 MARK 1:88\n",
+    },
+];
 
 #[test]
 fn message_is_fetched_where_it_is_there(rt: HostRuntime) -> Result<(), Fail> {
-    let alloc = rt.alloc();
-    let shown = [APPEND_1];
-    let all = [APPEND_1, EXPUNGE_1];
-    let wanted = b"a * 1 FETCH (UID 1 RFC822.SIZE 5 BODY[] {5}\nhello)\na OK [MARK 1:72] FETCH\n";
-    let damaged = b"a NO [CORRUPTION] UID 1 MARK 1:72\n";
-    let gone = b"a NO [EXPUNGEISSUED] UID 1 MARK 1:88\n";
-    assert!(rt; says(alloc, fetch(alloc), &shown, &shown, b"hello", 72, wanted)?);
-    assert!(rt; says(alloc, fetch(alloc), &shown, &shown, b"", 72, damaged)?);
-    assert!(rt; says(alloc, fetch(alloc), &shown, &all, b"hello", 88, gone)?);
-    Ok(())
+    no_other(first_other(rt.alloc(), &FETCHES))
 }
 
-fn store(alloc: Global, since: u64) -> Result<Command, NoMemory> {
-    Ok(Command::Store {
-        by_uid: false,
-        set: span(alloc, 1, 1)?,
-        how: How::Add,
-        flags: 2,
-        keywords: List::new(alloc),
-        unchanged_since: Some(since),
-    })
-}
-
-fn append(alloc: Global) -> Result<Command, NoMemory> {
-    Ok(Command::Append {
-        flags: 0,
-        keywords: List::new(alloc),
-        message: Bytes::from_slice(alloc, b"hello")?,
-    })
-}
+const WRITES: [Case; 2] = [
+    Case {
+        name: "a STORE that keeps its hands off",
+        command: "STORE 1:1 (UNCHANGEDSINCE 3) +FLAGS (\\Flagged)",
+        appended: b"",
+        met: &[APPEND_1, SEE_1],
+        all: &[APPEND_1, SEE_1],
+        message: b"",
+        end: 92,
+        says: b"a OK [MODIFIED 1] [MARK 1:92] STORE\n",
+    },
+    Case {
+        name: "an APPEND",
+        command: "APPEND () {5}",
+        appended: b"hello",
+        met: &[],
+        all: &[APPEND_1],
+        message: b"",
+        end: 72,
+        says: b"a OK [APPENDUID 1000 1] [MARK 1:72] APPEND\n",
+    },
+];
 
 #[test]
 fn store_and_append_tell_what_they_did(rt: HostRuntime) -> Result<(), Fail> {
-    let alloc = rt.alloc();
-    let records = [APPEND_1, SEE_1];
-    let kept = b"a OK [MODIFIED 1] [MARK 1:92] STORE\n";
-    let done = b"a OK [APPENDUID 1000 1] [MARK 1:72] APPEND\n";
-    assert!(rt; says(alloc, store(alloc, 3), &records, &records, b"", 92, kept)?);
-    assert!(rt; says(alloc, append(alloc), &[], &[APPEND_1], b"", 72, done)?);
-    Ok(())
+    no_other(first_other(rt.alloc(), &WRITES))
 }
 
-fn select(alloc: Global) -> Result<Bytes, NoMemory> {
-    let live = live_of(alloc, 2, &[APPEND_1])?;
+// Whether a SELECT says this of the mailbox of these records.
+fn selects(alloc: Global, records: &[&[u8]], says: &[u8]) -> Result<bool, NoMemory> {
+    let live = live_of(alloc, 2, records)?;
     let view = View::of(alloc, &live)?;
     let mut lines = List::new(alloc);
     add_select_lines(alloc, &live, &view, &mut lines)?;
-    replies_text(alloc, b"a", &lines)
+    let text = replies_text(alloc, b"a", &lines)?;
+    Ok(text.as_slice() == says)
 }
+
+const SELECTED: &[u8] = b"a * 1 EXISTS\na * OK [UIDVALIDITY 1000]\na * OK [UIDNEXT 2]\n\
+    a * 1 FETCH (UID 1 FLAGS ())\n";
 
 #[test]
 fn select_tells_sizes_and_flags(rt: HostRuntime) -> Result<(), Fail> {
-    let text = select(rt.alloc())?;
-    let wanted = b"a * 1 EXISTS\na * OK [UIDVALIDITY 1000]\na * OK [UIDNEXT 2]\n\
-        a * 1 FETCH (UID 1 FLAGS ())\n";
-    assert!(rt; text.as_slice() == wanted.as_slice());
-    Ok(())
+    is_so(selects(rt.alloc(), &[APPEND_1], SELECTED))
 }

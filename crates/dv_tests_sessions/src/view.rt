@@ -2,13 +2,14 @@ ghost use Rattle.std.specs.Prelude.{◌≡◌, [], IfOk, IsSomeAnd, true};
 ghost use Rattle.dv_model.specs.Fresh.{AreFresh};
 ghost use Rattle.dv_model.specs.Views.{View as Rows, empty_view, shows_uid};
 
+use crate::ends::{is_so, no_other};
 use crate::mailboxes::apply;
 use dv_apply::Live;
 use dv_keywords::Table;
 use dv_model::{Fresh, List, NoMemory, Reply, Shown, Step, Value};
 use dv_view::{Client, View};
 use std::alloc::Global;
-use std::test::*;
+use std::test::Fail;
 
 const APPEND_1_DELETED: &[u8] = b"\x80\x80\x80\x84\x02\0\0\x10\x01\0\0\0\x04\0\0\0";
 
@@ -131,8 +132,7 @@ const UNTOLD: [Turn; 4] = [
 
 #[test]
 fn untold_row_keeps_its_number(rt: HostRuntime) -> Result<(), Fail> {
-    assert!(rt; are_right(rt.alloc(), &UNTOLD)?);
-    Ok(())
+    is_so(are_right(rt.alloc(), &UNTOLD))
 }
 
 fn shown(alloc: Global, uid: u32, flags: u8) -> Shown
@@ -202,16 +202,36 @@ fn is_right(
     Ok(is_said(&said, expected) && has_same_rows(&client, &view))
 }
 
+type Said = (&'static str, Step, &'static [(char, u32, u32, u8)]);
+
+const STEPS: [Said; 2] = [
+    (
+        "full",
+        Step::Full,
+        &[
+            ('X', 1, 0, 0),
+            ('E', 2, 0, 0),
+            ('F', 1, 2, 8),
+            ('F', 2, 3, 0),
+        ],
+    ),
+    (
+        "held",
+        Step::Held,
+        &[('E', 3, 0, 0), ('F', 2, 2, 8), ('F', 3, 3, 0)],
+    ),
+];
+
+fn first_other(alloc: Global, cases: &[Said]) -> Option<&'static str> {
+    for (name, step, expected) in cases {
+        if is_right(alloc, *step, expected) != Ok(true) {
+            return Some(*name);
+        }
+    }
+    None
+}
+
 #[test]
 fn both_steps_follow_changes(rt: HostRuntime) -> Result<(), Fail> {
-    let full = [
-        ('X', 1, 0, 0),
-        ('E', 2, 0, 0),
-        ('F', 1, 2, 8),
-        ('F', 2, 3, 0),
-    ];
-    assert!(rt; is_right(rt.alloc(), Step::Full, &full)?);
-    let held = [('E', 3, 0, 0), ('F', 2, 2, 8), ('F', 3, 3, 0)];
-    assert!(rt; is_right(rt.alloc(), Step::Held, &held)?);
-    Ok(())
+    no_other(first_other(rt.alloc(), &STEPS))
 }

@@ -1,2 +1,2 @@
 pub mod Growing
-mod Joined
+pub mod Joined

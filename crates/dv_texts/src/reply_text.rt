@@ -1,7 +1,7 @@
 //! A session's replies, of which only the text is kept, in pieces: a long one finds room between
 //! what else is in memory, and isn't copied where it grows.
 
-ghost use Rattle.std.specs.Prelude.{◌≡◌, ◌++◌, [], OnOk, length};
+ghost use Rattle.std.specs.Prelude.{◌≡◌, ◌+◌, ◌*◌, ◌++◌, ◌≤◌, [], IfSome, OnOk, length, min};
 ghost use Rattle.dv_shelf.specs.Causes.{HasCause};
 ghost use Rattle.dv_shelf.specs.Streams.{Appends, AppendsFront};
 
@@ -32,6 +32,29 @@ const LARGE: usize = 65536;
 
 // The most bytes that whole pieces have in sum.
 const MOST: usize = 1 << 62;
+
+// The room of a line with this message, where that is large; and what stands around it.
+fn large_room(body: &Option<Bytes>) -> Option<usize>
+    ensures { IfSome result (λ room. IfSome body.now (λ b. room ≤ length b + 56)) }
+{
+    match body {
+        Some(body) if body.len() >= LARGE => Some(body.len().saturating_add(AROUND)),
+        _ => None,
+    }
+}
+
+// The room of so many lines and one more, each with a session's name of this length and some bytes
+// around it, and of so many bytes of messages, as far as a piece has it.
+fn lines_room(lines: usize, name: usize, bytes: usize) -> usize
+    ensures { result ≡ min ((lines + 1) * (name + 56) + bytes) 33792 }
+{
+    let line = name.saturating_add(AROUND);
+    let room = lines
+        .saturating_add(1)
+        .saturating_mul(line)
+        .saturating_add(bytes);
+    room.min(PIECE_ROOM)
+}
 
 /// The text of the replies of a session, each on a line that begins with the session's name, while
 /// they are taken one by one. Contracts see the name and the text.
@@ -98,9 +121,9 @@ impl ReplyText {
     fn make_room(&mut self, facts: &MailFacts) -> Result<(), NoMemory>
         ensures { self.new ≡ self.old }
     {
-        match &facts.body {
-            Some(body) if body.len() >= LARGE => self.reserve(body.len().saturating_add(AROUND)),
-            _ => Ok(()),
+        match large_room(&facts.body) {
+            Some(room) => self.reserve(room),
+            None => Ok(()),
         }
     }
 
@@ -137,12 +160,8 @@ impl Replies for ReplyText {
 
     fn expect(&mut self, replies: usize, bytes: usize) -> Result<(), NoMemory> {
         self.settle()?;
-        let line = self.session.len().saturating_add(AROUND);
-        let room = replies
-            .saturating_add(1)
-            .saturating_mul(line)
-            .saturating_add(bytes);
-        self.reserve(room.min(PIECE_ROOM))
+        let room = lines_room(replies, self.session.len(), bytes);
+        self.reserve(room)
     }
 
     fn take(&mut self, reply: Reply) -> Result<(), NoMemory> {

@@ -1,11 +1,12 @@
 use Rattle.std.proofs.Common.{List, All, [], length, sym, subst, ap, arith}
 use Rattle.std.specs.Prelude.{Some}
 use Rattle.dv_formats.specs.Scripts.{NamedLine}
-use Rattle.dv_serial.specs.Serves.{IsServable}
-use Rattle.dv_serial.specs.Outputs.{output_with}
+use Rattle.dv_serving.specs.Servable.{IsServable}
+use Rattle.dv_serving.specs.Outputs.{output_with}
 use Rattle.dv_cli.specs.Runs.{RunsOver}
-use Rattle.dv_cli.specs.Spans.{times_of}
-use Rattle.dv_serial.specs.Faults.{faults_of}
+use Rattle.dv_cli.specs.Spans.{times_from}
+use Rattle.dv_serving.specs.Faults.{faults_of}
+use Rattle.dv_serving.proofs.Readings.{readings_give}
 use Rattle.dv_cli.proofs.loading.run_load.Goals as goal
 
 pub run_folder-requires-clause-servable : goal.run_folder-requires-clause-servable
@@ -23,9 +24,10 @@ pub run_folder-requires-clause-sessions : goal.run_folder-requires-clause-sessio
 run_folder-requires-clause-sessions g c = sym c.generated_lines-lines.ensures.sessions
 
 pub returns-clause-runs : goal.returns-clause-runs
-returns-clause-runs g c = λ tells timed settled is_true.
+returns-clause-runs g c = λ tells settled is_true.
     let S = g.S.Shelf in
     let C = g.C.Clock in
     let o = c.run_folder.result in
-    subst (λ (ls : List NamedLine). RunsOver S.sees (times_of C.sees c.args.clock o.clock) (faults_of S.sees c.args.shelf o.shelf)
-    (Some c.args.load) ls o.end (output_with ⊥ [] []) c.args.shelf o.shelf) c.generated_lines-lines.ensures.lines (c.run_folder.ensures.runs tells timed settled is_true)
+    readings_give (c.run_folder.ensures.runs tells settled is_true) (λ clock small told runs.
+    subst (λ (ls : List NamedLine). RunsOver S.sees (times_from C.sees clock o.clock) (faults_of S.sees c.args.shelf o.shelf)
+    (Some c.args.load) ls o.end (output_with ⊥ [] []) c.args.shelf o.shelf) c.generated_lines-lines.ensures.lines runs)

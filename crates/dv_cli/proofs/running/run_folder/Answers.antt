@@ -1,8 +1,9 @@
 use Rattle.std.proofs.Common.{◌*◌, length, refl}
 use Rattle.dv_chain.specs.declared.chain.Chain.{Chain}
-use Rattle.dv_serial.specs.Outputs.{output_of}
-use Rattle.dv_cli.specs.Spans.{times_of}
-use Rattle.dv_serial.specs.Faults.{faults_of}
+use Rattle.dv_serving.specs.Outputs.{output_of}
+use Rattle.dv_cli.specs.Spans.{times_from}
+use Rattle.dv_serving.specs.Faults.{faults_of}
+use Rattle.dv_serving.proofs.Readings.{readings_give, readings_more}
 use Rattle.dv_cli.proofs.FoundTold.{served_told}
 use Rattle.dv_cli.proofs.Folders.{end_later, unopened_cause}
 use Rattle.dv_cli.proofs.Served.{runs_serving}
@@ -12,15 +13,16 @@ use Rattle.dv_cli.proofs.running.run_folder.Goals as goal
 -- ---- lines are served
 
 pub returns-in-Ok-clause-runs : goal.returns-in-Ok-clause-runs
-returns-in-Ok-clause-runs g c = λ tells timed settled is_true.
+returns-in-Ok-clause-runs g c = λ tells settled is_true.
     let S = g.S.Shelf in
     let C = g.C.Clock in
     let O = g.O.Sink in
     let served = c.serve_lines.ensures in
     let behind = c.serve_lines.result in
-    runs_serving S.sees (times_of C.sees c.args.clock behind.clock) (faults_of S.sees c.args.shelf behind.shelf) c.args.load (g.L.Lines.left c.args.lines.now)
-    (output_of O.sees c.args.out.now c.serve_lines.new.out) c.args.shelf behind.shelf behind.end served.ends.0
-    (served.runs tells timed (C.sees.upcoming c.args.clock) c.args.shelf (c.in-Ok.ensures.begins tells timed settled is_true) (S.sees.fault_count c.args.shelf) c.in-Ok.ensures.cause.later)
+    let begins = c.in-Ok.ensures.begins tells settled is_true in
+    readings_more begins (served.runs tells begins.clock c.args.shelf begins.small begins.holds (S.sees.fault_count c.args.shelf) c.in-Ok.ensures.cause.later)
+    (λ clock. runs_serving S.sees (times_from C.sees clock behind.clock) (faults_of S.sees c.args.shelf behind.shelf) c.args.load (g.L.Lines.left c.args.lines.now)
+    (output_of O.sees c.args.out.now c.serve_lines.new.out) c.args.shelf behind.shelf behind.end served.ends.0)
 
 pub returns-in-Ok-clause-cause : goal.returns-in-Ok-clause-cause
 returns-in-Ok-clause-cause g c =
@@ -43,7 +45,8 @@ returns-in-Ok-clause-readings g c = λ timed.
 -- ---- the folder isn't opened
 
 pub returns-in-Err-clause-runs : goal.returns-in-Err-clause-runs
-returns-in-Err-clause-runs g c = λ tells timed settled is_true. (λ told. refl, c.in-Err.ensures.begins tells timed settled is_true)
+returns-in-Err-clause-runs g c = λ tells settled is_true.
+    readings_give (c.in-Err.ensures.begins tells settled is_true) (λ clock small known unopened. (λ told. refl, unopened))
 
 pub returns-in-Err-clause-cause : goal.returns-in-Err-clause-cause
 returns-in-Err-clause-cause g c =

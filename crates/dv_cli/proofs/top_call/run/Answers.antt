@@ -3,6 +3,7 @@ use Rattle.std.specs.Prelude.{Option, string_bytes}
 use Rattle.dv_model.specs.Counts.{Rose}
 use Rattle.dv_formats.specs.Parsing.{parsed}
 use Rattle.dv_formats.specs.Scripts.{NamedLine}
+use Rattle.dv_serving.proofs.Readings.{readings_give, told_readings}
 use Rattle.dv_cli.specs.declared.ending.End.{End}
 use Rattle.dv_cli.specs.declared.ending.End.TheVariants as end
 use Rattle.dv_cli.specs.declared.words.Task.{Task}
@@ -10,10 +11,12 @@ use Rattle.dv_cli.specs.Causes.{ComesFrom, Counts, counts_of}
 use Rattle.dv_cli.specs.Endings.{Concludes, IsStatus}
 use Rattle.dv_cli.specs.Outputs.{IsOutputOver}
 use Rattle.dv_cli.specs.Running.{usage_text}
-use Rattle.dv_cli.specs.Tasks.{Answers, Opens, generated_by, load_in}
+use Rattle.dv_cli.specs.Tasks.{Answers, HasLines, Reaches, generated_by, load_in}
 use Rattle.dv_cli.specs.Words.{task_of}
 use Rattle.dv_cli.proofs.Statuses.{causes_of, comes_later, sink_cause}
 use Rattle.dv_cli.proofs.Takes.{status_takes}
+use Rattle.dv_cli.proofs.ClientRuns.{client_output}
+use Rattle.dv_cli.proofs.Tasked.{answers_reach}
 use Rattle.dv_cli.proofs.WholeRuns.{WellOr, Writes, ends_well, fault_is_told, lines_output, rebuilt_output, refused_output, script_output, start_is_served, task_output, told_plainly}
 use Rattle.dv_cli.proofs.WrongWords.{usage_prints, usage_status}
 use Rattle.dv_cli.proofs.Told.{fault_told, told_by}
@@ -44,27 +47,28 @@ module _ (g : given.Over) (c : goal.After-conclude-status g) where
       now.output c.perform-end.result.end c.perform-end.ensures.cause.1.cause c.perform-end.ensures.cause.1.later.2
       c.conclude-status.ensures.later (c.conclude-status.ensures.cause seven)
 
-  well : (lines : List NamedLine) → Answers t g.I.Source.sees.tells (parsed (g.I.Source.sees.left c.args.script.now)) lines
+  well : Reaches t g.I.Source.sees.tells (parsed (g.I.Source.sees.left c.args.script.now))
       → WellOr c.conclude-status.result c.perform-end.result.end before now
-  well lines answers =
-      ends_well c.conclude-status.result before now t g.I.Source.sees.tells (parsed (g.I.Source.sees.left c.args.script.now)) lines
-      c.perform-end.result.end answers c.perform-end.ensures.cause.0 (λ run tells. (c.perform-end.ensures.script run tells).0) comes c.conclude-status.ensures.status sinks
+  well reaches =
+      ends_well c.conclude-status.result before now t g.I.Source.sees.tells (parsed (g.I.Source.sees.left c.args.script.now))
+      c.perform-end.result.end reaches c.perform-end.ensures.cause.0 (λ run tells. (c.perform-end.ensures.script run tells).0) comes c.conclude-status.ensures.status sinks
 
 -- ---- what is answered, written and left
 
 pub returns-clause-runs : goal.returns-clause-runs
-returns-clause-runs g c = λ tells clock_tells settled true_folder lines answers. record {
-  how = c.perform-end.result.end;
-  between = g.O.Sink.sees.taken c.perform-end.new.out;
-  runs = c.perform-end.ensures.runs tells clock_tells settled true_folder lines answers;
-  cause = comes g c;
-  ended = c.conclude-status.ensures.status;
-  concludes = λ told. c.conclude-status.ensures.text told;
-}
+returns-clause-runs g c = λ tells settled true_folder lines answers.
+    readings_give (c.perform-end.ensures.runs tells settled true_folder lines answers) (λ clock small known runs. record {
+      how = c.perform-end.result.end;
+      between = g.O.Sink.sees.taken c.perform-end.new.out;
+      runs = runs;
+      cause = comes g c;
+      ended = c.conclude-status.ensures.status;
+      concludes = λ told. c.conclude-status.ensures.text told;
+    })
 
 pub returns-clause-rebuilds : goal.returns-clause-rebuilds
-returns-clause-rebuilds g c = λ is tells clock_tells settled.
-    let rebuilds = c.perform-end.ensures.rebuilds is tells clock_tells settled in record {
+returns-clause-rebuilds g c = λ is tells settled.
+    let rebuilds = c.perform-end.ensures.rebuilds is tells settled in record {
       how = c.perform-end.result.end;
       rebuilds = rebuilds.1;
       cause = comes g c;
@@ -73,6 +77,17 @@ returns-clause-rebuilds g c = λ is tells clock_tells settled.
           subst (λ (taken : List ℕ). Concludes c.perform-end.result.end c.conclude-status.result taken (g.O.Sink.sees.taken c.conclude-status.new.out))
           (ap g.O.Sink.sees.taken rebuilds.0) (c.conclude-status.ensures.text told);
     }
+
+pub returns-clause-resyncs : goal.returns-clause-resyncs
+returns-clause-resyncs g c = λ client is tells settled true_folder.
+    readings_give (c.perform-end.ensures.resyncs client is tells settled true_folder) (λ clock small known runs. record {
+      how = c.perform-end.result.end;
+      between = g.O.Sink.sees.taken c.perform-end.new.out;
+      runs = runs;
+      cause = comes g c;
+      ended = c.conclude-status.ensures.status;
+      concludes = λ told. c.conclude-status.ensures.text told;
+    })
 
 pub returns-clause-usage : goal.returns-clause-usage
 returns-clause-usage g c = λ none.
@@ -115,23 +130,25 @@ returns-clause-causes g c = (
       c.perform-end.ensures.found (λ run tells. (c.perform-end.ensures.script run tells).0),
 )
 
-pub returns-clause-fault : goal.returns-clause-fault
-returns-clause-fault g c = λ tells lines answers has.
-    fault_is_told c.conclude-status.result (before g c) (now g c) (g.S.Shelf.sees.files c.args.shelf)
-    c.perform-end.result.end (c.perform-end.ensures.found tells) has (well g c lines answers)
-
 pub returns-clause-complete : goal.returns-clause-complete
-returns-clause-complete g c = λ tells lines answers start used starts.
-    start_is_served c.conclude-status.result (before g c) (now g c) (g.C.Clock.sees.upcoming c.args.clock) (g.S.Shelf.sees.files c.args.shelf)
-    start used c.perform-end.result.end (c.perform-end.ensures.found tells) starts (well g c lines answers)
+returns-clause-complete g c = λ tells reaches.
+    let folder = g.S.Shelf.sees.files c.args.shelf in
+    let e = c.perform-end.result.end in
+    let status = c.conclude-status.result in
+    let found = c.perform-end.ensures.found tells in
+    record {
+      fault = λ has. fault_is_told status (before g c) (now g c) folder e found has (well g c reaches);
+      served = λ start used starts.
+          start_is_served status (before g c) (now g c) (g.C.Clock.sees.upcoming c.args.clock) folder start used e found starts (well g c reaches);
+    }
 
 pub returns-clause-readings : goal.returns-clause-readings
-returns-clause-readings g c = λ clock_tells. record {
-  lines = c.perform-end.ensures.readings clock_tells;
-  statuses =
-      status_takes _ _ c.conclude-status.result c.perform-end.result.end c.conclude-status.ensures.status
-      (c.perform-end.ensures.unread clock_tells);
-}
+returns-clause-readings g c = λ clock_tells.
+    let reads = c.perform-end.ensures.readings clock_tells in record {
+      lines = reads.lines;
+      client = reads.client;
+      statuses = status_takes _ _ c.conclude-status.result c.perform-end.result.end c.conclude-status.ensures.status reads.ends;
+    }
 
 -- ---- what it is a function of
 
@@ -164,16 +181,16 @@ module _ (g : given.Over) (c : goal.After-conclude-status g) (out_tells : g.O.Si
 
   lines_told : g.S.Shelf.sees.tells → g.C.Clock.sees.tells
       → Rattle.dv_shelf.specs.Crashes.IsSettled g.S.Shelf.sees c.args.shelf
-      → Rattle.dv_serial.specs.NextRuns.IsTrueFolder (g.S.Shelf.sees.files c.args.shelf) → (lines : List NamedLine)
-      → Answers (t g c) g.I.Source.sees.tells (parsed (g.I.Source.sees.left c.args.script.now)) lines → Opens (t g c)
+      → Rattle.dv_serving.specs.NextRuns.IsTrueFolder (g.S.Shelf.sees.files c.args.shelf) → (lines : List NamedLine)
+      → Answers (t g c) g.I.Source.sees.tells (parsed (g.I.Source.sees.left c.args.script.now)) lines → HasLines (t g c)
       → Writes old new (IsOutputOver (load_in (t g c)) lines (g.C.Clock.sees.upcoming c.args.clock) (g.S.Shelf.sees.files c.args.shelf))
   lines_told tells clock_tells settled true_folder lines answers opens =
       let S = g.S.Shelf in
-      let runs = c.perform-end.ensures.runs tells clock_tells settled true_folder lines answers in
-      lines_output S.sees (g.C.Clock.sees.upcoming c.args.clock) (g.C.Clock.sees.upcoming c.perform-end.result.clock)
+      let runs = told_readings (c.perform-end.ensures.runs tells settled true_folder lines answers) clock_tells in
+      lines_output S.sees g.C.Clock.sees.tells (g.C.Clock.sees.upcoming c.args.clock) (g.C.Clock.sees.upcoming c.perform-end.result.clock)
       (S.sees.fault_count c.args.shelf) (S.sees.fault_count c.perform-end.result.shelf) (t g c) lines g.O.Sink.sees.tells old mid new
       c.args.shelf c.perform-end.result.shelf (λ rose. still (inl rose)) out_tells opens runs.silent
-      e status (before g c) (now g c) (well g c lines answers) still not-four not-seven last runs.runs
+      e status (before g c) (now g c) (well g c (answers_reach (t g c) g.I.Source.sees.tells (parsed (g.I.Source.sees.left c.args.script.now)) lines answers)) still not-four not-seven last runs.runs
 
 pub returns-clause-output : goal.returns-clause-output
 returns-clause-output g c = λ tells clock_tells script_tells out_tells settled true_folder not-four still.
@@ -196,18 +213,23 @@ returns-clause-output g c = λ tells clock_tells script_tells out_tells settled 
     subst (λ (x : Option Task). Writes old new (IsOutputOver (load_in x) lines clock folder)) run
     (lines_told g c out_tells not-four still tells clock_tells settled true_folder lines
     (subst (λ (x : Option Task). Answers x g.I.Source.sees.tells read lines) (sym run) (script_tells, is))
-    (subst Opens (sym run) tt)))
+    (subst HasLines (sym run) tt)))
     (λ fault bad.
     let refused = c.perform-end.ensures.refused run script_tells fault bad in
     refused_output fault (before g c) (now g c) c.conclude-status.result c.perform-end.result.end clock folder old new refused.0 (comes g c) not-four
     (not-seven g c out_tells not-four still) still (only g c out_tells not-four still refused.2)))
     (λ is.
-    let rebuilds = c.perform-end.ensures.rebuilds is tells clock_tells settled in
-    rebuilt_output S.sees clock (g.C.Clock.sees.upcoming c.perform-end.result.clock) c.perform-end.result.end c.perform-end.result.told
-    c.args.shelf c.perform-end.result.shelf c.conclude-status.result (before g c) (now g c) old new rebuilds.1 (comes g c) still not-four (not-seven g c out_tells not-four still)
+    let rebuilds = c.perform-end.ensures.rebuilds is tells settled in
+    rebuilt_output S.sees g.C.Clock.sees.tells clock (g.C.Clock.sees.upcoming c.perform-end.result.clock) c.perform-end.result.end c.perform-end.result.told
+    c.args.shelf c.perform-end.result.shelf c.conclude-status.result (before g c) (now g c) old new clock_tells rebuilds.1 (comes g c) still not-four (not-seven g c out_tells not-four still)
     (only g c out_tells not-four still rebuilds.0))
     (λ load is.
     subst (λ (x : Option Task). Writes old new (IsOutputOver (load_in x) (generated_by load) clock folder)) is
     (lines_told g c out_tells not-four still tells clock_tells settled true_folder (generated_by load)
     (subst (λ (x : Option Task). Answers x g.I.Source.sees.tells read (generated_by load)) (sym is) refl)
-    (subst Opens (sym is) tt)))
+    (subst HasLines (sym is) tt)))
+    (λ client is.
+    let runs = told_readings (c.perform-end.ensures.resyncs client is tells settled true_folder) clock_tells in
+    client_output S.sees g.C.Clock.sees.tells clock (g.C.Clock.sees.upcoming c.perform-end.result.clock) client g.O.Sink.sees.tells
+    old (mid g c out_tells not-four still) new c.args.shelf c.perform-end.result.shelf c.conclude-status.result (before g c) (now g c) out_tells still not-four
+    c.perform-end.result.end runs (comes g c) (last g c out_tells not-four still) (not-seven g c out_tells not-four still))

@@ -2,19 +2,21 @@ use Rattle.std.proofs.Common.{◌≡◌, ◌∙◌, ap, sym, subst, refl, inl, i
 use Rattle.std.specs.Prelude.{None, Some}
 use Rattle.dv_formats.specs.Parsing.{parsed}
 use Rattle.dv_formats.specs.Scripts.{NamedLine}
-use Rattle.dv_serial.specs.Serves.{TakesUpTo}
+use Rattle.dv_serving.specs.Readings.{TakesUpTo}
 use Rattle.dv_script.specs.Opened.{lines_left}
 use Rattle.dv_script.specs.Sources.{ScriptFails}
 use Rattle.dv_cli.specs.Causes.{most_readings}
 use Rattle.dv_cli.specs.declared.ending.End.TheVariants as end
 use Rattle.dv_cli.specs.declared.words.Task.TheVariants as task
-use Rattle.dv_serial.specs.Outputs.{output_of}
+use Rattle.dv_serving.specs.Outputs.{output_of}
 use Rattle.dv_cli.specs.Runs.{RunsOver}
-use Rattle.dv_cli.specs.Spans.{times_of}
-use Rattle.dv_serial.specs.Faults.{faults_of}
+use Rattle.dv_cli.specs.Spans.{times_from}
+use Rattle.dv_serving.specs.Faults.{faults_of}
+use Rattle.dv_serving.proofs.Readings.{any_readings, readings_give}
 use Rattle.dv_cli.proofs.Parsed.{same_lines}
 use Rattle.dv_cli.proofs.Reached.{folder_comes, folder_ends, folder_script, folder_takes, not_refused, read_comes, read_ends, read_faults, read_script, read_takes_none, reads_refused, reads_well}
-use Rattle.dv_cli.proofs.Takes.{run_takes, takes_none}
+use Rattle.dv_cli.proofs.Takes.{run_takes}
+use Rattle.dv_beginning.proofs.Readings.{takes_none}
 use Rattle.dv_cli.proofs.Told.{quiet_at, quiet_ends}
 use Rattle.dv_cli.specs.Told.{TellsEnd}
 use Rattle.dv_cli.proofs.top_call.run_script.Goals as goal
@@ -28,15 +30,16 @@ pub run_folder-requires-clause-few : goal.run_folder-requires-clause-few
 run_folder-requires-clause-few g c = omega (arith, c.in-Ok-open_script.ensures.few, c.in-Ok-open_script.ensures.found.size)
 
 pub returns-in-Ok-open_script-clause-runs : goal.returns-in-Ok-open_script-clause-runs
-returns-in-Ok-open_script-clause-runs g c = λ tells clock_tells script_tells settled true_folder lines is.
+returns-in-Ok-open_script-clause-runs g c = λ tells script_tells settled true_folder lines is.
     let S = g.S.Shelf in
     let C = g.C.Clock in
     let O = g.O.Sink in
     let o = c.run_folder.result in
     let read = parsed (g.I.Source.sees.left c.args.script.now) in
     let says = sym (c.in-Ok.ensures.text script_tells) ∙ sym (ap parsed c.as_slice.ensures) ∙ c.in-Ok-open_script.ensures.lines in
+    readings_give (c.run_folder.ensures.runs tells settled true_folder) (λ clock small told runs.
     inr (subst (λ (ls : List NamedLine). RunsOver S.sees
-    (times_of C.sees c.args.clock o.clock) (faults_of S.sees c.args.shelf o.shelf) None ls o.end (output_of O.sees c.args.out.now c.run_folder.new.out) c.args.shelf o.shelf) (same_lines read _ lines says is) (c.run_folder.ensures.runs tells clock_tells settled true_folder))
+    (times_from C.sees clock o.clock) (faults_of S.sees c.args.shelf o.shelf) None ls o.end (output_of O.sees c.args.out.now c.run_folder.new.out) c.args.shelf o.shelf) (same_lines read _ lines says is) runs))
 
 pub returns-in-Ok-open_script-clause-refused : goal.returns-in-Ok-open_script-clause-refused
 returns-in-Ok-open_script-clause-refused g c = λ script_tells fault bad.
@@ -60,7 +63,7 @@ returns-in-Ok-open_script-clause-cause g c =
 
 pub returns-in-Ok-open_script-clause-ends : goal.returns-in-Ok-open_script-clause-ends
 returns-in-Ok-open_script-clause-ends g c = (
-  folder_ends (Some task.Run) _ _ _ _ c.run_folder.result.end tt refl (λ rose. refl) c.run_folder.ensures.cause.cause,
+  folder_ends (Some task.Run) _ _ _ _ c.run_folder.result.end tt refl (λ rose. tt) c.run_folder.ensures.cause.cause,
   quiet_at c.run_folder.result.end c.run_folder.result.told c.run_folder.ensures.quiet,
 )
 
@@ -80,9 +83,10 @@ returns-in-Ok-open_script-clause-unread g c = λ clock_tells.
 -- ---- a text that isn't read
 
 pub returns-in-Err-clause-runs : goal.returns-in-Err-clause-runs
-returns-in-Err-clause-runs g c = λ tells clock_tells script_tells settled true_folder lines is.
+returns-in-Err-clause-runs g c = λ tells script_tells settled true_folder lines is.
     let good = reads_well (parsed (g.I.Source.sees.left c.args.script.now)) lines c.in-Err.end (c.in-Err.ensures.unread (parsed (g.I.Source.sees.left c.args.script.now))) is in
-    inl (rw c.untouched.ensures.end good, refl, c.untouched.ensures.shelf)
+    any_readings g.C.Clock.sees.tells (g.C.Clock.sees.upcoming c.args.clock) (g.met.C.Clock.readings_small c.args.clock)
+    (λ clock same. inl (rw c.untouched.ensures.end good, refl, c.untouched.ensures.shelf))
 
 pub returns-in-Err-clause-refused : goal.returns-in-Err-clause-refused
 returns-in-Err-clause-refused g c = λ script_tells fault bad. (
@@ -125,10 +129,11 @@ returns-in-Err-clause-unread g c = λ clock_tells.
 -- ---- a script that is refused
 
 pub returns-clause-runs : goal.returns-clause-runs
-returns-clause-runs g c = λ tells clock_tells script_tells settled true_folder lines is.
+returns-clause-runs g c = λ tells script_tells settled true_folder lines is.
     let read = parsed (g.I.Source.sees.left c.args.script.now) in
     let fails = subst (ScriptFails c.in-Err-open_script.end) (ap parsed c.as_slice.ensures ∙ c.in-Ok.ensures.text script_tells) c.in-Err-open_script.ensures.lines in
-    inl (rw c.untouched-in-Err-open_script.ensures.end (reads_well read lines (end.Script c.in-Err-open_script.end) fails is), refl, c.untouched-in-Err-open_script.ensures.shelf)
+    any_readings g.C.Clock.sees.tells (g.C.Clock.sees.upcoming c.args.clock) (g.met.C.Clock.readings_small c.args.clock)
+    (λ clock same. inl (rw c.untouched-in-Err-open_script.ensures.end (reads_well read lines (end.Script c.in-Err-open_script.end) fails is), refl, c.untouched-in-Err-open_script.ensures.shelf))
 
 pub returns-clause-refused : goal.returns-clause-refused
 returns-clause-refused g c = λ script_tells fault bad.

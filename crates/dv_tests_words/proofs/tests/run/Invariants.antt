@@ -6,6 +6,7 @@ ghosts-run_named a = record {
   roll = a.names.roll.table;
   start = record no_log { start = a.mailbox.now; start_mark = record { file_seq = 1; offset = 40 } };
   moment = 0;
+  past = λ moment folder. Unit {0};
   count = 0;
   honest = Unit {0};
 }

@@ -1,4 +1,4 @@
-use Rattle.std.proofs.Common.{◌≡◌, ◌∙◌, List, ap, subst, sym}
+use Rattle.std.proofs.Common.{◌≡◌, ◌∙◌, List, OnErr, ap, subst, sym}
 use Rattle.std.specs.Prelude.{All, count_by}
 use Rattle.std.proofs.lemmas.Result.{IfOk-weaker, on_ok_weaker}
 use Rattle.dv_model.specs.declared.types.Command.TheVariants as command
@@ -6,6 +6,7 @@ use Rattle.dv_model.specs.declared.types.Item.{Item}
 use Rattle.dv_model.specs.declared.types.Shown.{Shown}
 use Rattle.dv_model.specs.Sessions.{data_of, has_uid}
 use Rattle.dv_model.specs.Sets.{named}
+use Rattle.dv_view.specs.Taken.{HasTaken}
 use Rattle.dv_responses.specs.Damaged.{damaged_uids}
 use Rattle.dv_responses.specs.Rows.{IsNumber, rows_at}
 use Rattle.dv_lookups.specs.Commands.{SparesEach}
@@ -69,7 +70,7 @@ returns-clause-most g c =
     subst (λ uids. CountsUpTo (count_by (has_uid c.args.chain.now.live.mailbox) uids) (S.sees.mail_reads c.args.shelf.now) (S.sees.mail_reads c.fetch_rows.new.shelf))
     (ap uids_of all ∙ fetch_reads by_uid set items view c.requires.reads) c.fetch_rows.ensures.most
 
-pub returns-clause-failed : goal.returns-clause-failed
-returns-clause-failed g c = λ told same truth failed.
-    let taken = c.fetch_rows.ensures.failed told same truth failed in
-    (taken.0, taken.1 ∙ ap (λ x. g.R.Replies.with x taken.0) c.make_room.ensures)
+pub returns-clause-replies : goal.returns-clause-replies
+returns-clause-replies g c = λ told same truth.
+    let with = g.R.Replies.with in
+    subst (λ x. OnErr c.fetch_rows.result (HasTaken with x c.fetch_rows.new.lines)) c.make_room.ensures (c.fetch_rows.ensures.replies told same truth)

@@ -63,14 +63,16 @@ loop-number-preserved g c =
       faults = search rules;
     }
 
-pub returns-in_err-fetch_row-clause-failed : goal.returns-in_err-fetch_row-clause-failed
-returns-in_err-fetch_row-clause-failed g c = λ told is true_cache failed.
+pub returns-in_err-fetch_row-clause-replies : goal.returns-in_err-fetch_row-clause-replies
+returns-in_err-fetch_row-clause-replies g c = λ told is true_cache.
     let S = g.S.Shelf in
     let all = rows_at c.args.rows.now c.args.numbers.now in
-    let p = err_from_is_err_and c.from_residual.result c.from_residual.ensures.1 in (
-      lines_of (S.sees.files c.args.shelf.now) c.args.chain.now.live.mailbox c.args.items.now (take c.loop-number.number-index all),
-      c.fetch_row.ensures.failed (passed_on c.from_residual.result c.fetch_row.result c.in_err-fetch_row.field-0.0 p.0 fault.Failed c.in_err-fetch_row.was p.1 p.2 failed) ∙ c.loop-number.invariant.lines told is true_cache,
-    )
+    let p = err_from_is_err_and c.from_residual.result c.from_residual.ensures.1 in
+    rw (p.1)
+    (record {
+      told = lines_of (S.sees.files c.args.shelf.now) c.args.chain.now.live.mailbox c.args.items.now (take c.loop-number.number-index all);
+      is = c.in_err-fetch_row.ensures.err ∙ c.loop-number.invariant.lines told is true_cache;
+    })
 
 pub returns-in_err-fetch_row-clause-most : goal.returns-in_err-fetch_row-clause-most
 returns-in_err-fetch_row-clause-most g c =
