@@ -4,7 +4,8 @@
 Usage: bench/documents.py
 
 Of docs/ARCHITECTURE.md: each crate of crates/ and no other is to stand in crates.txt, in the drawing, in the
-table of the crates and in that of the sizes. The crates of tests in the drawing are those that are named so,
+table of the crates and in that of the sizes. The layers of crates.txt, lowest first, are those of the drawing,
+and a crate stands on others of its own layer or of lower ones. The crates of tests in the drawing are those that are named so,
 with others on which they alone stand. A crate's last column of the first table names exactly what crates.txt
 has; where it ends with "and what they stand on", the others are to be reached from those that it names. In
 the second table the number of edits is that of the crate's files, the lines of code are those of src/ without
@@ -140,6 +141,31 @@ def name_differences(place, names, tree):
         yield f"{place}: there is no {name}"
 
 
+def listed_layers():
+    """The layers of crates.txt, lowest first: their names, each with its crates."""
+    layers = {}
+    for line in (TOP / "crates.txt").read_text().splitlines():
+        name, found, _ = line.partition(":")
+        if line.startswith("# "):
+            crates = layers.setdefault(line[2:], [])
+        elif found:
+            crates.append(name.split()[0])
+    return layers
+
+
+def layer_differences(drawn):
+    layers = listed_layers()
+    below = set()
+    for layer, crates in layers.items():
+        below |= set(crates)
+        for name in crates:
+            for other in sorted(set(listed_crates()[name]) & set(listed_crates()) - below):
+                yield f"crates.txt: {name} of {layer} stands on {other}, which is above it"
+        told = re.search(rf"^    {layer}  .*\n(?:     +.*\n)*", drawn, re.MULTILINE)
+        if sorted(CRATE.findall(told[0] if told else "")) != sorted(crates):
+            yield f"the drawing: {layer} isn't as in crates.txt"
+
+
 def test_differences(tests, tree):
     for name in sorted(tree):
         if name.startswith("dv_tests") and name not in tests:
@@ -197,6 +223,7 @@ def architecture_differences():
     sizes = rows_of(text.partition("\n## Sizes and times\n")[2], 7)
     yield from name_differences("crates.txt", set(listed_crates()), tree)
     yield from name_differences("the drawing", set(CRATE.findall(drawn)), tree)
+    yield from layer_differences(drawn)
     yield from test_differences(set(CRATE.findall(tests)), tree)
     yield from name_differences("the crates", set(table), tree)
     yield from name_differences("the sizes", set(sizes) - {"sum"}, tree)
