@@ -1,0 +1,5 @@
+pub mod Scripts
+pub mod Views
+pub mod Playing
+pub mod Laws
+pub mod Texts
