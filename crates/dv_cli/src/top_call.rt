@@ -201,10 +201,10 @@ fn perform<S: Shelf, I: Source, O: Sink, C: Clock, G: Gate>(
         × IsUntouched shelf result.shelf clock result.clock
         × (out.new ≡ out.old) }
     // What the script and the folder hold is told, and each end has its cause.
-    ensures script { HasScript (task_of (map string_bytes words.now)) → I.sees.tells →
-        TellsScript (parsed_for (task_of (map string_bytes words.now)) (I.sees.left script.old)) result.end
-        × TellsEnd (take read_limit (I.sees.left script.old)) result.end result.told }
-    ensures found { S.sees.tells → TellsFaults (S.sees.files shelf) result.end }
+    ensures found { (S.sees.tells → TellsFaults (S.sees.files shelf) result.end)
+        × (HasScript (task_of (map string_bytes words.now)) → I.sees.tells → TellsScript
+        (parsed_for (task_of (map string_bytes words.now)) (I.sees.left script.old)) result.end
+        × TellsEnd (take read_limit (I.sees.left script.old)) result.end result.told) }
     ensures cause { EndsBy (task_of (map string_bytes words.now)) result.end × HasRunCause
         (counts_of (S.sees.fault_count shelf) (I.sees.fault_count script.old)
         (O.sees.fault_count out.old))

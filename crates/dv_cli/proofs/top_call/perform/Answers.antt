@@ -44,12 +44,15 @@ returns-in-Run-clause-refused g c = λ has script_tells fault bad.
     let refused = c.run_script.ensures.refused script_tells fault (subst (λ (x : Option Task). parsed_for x (g.I.Source.sees.left c.args.script.now) ≡ Err fault) run bad) in
     (refused.1, refused.0, refused.2)
 
-pub returns-in-Run-clause-script : goal.returns-in-Run-clause-script
-returns-in-Run-clause-script g c = λ has script_tells.
-    let t = task_of (map string_bytes c.args.words.now) in
-    let run : t ≡ Some task.Run = sym c.in-Ok.ensures.is ∙ c.in-Some.is ∙ ap Some c.in-Run.is in
-    let says = c.run_script.ensures.script script_tells in
-    (subst (λ (x : Option Task). TellsScript (parsed_for x (g.I.Source.sees.left c.args.script.now)) c.run_script.result.end) (sym run) says.0, says.1)
+pub returns-in-Run-clause-found : goal.returns-in-Run-clause-found
+returns-in-Run-clause-found g c = (
+  c.run_script.ensures.found,
+  λ has script_tells.
+      let t = task_of (map string_bytes c.args.words.now) in
+      let run : t ≡ Some task.Run = sym c.in-Ok.ensures.is ∙ c.in-Some.is ∙ ap Some c.in-Run.is in
+      let says = c.run_script.ensures.script script_tells in
+      (subst (λ (x : Option Task). TellsScript (parsed_for x (g.I.Source.sees.left c.args.script.now)) c.run_script.result.end) (sym run) says.0, says.1),
+)
 
 pub returns-in-Run-clause-cause : goal.returns-in-Run-clause-cause
 returns-in-Run-clause-cause g c =
@@ -165,12 +168,15 @@ returns-in-Watch-clause-refused g c = λ has script_tells fault bad.
     let refused = c.run_script-in-Watch.ensures.refused script_tells fault (subst (λ (x : Option Task). parsed_for x (g.I.Source.sees.left c.args.script.now) ≡ Err fault) watch bad) in
     (refused.1, refused.0, refused.2)
 
-pub returns-in-Watch-clause-script : goal.returns-in-Watch-clause-script
-returns-in-Watch-clause-script g c = λ has script_tells.
-    let t = task_of (map string_bytes c.args.words.now) in
-    let watch : t ≡ Some (task.Watch c.in-Watch.key) = sym c.in-Ok.ensures.is ∙ c.in-Some.is ∙ ap Some c.in-Watch.is in
-    let says = c.run_script-in-Watch.ensures.script script_tells in
-    (subst (λ (x : Option Task). TellsScript (parsed_for x (g.I.Source.sees.left c.args.script.now)) c.run_script-in-Watch.result.end) (sym watch) says.0, says.1)
+pub returns-in-Watch-clause-found : goal.returns-in-Watch-clause-found
+returns-in-Watch-clause-found g c = (
+  c.run_script-in-Watch.ensures.found,
+  λ has script_tells.
+      let t = task_of (map string_bytes c.args.words.now) in
+      let watch : t ≡ Some (task.Watch c.in-Watch.key) = sym c.in-Ok.ensures.is ∙ c.in-Some.is ∙ ap Some c.in-Watch.is in
+      let says = c.run_script-in-Watch.ensures.script script_tells in
+      (subst (λ (x : Option Task). TellsScript (parsed_for x (g.I.Source.sees.left c.args.script.now)) c.run_script-in-Watch.result.end) (sym watch) says.0, says.1),
+)
 
 pub returns-in-Watch-clause-cause : goal.returns-in-Watch-clause-cause
 returns-in-Watch-clause-cause g c =
@@ -236,8 +242,11 @@ returns-in_default-clause-refused g c = λ has script_tells fault bad. (
   refl,
 )
 
-pub returns-in_default-clause-script : goal.returns-in_default-clause-script
-returns-in_default-clause-script g c = λ has script_tells. (rw c.untouched.ensures.end tt, rw (c.untouched.ensures.end, c.untouched.ensures.told) refl)
+pub returns-in_default-clause-found : goal.returns-in_default-clause-found
+returns-in_default-clause-found g c = (
+  λ tells. rw c.untouched.ensures.end tt,
+  λ has script_tells. (rw c.untouched.ensures.end tt, rw (c.untouched.ensures.end, c.untouched.ensures.told) refl),
+)
 
 pub returns-in_default-clause-readings : goal.returns-in_default-clause-readings
 returns-in_default-clause-readings g c = λ clock_tells. record {

@@ -52,7 +52,7 @@ module _ (g : given.Over) (c : goal.After-conclude-status g) where
       → WellOr c.conclude-status.result c.perform-end.result.end before now
   well reaches =
       ends_well c.conclude-status.result before now t g.I.Source.sees.tells (parsed_for t (g.I.Source.sees.left c.args.script.now))
-      c.perform-end.result.end reaches c.perform-end.ensures.cause.0 (λ run tells. (c.perform-end.ensures.script run tells).0) comes c.conclude-status.ensures.status sinks
+      c.perform-end.result.end reaches c.perform-end.ensures.cause.0 (λ run tells. (c.perform-end.ensures.found.1 run tells).0) comes c.conclude-status.ensures.status sinks
 
 -- ---- what is answered, written and left
 
@@ -128,7 +128,7 @@ returns-clause-refused g c = λ has script_tells fault bad.
             subst (λ (taken : List ℕ). Concludes c.perform-end.result.end c.conclude-status.result taken (g.O.Sink.sees.taken c.conclude-status.new.out))
             (ap g.O.Sink.sees.taken refused.2) (c.conclude-status.ensures.text told);
       },
-      fault_told fault c.perform-end.result.end _ c.perform-end.result.told refused.0 (c.perform-end.ensures.script has script_tells).1,
+      fault_told fault c.perform-end.result.end _ c.perform-end.result.told refused.0 (c.perform-end.ensures.found.1 has script_tells).1,
     )
 
 -- ---- what it comes from
@@ -139,7 +139,7 @@ returns-clause-causes g c = (
   causes_of c.conclude-status.result (t g c) (before g c) (now g c)
       (g.S.Shelf.sees.files c.args.shelf) (parsed_for (t g c) (g.I.Source.sees.left c.args.script.now)) g.S.Shelf.sees.tells g.I.Source.sees.tells
       c.perform-end.result.end c.conclude-status.ensures.status c.perform-end.ensures.cause.0 (comes g c) (sinks g c)
-      c.perform-end.ensures.found (λ run tells. (c.perform-end.ensures.script run tells).0),
+      c.perform-end.ensures.found.0 (λ run tells. (c.perform-end.ensures.found.1 run tells).0),
 )
 
 pub returns-clause-complete : goal.returns-clause-complete
@@ -147,7 +147,7 @@ returns-clause-complete g c = λ tells reaches.
     let folder = g.S.Shelf.sees.files c.args.shelf in
     let e = c.perform-end.result.end in
     let status = c.conclude-status.result in
-    let found = c.perform-end.ensures.found tells in
+    let found = c.perform-end.ensures.found.0 tells in
     record {
       fault = λ has. fault_is_told status (before g c) (now g c) folder e found has (well g c reaches);
       served = λ start used starts.

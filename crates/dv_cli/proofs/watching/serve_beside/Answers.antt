@@ -1,4 +1,4 @@
-use Rattle.std.proofs.Common.{ℕ, length, refl, sym, ◌∙◌, ap, subst, arith}
+use Rattle.std.proofs.Common.{◌≡◌, ℕ, length, refl, sym, ◌∙◌, ap, subst, arith}
 use Rattle.std.proofs.lemmas.List.{length-replicate}
 use Rattle.dv_model.specs.declared.types.Key.{Key}
 use Rattle.dv_shelf.specs.Clocks.{behind}
@@ -50,7 +50,9 @@ pub returns-in-Err-clause-runs : goal.returns-in-Err-clause-runs
 returns-in-Err-clause-runs g c = λ tells clock old small begun base later.
     let S = g.S.Shelf in
     let shelf = c.args.store.shelf in
-    rw c.in-Err.ensures (record {
+    let same : c.in-Err.shelf ≡ shelf = ap (λ (p : _ × _). p.0) c.in-Err.ensures.err in
+    let ticks : c.in-Err.clock ≡ c.args.store.clock = ap (λ (p : _ × _). p.1) c.in-Err.ensures.err in
+    rw (same, ticks) (record {
       clock = clock;
       small = small;
       told = λ reads n. refl;
