@@ -1,5 +1,5 @@
 -- How a run ends before its last line.
-use Rattle.std.proofs.Common.{◌≡◌, ℕ, List, Result, Ok, Err, refl, sym, ◌∙◌, subst}
+use Rattle.std.proofs.Common.{◌≡◌, ℕ, List, Result, Ok, Err, sym, ◌∙◌, subst}
 use Rattle.std.specs.Prelude.{IsSome, None, Option, Some}
 use Rattle.dv_model.specs.Counts.{Rose}
 use Rattle.dv_model.specs.declared.types.Key.{Key}

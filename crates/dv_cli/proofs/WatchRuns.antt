@@ -35,7 +35,6 @@ use Rattle.dv_cli.specs.Outputs.{IsOutputBeside, IsWatchOutput, all_served, last
 use Rattle.dv_cli.specs.Running.{answered_text, fault_text}
 use Rattle.dv_cli.specs.Spans.{times_with}
 use Rattle.dv_cli.specs.Watching.{RunsBeside, RunsWatch, ServesBeside, WritesBeside}
-use Rattle.dv_cli.specs.Wholes.{EndsReading}
 use Rattle.dv_cli.proofs.AllServed.{none_of, served_so}
 use Rattle.dv_cli.proofs.Statuses.{none_failed}
 use Rattle.dv_cli.proofs.WholeRuns.{EndsWell, WellOr, Writes, served_play, told_plainly, unread_not_well}

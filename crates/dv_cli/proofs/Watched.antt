@@ -5,13 +5,13 @@ use Rattle.std.proofs.lemmas.List.{take_at}
 use Rattle.std.proofs.lemmas.List.Elements.{All-take}
 use Rattle.dv_model.specs.declared.types.Key.{Key}
 use Rattle.dv_model.specs.declared.types.Mark.{Mark}
+use Rattle.dv_model.specs.Counts.{RoseBy}
 use Rattle.dv_model.specs.Journals.{Log}
 use Rattle.dv_model.specs.Transcripts.{unavailable_count}
 use Rattle.dv_shelf.specs.Causes.{Stayed}
 use Rattle.dv_shelf.specs.Clocks.{behind}
 use Rattle.dv_shelf.specs.Folders.{Folder}
 use Rattle.dv_shelf.specs.Sees.{SeesFolder, SeesTime}
-use Rattle.dv_shelf.specs.Streams.{Appends}
 use Rattle.dv_formats.specs.Scripts.{NamedLine}
 use Rattle.dv_answer.specs.Following.{new_follower}
 use Rattle.dv_playing.specs.Laws.{IsAttempt, MayPlay}
@@ -47,6 +47,10 @@ pub no_text : (clock : ℕ → ℕ) (key : Key) (play : Play) (lines : List Name
 no_text clock key play [] = refl
 no_text clock key play (line ∷ lines) = refl
 
+-- a count that rose by just so much
+rose_so : (n before : ℕ) → RoseBy n before (before + n)
+rose_so n before = omega arith
+
 -- behind each of the answered lines it is what a search gives
 found_behind : (clock : ℕ → ℕ) (start : Log) (base faults : ℕ) (answered : List Attempt) (key : Key) → steady key ≡ true → ToldIsSearched → MayPlay clock start base faults answered
     → (front back : List Attempt) → answered ≡ front ++ back → IsFoundBehind clock start key front
@@ -57,7 +61,7 @@ found_behind clock start base faults answered key follows searched may front bac
       sound = may.sound;
       new = may.new;
       each = subst (All (IsAttempt base)) first (All-take (IsAttempt base) (length front) answered may.each);
-      few = omega arith;
+      few = rose_so count base;
     } in
     let there = searched clock start base (base + count) front key follows front_may in
     record { mailbox = there.0; found = there.1 }

@@ -75,7 +75,8 @@ abbrev pub IsOutputBy : Result (List NamedLine) ScriptFault → (ℕ → ℕ) �
 IsOutputBy (Ok lines) clock folder text = IsOutputOver None lines clock folder text
 IsOutputBy (Err fault) clock folder text = text ≡ script_fault_text fault
 
--- beside a kept search what the key finds stands behind the replies to each line that wrote an entry
+-- beside a kept search what the key finds stands behind the replies to each line that wrote an
+-- entry
 abbrev pub output_beside : (ℕ → ℕ) → Key → Log → List NamedLine → List ℕ
 output_beside clock key start lines =
     lines_text clock key (begin start) lines (all_served lines) ++ last_over clock None start lines

@@ -87,8 +87,8 @@ fn told_of(alloc: Global, text: &[u8], end: ScriptEnd) -> Told
     }
 }
 
-/// Reads the script, and answers its lines in the folder; where there is a key, beside a search with
-/// it that is kept.
+/// Reads the script, and answers its lines in the folder; where there is a key, beside a search
+/// with it that is kept.
 fn run_script<S: Shelf, I: Source, O: Sink, C: Clock, G: Gate>(
     alloc: Global,
     beside: Option<Key>,
@@ -114,7 +114,8 @@ fn run_script<S: Shelf, I: Source, O: Sink, C: Clock, G: Gate>(
         IsUntouched shelf result.shelf clock result.clock
         × EndsRefused fault result.end × (out.new ≡ out.old) }
     // What the script and the folder hold is told, and each end has its cause.
-    ensures script { I.sees.tells → TellsScript (parsed_with beside (I.sees.left script.old)) result.end
+    ensures script { I.sees.tells →
+        TellsScript (parsed_with beside (I.sees.left script.old)) result.end
         × TellsEnd (take read_limit (I.sees.left script.old)) result.end result.told }
     ensures found { S.sees.tells → TellsFaults (S.sees.files shelf) result.end }
     ensures ends { EndsBy (Some (script_task beside)) result.end × IsToldAt result.end result.told }
@@ -215,8 +216,8 @@ fn perform<S: Shelf, I: Source, O: Sink, C: Clock, G: Gate>(
     ensures bound { (I.sees.tells → TakesFront (I.sees.left script.old) (I.sees.left script.new))
         × ((HasScript (task_of (map string_bytes words.now)) → ⊥) → script.new ≡ script.old) }
     ensures readings { C.sees.tells → IsRead (task_of (map string_bytes words.now)) I.sees.tells
-        (parsed_for (task_of (map string_bytes words.now)) (I.sees.left script.old)) result.end (C.sees.upcoming clock)
-        (C.sees.upcoming result.clock) }
+        (parsed_for (task_of (map string_bytes words.now)) (I.sees.left script.old)) result.end
+        (C.sees.upcoming clock) (C.sees.upcoming result.clock) }
 {
     let Ok(task) = task_of(alloc, words) else {
         return untouched(shelf, clock, End::NoMemory, Told::Nothing);
@@ -358,15 +359,15 @@ pub fn run<S: Shelf + Send, I: Source, O: Sink, C: Clock + Send, G: Gate + Sync>
         × IsOutputOf (task_of (map string_bytes words.now)) (I.sees.left script.old)
         (C.sees.upcoming clock) (S.sees.files shelf) text }
 
-    // The script is read for `run` and `watch` alone, and at most one byte more than the longest script is. The
-    // clock is read once at most for a mailbox that is made, and twice at most for each line; not
-    // at all where the words, the script or the folder are refused, and once at most where the disk
-    // fails before the first line.
+    // The script is read for `run` and `watch` alone, and at most one byte more than the longest
+    // script is. The clock is read once at most for a mailbox that is made, and twice at most for
+    // each line; not at all where the words, the script or the folder are refused, and once at most
+    // where the disk fails before the first line.
     ensures bound { (I.sees.tells → TakesFront (I.sees.left script.old) (I.sees.left script.new))
         × ((HasScript (task_of (map string_bytes words.now)) → ⊥) → script.new ≡ script.old) }
     ensures readings { C.sees.tells → IsTimed (task_of (map string_bytes words.now)) I.sees.tells
-        (parsed_for (task_of (map string_bytes words.now)) (I.sees.left script.old)) result.status (C.sees.upcoming clock)
-        (C.sees.upcoming result.clock) }
+        (parsed_for (task_of (map string_bytes words.now)) (I.sees.left script.old)) result.status
+        (C.sees.upcoming clock) (C.sees.upcoming result.clock) }
 {
     let Outcome {
         end,

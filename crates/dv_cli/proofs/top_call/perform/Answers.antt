@@ -1,4 +1,4 @@
-use Rattle.std.proofs.Common.{◌≡◌, ◌∙◌, inl, inr, ⊎_elim, ap, sym, subst, refl, ℕ, List, map}
+use Rattle.std.proofs.Common.{◌≡◌, ◌∙◌, inl, inr, ⊎_elim, ap, sym, subst, refl, List, map}
 use Rattle.std.specs.Prelude.{Err, Option, Some, string_bytes}
 use Rattle.dv_model.specs.declared.types.Key.{Key}
 use Rattle.dv_formats.specs.Scripts.{NamedLine}

@@ -8,7 +8,6 @@ use Rattle.dv_serving.specs.Readings.{AtReadings}
 use Rattle.dv_serial.specs.Following.{origin_of}
 use Rattle.dv_serial.specs.Servings.{Serving}
 use Rattle.dv_watching.specs.Watching.{IsBeside, Watches}
-use Rattle.dv_cli.proofs.Served.{end_cause, ends_serving}
 use Rattle.dv_cli.proofs.Watched.{none_beside, watches_all}
 use Rattle.dv_cli.proofs.watching.serve_beside.Goals as goal
 
