@@ -1,4 +1,4 @@
-use Rattle.std.proofs.Common.{◌≡◌, ◌∙◌, inl, inr, ⊎_elim, ap, sym, subst, refl, List, map}
+use Rattle.std.proofs.Common.{◌≡◌, ◌∙◌, inl, inr, ⊎_elim, ap, sym, subst, refl, List, length, map}
 use Rattle.std.specs.Prelude.{Err, Option, Some, string_bytes}
 use Rattle.dv_model.specs.declared.types.Key.{Key}
 use Rattle.dv_formats.specs.Scripts.{NamedLine}
@@ -7,7 +7,8 @@ use Rattle.dv_beginning.proofs.Readings.{takes_none}
 use Rattle.dv_cli.specs.declared.words.Task.{Task}
 use Rattle.dv_cli.specs.declared.words.Task.TheVariants as task
 use Rattle.dv_serving.specs.Outputs.{output_of, output_with}
-use Rattle.dv_cli.specs.Causes.{TellsScript}
+use Rattle.dv_serving.specs.Readings.{TakesUpTo}
+use Rattle.dv_cli.specs.Causes.{TellsScript, most_readings}
 use Rattle.dv_cli.specs.Resyncing.{AnswersClient}
 use Rattle.dv_cli.specs.Spans.{times_from}
 use Rattle.dv_serving.specs.Faults.{faults_of}
@@ -16,6 +17,8 @@ use Rattle.dv_cli.specs.Tasks.{EndsBy, HasScript, generated_by, parsed_for}
 use Rattle.dv_cli.specs.Watching.{RunsWatch}
 use Rattle.dv_cli.specs.Wholes.{RunsTask}
 use Rattle.dv_cli.specs.Words.{IsResync, task_of}
+use Rattle.dv_cli.proofs.Reached.{folder_takes}
+use Rattle.dv_cli.proofs.Takes.{run_takes}
 use Rattle.dv_cli.proofs.Untold.{ran}
 use Rattle.dv_cli.proofs.Tasked.{client_one, key_one, lacks, lacks_script, lacks_usage, seen}
 use Rattle.dv_cli.proofs.Watched.{beside_runs}
@@ -111,6 +114,22 @@ returns-in-Generate-clause-runs g c = λ tells settled is_true lines answers.
     (subst (λ (ls : List NamedLine). RunsTask S.sees (times_from C.sees clock o.clock) (faults_of S.sees c.args.shelf o.shelf)
     (Some (task.Generate load)) ls o.end (output_with O.sees.tells taken taken) c.args.shelf o.shelf) (sym same)
     (record { runs = inr run; loads = λ none. run; silent = λ none. refl })))
+
+pub returns-in-Generate-clause-readings : goal.returns-in-Generate-clause-readings
+returns-in-Generate-clause-readings g c = λ clock_tells.
+    let t = task_of (map string_bytes c.args.words.now) in
+    let load = c.in-Generate.load in
+    let is : t ≡ Some (task.Generate load) = sym c.in-Ok.ensures.is ∙ c.in-Some.is ∙ ap Some c.in-Generate.is in
+    let old = g.C.Clock.sees.upcoming c.args.clock in
+    let new = g.C.Clock.sees.upcoming c.run_load.result.clock in
+    let reads = c.run_load.ensures.readings clock_tells in
+    record {
+      lines = λ ls answers.
+          let same : ls ≡ generated_by load = seen t g.I.Source.sees.tells (g.I.Source.sees.left c.args.script.now) ls (Some (task.Generate load)) is answers in
+          subst (λ (l : List NamedLine). TakesUpTo (most_readings (length l)) old new) (sym same) (run_takes (length (generated_by load)) old new c.run_load.result.end reads);
+      client = λ client resync. absurd (subst IsResync (sym resync ∙ is) tt);
+      ends = folder_takes _ _ _ _ _ _ _ c.run_load.result.end c.run_load.ensures.cause.cause reads;
+    }
 
 -- ---- a client is answered
 

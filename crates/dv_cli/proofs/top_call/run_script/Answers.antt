@@ -127,15 +127,15 @@ returns-in-Err-clause-unread g c = λ clock_tells.
 
 -- ---- a script that is refused
 
-pub returns-clause-runs : goal.returns-clause-runs
-returns-clause-runs g c = λ tells script_tells settled true_folder lines is.
+pub returns-in-Err-open_with-clause-runs : goal.returns-in-Err-open_with-clause-runs
+returns-in-Err-open_with-clause-runs g c = λ tells script_tells settled true_folder lines is.
     let read = parsed_with c.args.beside (g.I.Source.sees.left c.args.script.now) in
     let fails = subst (ScriptFails c.in-Err-open_with.end) (ap (parsed_with c.args.beside) c.as_slice.ensures ∙ c.in-Ok.ensures.text script_tells c.args.beside) c.in-Err-open_with.ensures.lines in
     any_readings g.C.Clock.sees.tells (g.C.Clock.sees.upcoming c.args.clock) (g.met.C.Clock.readings_small c.args.clock)
     (λ clock same. inl (rw c.untouched-in-Err-open_with.ensures.end (reads_well read lines (end.Script c.in-Err-open_with.end) fails is), refl, c.untouched-in-Err-open_with.ensures.shelf))
 
-pub returns-clause-refused : goal.returns-clause-refused
-returns-clause-refused g c = λ script_tells fault bad.
+pub returns-in-Err-open_with-clause-refused : goal.returns-in-Err-open_with-clause-refused
+returns-in-Err-open_with-clause-refused g c = λ script_tells fault bad.
     let read = parsed_with c.args.beside (g.I.Source.sees.left c.args.script.now) in
     let fails = subst (ScriptFails c.in-Err-open_with.end) (ap (parsed_with c.args.beside) c.as_slice.ensures ∙ c.in-Ok.ensures.text script_tells c.args.beside) c.in-Err-open_with.ensures.lines in (
       record { shelf = c.untouched-in-Err-open_with.ensures.shelf; clock = c.untouched-in-Err-open_with.ensures.clock },
@@ -143,30 +143,30 @@ returns-clause-refused g c = λ script_tells fault bad.
       refl,
     )
 
-pub returns-clause-script : goal.returns-clause-script
-returns-clause-script g c = λ script_tells.
+pub returns-in-Err-open_with-clause-script : goal.returns-in-Err-open_with-clause-script
+returns-in-Err-open_with-clause-script g c = λ script_tells.
     let read = parsed_with c.args.beside (g.I.Source.sees.left c.args.script.now) in
     let fails = subst (ScriptFails c.in-Err-open_with.end) (ap (parsed_with c.args.beside) c.as_slice.ensures ∙ c.in-Ok.ensures.text script_tells c.args.beside) c.in-Err-open_with.ensures.lines in
     let line = subst (λ (l : List ℕ). TellsEnd l (end.Script c.in-Err-open_with.end) c.told_of-told.result) (c.as_slice-in-Err-open_with.ensures ∙ c.in-Ok.ensures.front script_tells) c.told_of-told.ensures.line in
     (rw c.untouched-in-Err-open_with.ensures.end fails, rw (c.untouched-in-Err-open_with.ensures.end, c.untouched-in-Err-open_with.ensures.told) line)
 
-pub returns-clause-found : goal.returns-clause-found
-returns-clause-found g c = λ tells. rw c.untouched-in-Err-open_with.ensures.end tt
+pub returns-in-Err-open_with-clause-found : goal.returns-in-Err-open_with-clause-found
+returns-in-Err-open_with-clause-found g c = λ tells. rw c.untouched-in-Err-open_with.ensures.end tt
 
-pub returns-clause-cause : goal.returns-clause-cause
-returns-clause-cause g c =
+pub returns-in-Err-open_with-clause-cause : goal.returns-in-Err-open_with-clause-cause
+returns-in-Err-open_with-clause-cause g c =
     rw (c.untouched-in-Err-open_with.ensures.end, c.untouched-in-Err-open_with.ensures.shelf) (record {
       later = (omega arith, c.in-Ok.ensures.later, omega arith);
       cause = tt;
     })
 
-pub returns-clause-ends : goal.returns-clause-ends
-returns-clause-ends g c = (rw c.untouched-in-Err-open_with.ensures.end (script_reads c.args.beside), rw (c.untouched-in-Err-open_with.ensures.end, c.untouched-in-Err-open_with.ensures.told) c.told_of-told.ensures.at)
+pub returns-in-Err-open_with-clause-ends : goal.returns-in-Err-open_with-clause-ends
+returns-in-Err-open_with-clause-ends g c = (rw c.untouched-in-Err-open_with.ensures.end (script_reads c.args.beside), rw (c.untouched-in-Err-open_with.ensures.end, c.untouched-in-Err-open_with.ensures.told) c.told_of-told.ensures.at)
 
-pub returns-clause-readings : goal.returns-clause-readings
-returns-clause-readings g c = λ clock_tells script_tells lines is.
+pub returns-in-Err-open_with-clause-readings : goal.returns-in-Err-open_with-clause-readings
+returns-in-Err-open_with-clause-readings g c = λ clock_tells script_tells lines is.
     takes_none _ _ _ (ap g.C.Clock.sees.upcoming c.untouched-in-Err-open_with.ensures.clock)
 
-pub returns-clause-unread : goal.returns-clause-unread
-returns-clause-unread g c = λ clock_tells.
+pub returns-in-Err-open_with-clause-unread : goal.returns-in-Err-open_with-clause-unread
+returns-in-Err-open_with-clause-unread g c = λ clock_tells.
     rw c.untouched-in-Err-open_with.ensures.end (ap g.C.Clock.sees.upcoming c.untouched-in-Err-open_with.ensures.clock)
