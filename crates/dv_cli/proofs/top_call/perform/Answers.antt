@@ -128,7 +128,7 @@ returns-in-Generate-clause-readings g c = λ clock_tells.
           let same : ls ≡ generated_by load = seen t g.I.Source.sees.tells (g.I.Source.sees.left c.args.script.now) ls (Some (task.Generate load)) is answers in
           subst (λ (l : List NamedLine). TakesUpTo (most_readings (length l)) old new) (sym same) (run_takes (length (generated_by load)) old new c.run_load.result.end reads);
       client = λ client resync. absurd (subst IsResync (sym resync ∙ is) tt);
-      ends = folder_takes _ _ _ _ _ _ _ c.run_load.result.end c.run_load.ensures.cause.cause reads;
+      ends = folder_takes _ _ 0 0 _ _ _ c.run_load.result.end c.run_load.ensures.cause.cause reads;
     }
 
 -- ---- a client is answered

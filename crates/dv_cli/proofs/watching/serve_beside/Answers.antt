@@ -8,6 +8,7 @@ use Rattle.dv_serving.specs.Readings.{AtReadings}
 use Rattle.dv_serial.specs.Following.{origin_of}
 use Rattle.dv_serial.specs.Servings.{Serving}
 use Rattle.dv_watching.specs.Watching.{IsBeside, Watches}
+use Rattle.dv_beginning.proofs.Readings.{takes_none}
 use Rattle.dv_cli.proofs.Watched.{none_beside, watches_all}
 use Rattle.dv_cli.proofs.watching.serve_beside.Goals as goal
 
@@ -17,16 +18,16 @@ begin-requires-clause-steady g c = c.requires.kept.follows
 pub begin-requires-clause-shallow : goal.begin-requires-clause-shallow
 begin-requires-clause-shallow g c = c.requires.kept.shallow
 
-pub watch_lines-requires-clause-seats : goal.watch_lines-requires-clause-seats
-watch_lines-requires-clause-seats g c =
+pub watch_lines-served-requires-clause-seats : goal.watch_lines-served-requires-clause-seats
+watch_lines-served-requires-clause-seats g c =
     ap (λ (s : Serving _ _). length s.seats) c.in-Ok.ensures.sessions ∙ length-replicate c.args.sessions new_follower ∙ c.requires.sessions
 
-pub watch_lines-requires-clause-beside : goal.watch_lines-requires-clause-beside
-watch_lines-requires-clause-beside g c =
+pub watch_lines-served-requires-clause-beside : goal.watch_lines-served-requires-clause-beside
+watch_lines-served-requires-clause-beside g c =
     subst (λ (k : Key). IsBeside k c.in-Ok.serial c.in-Ok.saved) (sym c.in-Ok.ensures.beside.key) c.in-Ok.ensures.beside
 
-pub watch_lines-requires-clause-room : goal.watch_lines-requires-clause-room
-watch_lines-requires-clause-room g c = omega (arith, ap (λ (s : Serving _ _). s.groups) c.in-Ok.ensures.sessions, c.requires.few)
+pub watch_lines-served-requires-clause-room : goal.watch_lines-served-requires-clause-room
+watch_lines-served-requires-clause-room g c = omega (arith, ap (λ (s : Serving _ _). s.groups) c.in-Ok.ensures.sessions, c.requires.few)
 
 pub returns-in-Ok-clause-runs : goal.returns-in-Ok-clause-runs
 returns-in-Ok-clause-runs g c = λ tells clock old small begun base later.
@@ -58,3 +59,7 @@ returns-in-Err-clause-runs g c = λ tells clock old small begun base later.
       holds = none_beside S.sees g.C.Clock.sees clock old c.args.store begun base c.args.key c.requires.kept.follows c.told_is_searched.ensures (g.L.Lines.left c.args.lines.now) g.O.Sink.sees.tells (g.O.Sink.sees.taken c.args.out.now) (S.sees.fault_count shelf) later
           (g.met.S.Shelf.leaves_files shelf tells) (λ f left. g.met.S.Shelf.only_now shelf f tells left);
     })
+
+pub returns-in-Err-clause-readings : goal.returns-in-Err-clause-readings
+returns-in-Err-clause-readings g c = λ timed.
+    takes_none _ _ _ (ap (λ (p : _ × _). g.C.Clock.sees.upcoming p.1) c.in-Err.ensures.err)
