@@ -59,7 +59,8 @@ fn tell<O: Sink>(alloc: Global, live: &Live, place: Mark, client: &Old, out: &mu
         (O.sees.taken out.old) (O.sees.taken out.new) }
     ensures ends { EndsBehind place result }
     ensures later { O.sees.fault_count out.old ≤ O.sees.fault_count out.new }
-    ensures cause { result ≡ end.Sink → Rose (O.sees.fault_count out.old) (O.sees.fault_count out.new) }
+    ensures cause { result ≡ end.Sink →
+        Rose (O.sees.fault_count out.old) (O.sees.fault_count out.new) }
 {
     let Ok(pieces) = text_for(alloc, live, client) else {
         return CatchEnd::NoMemory;

@@ -17,7 +17,7 @@ parted : (b : Bool) (n : ℕ) → cond b 1 0 + n ≡ 0 → (b ≡ false) × (n �
 parted true n is = absurd (omega (arith, is))
 parted false n is = (refl, omega (arith, is))
 
-none_of : {X : Type 0} (p : X → Bool) (x : X) (xs : List X) → count_by p (x ∷ xs) ≡ 0
+pub none_of : {X : Type 0} (p : X → Bool) (x : X) (xs : List X) → count_by p (x ∷ xs) ≡ 0
     → (p x ≡ false) × (count_by p xs ≡ 0)
 none_of p x xs is = parted (p x) (count_by p xs) (sym (sum_by-cons (λ y. cond (p y) 1 0) x xs) ∙ is)
 

@@ -9,6 +9,8 @@ mod Folders
 mod Parsed
 mod WholeRuns
 mod ClientRuns
+mod Watched
+mod WatchRuns
 mod WrongWords
 mod Reached
 mod FoundTold

@@ -1,7 +1,8 @@
 -- How a run ends before its last line.
-use Rattle.std.proofs.Common.{◌≡◌, ℕ, List, Result, Ok, Err, refl, sym, ◌∙◌, subst}
-use Rattle.std.specs.Prelude.{IsSome, Option, Some}
+use Rattle.std.proofs.Common.{◌≡◌, ℕ, List, Result, Ok, Err, sym, ◌∙◌, subst}
+use Rattle.std.specs.Prelude.{IsSome, None, Option, Some}
 use Rattle.dv_model.specs.Counts.{Rose}
+use Rattle.dv_model.specs.declared.types.Key.{Key}
 use Rattle.dv_model.specs.declared.types.OpenFault.{OpenFault}
 use Rattle.dv_model.specs.declared.types.OpenFault.TheVariants as fault
 use Rattle.dv_shelf.specs.Folders.{Folder}
@@ -10,9 +11,8 @@ use Rattle.dv_formats.specs.Scripts.{NamedLine}
 use Rattle.dv_script.specs.Sources.{ScriptFails}
 use Rattle.dv_script.specs.declared.types.ScriptEnd.{ScriptEnd}
 use Rattle.dv_script.specs.declared.types.ScriptEnd.TheVariants as script
-use Rattle.dv_cli.specs.Tasks.{EndsBy, HasAnswers, Opens}
+use Rattle.dv_cli.specs.Tasks.{EndsBy, HasAnswers, HasScript, Opens, script_task}
 use Rattle.dv_cli.specs.declared.words.Task.{Task}
-use Rattle.dv_cli.specs.declared.words.Task.TheVariants as task
 use Rattle.dv_cli.specs.declared.ending.End.{End}
 use Rattle.dv_cli.specs.declared.ending.End.TheVariants as end
 use Rattle.dv_cli.specs.Causes.{ComesFrom, EndsRefused, FolderCause, IsReadEnd, ScriptEnds, TakesByEnd, TakesForRun, TellsFaults, TellsScript, counts_of}
@@ -175,18 +175,32 @@ folder_ends t shelf shelf_now out out_now (end.Answered mark groups loaded) open
 folder_ends t shelf shelf_now out out_now (end.Rebuilt kept skipped) opens some sink cause = absurd cause
 folder_ends t shelf shelf_now out out_now end.Usage opens some sink cause = absurd cause
 folder_ends t shelf shelf_now out out_now (end.Unopened f) opens some sink cause = (some, λ is. opens)
-folder_ends t shelf shelf_now out out_now end.NoMemory opens some sink cause = some
+folder_ends t shelf shelf_now out out_now end.NoMemory opens some sink cause = tt
 folder_ends t shelf shelf_now out out_now (end.Script s) opens some sink cause = absurd cause
 folder_ends t shelf shelf_now out out_now (end.Source faults) opens some sink cause = absurd cause
 folder_ends t shelf shelf_now out out_now end.Sink opens some sink cause = sink cause
 
--- a script that isn't served is read to be run
-pub read_ends : (before now : ℕ) (e : End) → IsReadEnd e before now → EndsBy (Some task.Run) e
-read_ends before now (end.Answered mark groups loaded) is = absurd is
-read_ends before now (end.Rebuilt kept skipped) is = absurd is
-read_ends before now end.Usage is = absurd is
-read_ends before now (end.Unopened f) is = absurd is
-read_ends before now end.NoMemory is = refl
-read_ends before now (end.Script s) is = refl
-read_ends before now (end.Source faults) is = refl
-read_ends before now end.Sink is = absurd is
+-- a script that isn't served is that of a task which reads one
+pub read_ends : (t : Option Task) (before now : ℕ) (e : End) → HasScript t → IsReadEnd e before now → EndsBy t e
+read_ends t before now (end.Answered mark groups loaded) has is = absurd is
+read_ends t before now (end.Rebuilt kept skipped) has is = absurd is
+read_ends t before now end.Usage has is = absurd is
+read_ends t before now (end.Unopened f) has is = absurd is
+read_ends t before now end.NoMemory has is = tt
+read_ends t before now (end.Script s) has is = has
+read_ends t before now (end.Source faults) has is = has
+read_ends t before now end.Sink has is = absurd is
+
+-- ---- the task that reads a script, beside a search or none
+
+pub script_opens : (beside : Option Key) → Opens (Some (script_task beside))
+script_opens None = tt
+script_opens (Some key) = tt
+
+pub script_answers : (beside : Option Key) → HasAnswers (Some (script_task beside))
+script_answers None = tt
+script_answers (Some key) = tt
+
+pub script_reads : (beside : Option Key) → HasScript (Some (script_task beside))
+script_reads None = tt
+script_reads (Some key) = tt

@@ -279,6 +279,12 @@ module _ {S C : Type 0} (sees : SeesFolder S) (ticks : SeesTime C) (clock : ℕ 
           settled = λ stayed. runs.settled (stays stayed) begun.settled;
         }
 
+    -- what holds of these lines holds of those that it tells
+    pub serves_with : (P : ℕ → Log → List Attempt → List Attempt → Type 0) → P begun.used start runs.answered runs.left
+        → P serves_lines.used serves_lines.start serves_lines.answered serves_lines.left
+    unfolding serves_lines
+    serves_with P holds = holds
+
   -- ---- no line was
 
   module _ (faults : ℕ) (later : base ≤ faults) (lines : List NamedLine) (told : Type 0) (taken : List ℕ) (there : sees.may_leave store.shelf (sees.files store.shelf))
@@ -320,6 +326,12 @@ module _ {S C : Type 0} (sees : SeesFolder S) (ticks : SeesTime C) (clock : ℕ 
       next = leaves_next sees time start [] old store.shelf there start_kept begun.since;
       settled = λ stayed. begun.settled;
     }
+
+    -- what holds of none holds of those that it tells
+    pub none_with : (P : ℕ → Log → List Attempt → List Attempt → Type 0) → P begun.used start [] []
+        → P serves_none.used serves_none.start serves_none.answered serves_none.left
+    unfolding serves_none
+    none_with P holds = holds
 
 -- ---- the play begins with new sessions
 

@@ -1,6 +1,6 @@
 -- Which end a status comes from.
 use Rattle.std.proofs.Common.{◌≡◌, ◌⊎◌, inl, inr, ℕ, zero, suc, ◌≤◌, List, Result, Err, refl, sym, ◌∙◌, subst, arith}
-use Rattle.std.specs.Prelude.{Option, Some, None}
+use Rattle.std.specs.Prelude.{Option, None}
 use Rattle.dv_model.specs.declared.types.OpenFault.{OpenFault}
 use Rattle.dv_model.specs.declared.types.OpenFault.TheVariants as fault
 use Rattle.dv_model.specs.Counts.{Rose, RoseBy}
@@ -13,10 +13,9 @@ use Rattle.dv_cli.specs.declared.ending.End.{End}
 use Rattle.dv_cli.specs.declared.ending.End.TheVariants as end
 use Rattle.dv_cli.specs.Causes.{ComesFrom, Counts, HasCauses, TellsFaults, TellsScript, counts_of}
 use Rattle.dv_cli.specs.declared.words.Task.{Task}
-use Rattle.dv_cli.specs.declared.words.Task.TheVariants as task
 use Rattle.dv_cli.specs.Endings.{IsStatus, status_of}
 use Rattle.dv_beginning.specs.Causes.{HasFault, IsFault, fault_status}
-use Rattle.dv_cli.specs.Tasks.{EndsBy, Opens}
+use Rattle.dv_cli.specs.Tasks.{EndsBy, HasScript, Opens}
 
 -- ---- counts
 
@@ -92,9 +91,9 @@ opened_end t (end.Script s) by is = let r = script_range s in absurd (omega (ari
 opened_end t (end.Source faults) by is = absurd (omega (arith, is))
 opened_end t end.Sink by is = absurd (omega (arith, is))
 
--- a script that is refused or couldn't be read is that of a run
+-- a script that is refused or couldn't be read is that of a task which reads one
 read_end : (t : Option Task) (e : End) → EndsBy t e → 5 ≤ status_of e → status_of e ≤ 6
-    → t ≡ Some task.Run
+    → HasScript t
 read_end t (end.Answered mark groups loaded) by ge le = absurd (omega (arith, ge))
 read_end t (end.Rebuilt kept skipped) by ge le = absurd (omega (arith, ge))
 read_end t end.Usage by ge le = absurd (omega (arith, ge))
@@ -216,7 +215,7 @@ pub causes_of : (status : ℕ) (t : Option Task) (before now : Counts)
     (folder : Folder) (read : Result (List NamedLine) ScriptFault) (holds told : Type 0) (e : End)
     → IsStatus e status → EndsBy t e → ComesFrom before now e
     → (status ≡ 7 → Rose before.output now.output) → (holds → TellsFaults folder e)
-    → (t ≡ Some task.Run → told → TellsScript read e)
+    → (HasScript t → told → TellsScript read e)
     → HasCauses status t before now (holds → HasFault folder)
     (told → (fault : ScriptFault) × (read ≡ Err fault))
 causes_of status t before now folder read holds told e is by cause sink faults lines =

@@ -2,6 +2,7 @@
 use Rattle.std.proofs.Common.{◌≡◌, ◌⊎◌, inl, inr, ℕ, List, [], ◌++◌, length, map, Result, Ok, Err, refl, sym, ◌∙◌, ap, subst, append_assoc}
 use Rattle.std.specs.Prelude.{Option, Some, None}
 use Rattle.std.proofs.lemmas.List.{append-nil}
+use Rattle.dv_model.specs.declared.types.Key.{Key}
 use Rattle.dv_model.specs.declared.types.Mark.{Mark}
 use Rattle.dv_model.specs.declared.types.OpenFault.{OpenFault}
 use Rattle.dv_model.specs.declared.types.OpenFault.TheVariants as fault
@@ -14,6 +15,7 @@ use Rattle.dv_shelf.specs.Folders.{Folder}
 use Rattle.dv_shelf.specs.Streams.{Appends}
 use Rattle.dv_formats.specs.Parsing.{ScriptFault, parsed}
 use Rattle.dv_formats.specs.Scripts.{NamedLine}
+use Rattle.dv_script.specs.Beside.{parsed_beside}
 use Rattle.dv_script.specs.Sources.{ScriptFails}
 use Rattle.dv_script.specs.declared.types.ScriptEnd.{ScriptEnd}
 use Rattle.dv_script.specs.declared.types.ScriptEnd.TheVariants as script
@@ -39,12 +41,12 @@ use Rattle.dv_rebuild.specs.declared.rebuilding.Rebuilt.{Rebuilt}
 use Rattle.dv_rebuild.specs.Rebuilding.{LeavesRebuilt}
 use Rattle.dv_cli.specs.Rebuilding.{RebuildsFolder, rebuilt_end}
 use Rattle.dv_notices.specs.declared.telling.Told.{Told}
-use Rattle.dv_cli.specs.Outputs.{IsOutputBy, IsOutputOf, IsOutputOver, IsOutputTo, IsRebuiltOutput, all_served, last_over, output_over, replies_over, script_fault_text, served}
+use Rattle.dv_cli.specs.Outputs.{IsOutputBy, IsOutputOf, IsOutputOver, IsOutputTo, IsRebuiltOutput, IsWatchOutput, all_served, last_over, output_over, replies_over, script_fault_text, served}
 use Rattle.dv_cli.specs.Running.{answered_text, fault_text, rebuilt_text, usage_text}
 use Rattle.dv_cli.specs.Runs.{RunsOver, ServesLines, WritesLines}
 use Rattle.dv_beginning.specs.Leaving.{LeavesUnopened}
 use Rattle.dv_beginning.specs.Starts.{Starts}
-use Rattle.dv_cli.specs.Tasks.{EndsBy, HasLines, HasScript, Reaches, RepliesTold, generated_by, load_in}
+use Rattle.dv_cli.specs.Tasks.{EndsBy, HasReplies, HasScript, Reaches, RepliesTold, generated_by, load_in}
 use Rattle.dv_cli.specs.Wholes.{EndsReading, IsUnread}
 use Rattle.dv_cli.proofs.AllServed.{all_served_so}
 use Rattle.dv_beginning.proofs.FoundStarts.{faults_one, starts_faultless, starts_one}
@@ -88,18 +90,28 @@ script_well status before now read lines (script.ShortLiteral line) good tells i
     absurd (good_script read lines _ good tells)
 script_well status before now read lines script.NoMemory good tells is = inr (inl is)
 
--- a script that is refused is that of a run
+-- a task that reads a script and comes to its folder has a good one
+reads_good : (t : Option Task) (told : Type 0) (read : Result (List NamedLine) ScriptFault)
+    → HasScript t → Reaches t told read → told × (lines : List NamedLine) × (read ≡ Ok lines)
+reads_good (Some task.Run) told read has reaches = reaches
+reads_good (Some (task.Watch key)) told read has reaches = reaches
+reads_good (Some task.Rebuild) told read has reaches = absurd has
+reads_good (Some (task.Generate load)) told read has reaches = absurd has
+reads_good (Some (task.Resync client)) told read has reaches = absurd has
+reads_good None told read has reaches = absurd has
+
+-- a script that is refused is that of such a task
 refused_well : (status : ℕ) (before now : Counts) (t : Option Task) (told : Type 0)
     (read : Result (List NamedLine) ScriptFault) (s : ScriptEnd)
-    → Reaches t told read → t ≡ Some task.Run → (t ≡ Some task.Run → told → TellsScript read (end.Script s))
+    → Reaches t told read → HasScript t → (HasScript t → told → TellsScript read (end.Script s))
     → status ≡ status_of (end.Script s) → WellOr status (end.Script s) before now
 refused_well status before now t told read s reaches run tells is =
-    let has = subst (λ (x : Option Task). Reaches x told read) run reaches in
+    let has = reads_good t told read run reaches in
     script_well status before now read has.1 s has.2 (tells run has.0) is
 
 own_status : (status : ℕ) (before now : Counts) (t : Option Task) (told : Type 0)
     (read : Result (List NamedLine) ScriptFault) (e : End)
-    → Reaches t told read → EndsBy t e → (t ≡ Some task.Run → told → TellsScript read e)
+    → Reaches t told read → EndsBy t e → (HasScript t → told → TellsScript read e)
     → ComesFrom before now e → status ≡ status_of e → WellOr status e before now
 own_status status before now t told read (end.Answered mark groups loaded) reaches by tells cause is = inl (is, tt)
 own_status status before now t told read (end.Rebuilt kept skipped) reaches by tells cause is =
@@ -118,7 +130,7 @@ own_status status before now t told read end.Sink reaches by tells cause is =
 
 pub ends_well : (status : ℕ) (before now : Counts) (t : Option Task) (told : Type 0)
     (read : Result (List NamedLine) ScriptFault) (e : End)
-    → Reaches t told read → EndsBy t e → (t ≡ Some task.Run → told → TellsScript read e)
+    → Reaches t told read → EndsBy t e → (HasScript t → told → TellsScript read e)
     → ComesFrom before now e → IsStatus e status → (status ≡ 7 → Rose before.output now.output)
     → WellOr status e before now
 ends_well status before now t told read e reaches by tells cause (inl is) sink =
@@ -126,6 +138,17 @@ ends_well status before now t told read e reaches by tells cause (inl is) sink =
 ends_well status before now t told read e reaches by tells cause (inr (inl four)) sink = inr (inl four.1)
 ends_well status before now t told read e reaches by tells cause (inr (inr seven)) sink =
     inr (inr (inr (inr (sink seven))))
+
+-- a script that couldn't be read doesn't end it so
+pub unread_not_well : (e : End) → EndsWell e → EndsReading e → ⊥
+unread_not_well (end.Answered mark groups loaded) well ends = ends
+unread_not_well (end.Rebuilt kept skipped) well ends = well
+unread_not_well (end.Unopened f) well ends = ends
+unread_not_well end.Usage well ends = well
+unread_not_well end.NoMemory well ends = well
+unread_not_well (end.Script s) well ends = well
+unread_not_well (end.Source n) well ends = well
+unread_not_well end.Sink well ends = well
 
 -- where a fault is found it is told
 well_fault : (status : ℕ) (before now : Counts) (folder : Folder) (e : End)
@@ -231,7 +254,7 @@ some_none load is = subst IsThere is tt
     IsThere None = ⊥
 
 -- all lines were served, none of which the disk failed
-served_play : (clock : ℕ → ℕ) (start : Log) (lines : List NamedLine) (answered : List Attempt)
+pub served_play : (clock : ℕ → ℕ) (start : Log) (lines : List NamedLine) (answered : List Attempt)
     (base faults : ℕ) → numbered lines ≡ lines_of answered
     → RoseBy (unavailable_count (replies_to clock (begin start) answered)) base faults
     → (Rose base faults → ⊥)
@@ -272,7 +295,7 @@ module _ {S : Type 0} (sees : SeesFolder S) (timed : Type 0) (clock clock_now : 
         ∙ (λ i. answered_text (same_play.0 i).mark (length (same_play.0 i).log.entries) (loaded_by (load_in t) (same_play.0 i).mailbox))
 
     -- of a script the replies stand before them
-    written : (x : Option Task) (load : Option Load) → HasLines x → load ≡ load_in x
+    written : (x : Option Task) (load : Option Load) → HasReplies x → load ≡ load_in x
         → (RepliesTold x told → Appends taken between (replies_over clock_then serves.start lines))
         → ((HasScript x → ⊥) → between ≡ taken) → told
         → Appends between taken_now (last_over clock_then load serves.start lines)
@@ -286,6 +309,7 @@ module _ {S : Type 0} (sees : SeesFolder S) (timed : Type 0) (clock clock_now : 
     written (Some (task.Generate load)) None opens is replies silent tells last = absurd (some_none load (sym is))
     written (Some task.Rebuild) load opens is replies silent tells last = absurd opens
     written (Some (task.Resync client)) load opens is replies silent tells last = absurd opens
+    written (Some (task.Watch key)) load opens is replies silent tells last = absurd opens
     written None load opens is replies silent tells last = absurd opens
 
     -- of lines that were all answered the output has all replies
@@ -293,7 +317,7 @@ module _ {S : Type 0} (sees : SeesFolder S) (timed : Type 0) (clock clock_now : 
         → Appends taken between (replies_text lines (replies_to clock_then (begin serves.start) serves.answered))
     plain l writes = writes
 
-    answered_output : told → HasLines t → ((HasScript t → ⊥) → between ≡ taken)
+    answered_output : told → HasReplies t → ((HasScript t → ⊥) → between ≡ taken)
         → Appends between taken_now (answered_text mark groups loaded)
         → Writes taken taken_now (IsOutputOver (load_in t) lines clock (sees.files old))
     answered_output tells opens silent last = (
@@ -325,15 +349,16 @@ module _ {S : Type 0} (sees : SeesFolder S) (timed : Type 0) (clock clock_now : 
   )
 
   -- a folder that isn't opened has nothing written before its last line
-  nothing_before : (x : Option Task) → HasLines x → (RepliesTold x told → between ≡ taken)
+  nothing_before : (x : Option Task) → HasReplies x → (RepliesTold x told → between ≡ taken)
       → ((HasScript x → ⊥) → between ≡ taken) → told → between ≡ taken
   nothing_before (Some task.Run) opens replies silent tells = replies tells
   nothing_before (Some (task.Generate load)) opens replies silent tells = silent (λ none. none)
   nothing_before (Some task.Rebuild) opens replies silent tells = absurd opens
   nothing_before (Some (task.Resync client)) opens replies silent tells = absurd opens
+  nothing_before (Some (task.Watch key)) opens replies silent tells = absurd opens
   nothing_before None opens replies silent tells = absurd opens
 
-  module _ (tells : told) (opens : HasLines t) (silent : (HasScript t → ⊥) → between ≡ taken) where
+  module _ (tells : told) (opens : HasReplies t) (silent : (HasScript t → ⊥) → between ≡ taken) where
     abbrev Running : End → Type 0
     Running e = RunsOver sees (times_with timed clock clock_now) (record { before = base; now = faults }) (load_in t) lines e (output_with (RepliesTold t told) taken between) old new
 
@@ -347,16 +372,6 @@ module _ {S : Type 0} (sees : SeesFolder S) (timed : Type 0) (clock clock_now : 
     run_output (end.Script s) well runs last = absurd well
     run_output (end.Source n) well runs last = absurd well
     run_output end.Sink well runs last = absurd well
-
-    unread_not_well : (e : End) → EndsWell e → EndsReading e → ⊥
-    unread_not_well (end.Answered mark groups loaded) well ends = ends
-    unread_not_well (end.Rebuilt kept skipped) well ends = well
-    unread_not_well (end.Unopened f) well ends = ends
-    unread_not_well end.Usage well ends = well
-    unread_not_well end.NoMemory well ends = well
-    unread_not_well (end.Script s) well ends = well
-    unread_not_well (end.Source n) well ends = well
-    unread_not_well end.Sink well ends = well
 
     well_output : (e : End) → EndsWell e → Appends between taken_now (text_of e)
         → IsUnread e taken between old new ⊎ Running e
@@ -427,9 +442,12 @@ pub task_output : (t : Option Task) (b : List ℕ) (clock : ℕ → ℕ) (folder
     → Writes old new (IsOutputOver (Some load) (generated_by load) clock folder))
     → ((client : Old) → t ≡ Some (task.Resync client)
     → Writes old new (IsOutputTo client clock folder))
+    → ((key : Key) → t ≡ Some (task.Watch key)
+    → Writes old new (IsWatchOutput key (parsed_beside b) clock folder))
     → Writes old new (IsOutputOf t b clock folder)
-task_output None b clock folder old new nothing script rebuild load resync = nothing refl
-task_output (Some task.Run) b clock folder old new nothing script rebuild load resync = script refl
-task_output (Some task.Rebuild) b clock folder old new nothing script rebuild load resync = rebuild refl
-task_output (Some (task.Generate l)) b clock folder old new nothing script rebuild load resync = load l refl
-task_output (Some (task.Resync client)) b clock folder old new nothing script rebuild load resync = resync client refl
+task_output None b clock folder old new nothing script rebuild load resync watch = nothing refl
+task_output (Some task.Run) b clock folder old new nothing script rebuild load resync watch = script refl
+task_output (Some task.Rebuild) b clock folder old new nothing script rebuild load resync watch = rebuild refl
+task_output (Some (task.Generate l)) b clock folder old new nothing script rebuild load resync watch = load l refl
+task_output (Some (task.Resync client)) b clock folder old new nothing script rebuild load resync watch = resync client refl
+task_output (Some (task.Watch key)) b clock folder old new nothing script rebuild load resync watch = watch key refl

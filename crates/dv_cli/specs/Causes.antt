@@ -12,7 +12,7 @@ use Rattle.dv_chain.specs.Openings.{FaultFound}
 use Rattle.dv_serving.specs.Readings.{TakesUpTo}
 use Rattle.dv_beginning.specs.Causes.{HasFault, IsFault, TakesForOpening}
 use Rattle.dv_beginning.specs.Starts.{Starts}
-use Rattle.dv_cli.specs.Tasks.{Answers, Opens}
+use Rattle.dv_cli.specs.Tasks.{Answers, HasScript, Opens}
 use Rattle.dv_qresync.specs.declared.types.Old.{Old}
 use Rattle.dv_cli.specs.declared.words.Task.{Task}
 use Rattle.dv_cli.specs.declared.words.Task.TheVariants as task
@@ -177,8 +177,8 @@ pub record HasCauses (status : ℕ) (t : Option Task) (before now : Counts) (fin
   pub usage : status ≡ 1 → t ≡ None
   pub disk : status ≡ 2 → Rose before.shelf now.shelf
   pub found : status ≡ 3 → Opens t × finds
-  pub script : status ≡ 5 → (t ≡ Some task.Run) × refuses
-  pub source : status ≡ 6 → (t ≡ Some task.Run) × Rose before.source now.source
+  pub script : status ≡ 5 → HasScript t × refuses
+  pub source : status ≡ 6 → HasScript t × Rose before.source now.source
   pub output : status ≡ 7 → Rose before.output now.output
 
 -- the status is this one, unless memory ran out or something outside failed

@@ -11,6 +11,8 @@ pub mod Outputs
 pub mod Rebuilding
 pub mod Resyncing
 pub mod Wholes
+pub mod Watching
+pub mod WrongWords
 pub mod Told
 pub mod Obeying
 pub mod Restarts

@@ -1,6 +1,7 @@
 -- What a run writes, where nothing fails and memory suffices: it depends on the words, the folder,
 -- the script and the clock alone.
 use Rattle.std.specs.Prelude.{◌≡◌, ◌++◌, ℕ, List, length, map, Option, Some, None, Result, Ok, Err}
+use Rattle.dv_model.specs.declared.types.Key.{Key}
 use Rattle.dv_model.specs.declared.types.OpenFault.{OpenFault}
 use Rattle.dv_model.specs.Journals.{Log}
 use Rattle.dv_model.specs.Transcripts as transcripts
@@ -11,6 +12,7 @@ use Rattle.dv_formats.specs.Scripts.{NamedLine}
 use Rattle.dv_chain.specs.Openings.{FaultFound}
 use Rattle.dv_openings.specs.Openings.{IsFound}
 use Rattle.dv_playing.specs.Playing.{Attempt, Play, Served, begin, replies_to}
+use Rattle.dv_script.specs.Beside.{parsed_beside}
 use Rattle.dv_script.specs.declared.types.ScriptEnd.TheVariants as script
 use Rattle.dv_serial.specs.Places.{play_of}
 use Rattle.dv_serving.specs.Scripts.{numbered, replies_text}
@@ -18,6 +20,7 @@ use Rattle.dv_openings.specs.Rebuilds.{IsRebuild, Rebuild}
 use Rattle.dv_qresync.specs.declared.types.Old.{Old}
 use Rattle.dv_qresync.specs.Answers.{resynced}
 use Rattle.dv_qresync.specs.Texts.{answers_text}
+use Rattle.dv_watching.specs.Texts.{lines_text}
 use Rattle.dv_cli.specs.declared.words.Load.{Load}
 use Rattle.dv_cli.specs.declared.words.Task.{Task}
 use Rattle.dv_cli.specs.declared.words.Task.TheVariants as task
@@ -72,6 +75,26 @@ abbrev pub IsOutputBy : Result (List NamedLine) ScriptFault → (ℕ → ℕ) �
 IsOutputBy (Ok lines) clock folder text = IsOutputOver None lines clock folder text
 IsOutputBy (Err fault) clock folder text = text ≡ script_fault_text fault
 
+-- beside a kept search what the key finds stands behind the replies to each line that wrote an
+-- entry
+abbrev pub output_beside : (ℕ → ℕ) → Key → Log → List NamedLine → List ℕ
+output_beside clock key start lines =
+    lines_text clock key (begin start) lines (all_served lines) ++ last_over clock None start lines
+
+-- so it is over a mailbox that is found or made; else it is the fault of the folder
+abbrev pub IsOutputBeside : Key → List NamedLine → (ℕ → ℕ) → Folder → List ℕ → Type 0
+IsOutputBeside key lines clock folder text =
+    ((start : Log) (used : ℕ) → Starts clock folder start used
+    → text ≡ output_beside (behind clock used) key start lines)
+    × ((f : OpenFault) → IsFault f → (IsNew folder → ⊥) → FaultFound f (IsFound folder)
+    → text ≡ fault_text f)
+
+-- of a script it may be that script's fault
+abbrev pub IsWatchOutput : Key → Result (List NamedLine) ScriptFault → (ℕ → ℕ) → Folder → List ℕ
+    → Type 0
+IsWatchOutput key (Ok lines) clock folder text = IsOutputBeside key lines clock folder text
+IsWatchOutput key (Err fault) clock folder text = text ≡ script_fault_text fault
+
 -- of a rebuild it says what that keeps
 pub record IsRebuiltOutput (clock : ℕ → ℕ) (folder : Folder) (text : List ℕ) : Type 0 where
   pub does : Rebuild
@@ -96,3 +119,5 @@ IsOutputOf (Some (task.Generate load)) b clock folder text =
     IsOutputOver (Some load) (generated_by load) clock folder text
 IsOutputOf (Some (task.Resync client)) b clock folder text =
     IsOutputTo client clock folder text
+IsOutputOf (Some (task.Watch key)) b clock folder text =
+    IsWatchOutput key (parsed_beside b) clock folder text

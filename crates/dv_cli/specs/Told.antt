@@ -7,6 +7,7 @@ use Rattle.dv_notices.specs.declared.telling.Told.TheVariants as told
 use Rattle.dv_script.specs.declared.types.ScriptEnd.TheVariants as script
 use Rattle.dv_cli.specs.declared.ending.End.{End}
 use Rattle.dv_cli.specs.declared.ending.End.TheVariants as end
+use Rattle.dv_cli.specs.Tasks.{HasScript}
 use Rattle.dv_cli.specs.declared.words.Task.{Task}
 use Rattle.dv_cli.specs.declared.words.Task.TheVariants as task
 
@@ -39,6 +40,6 @@ IsToldAt e said = ⊥
 abbrev pub IsToldBy : Option Task → ℕ → Told → Type 0
 IsToldBy t status told.Nothing = ⊤
 IsToldBy t status (told.BadLine line) =
-    (t ≡ Some task.Run) × ((status ≡ 4) ⊎ (status ≡ 5) ⊎ (status ≡ 7))
+    HasScript t × ((status ≡ 4) ⊎ (status ≡ 5) ⊎ (status ≡ 7))
 IsToldBy t status (told.Rebuilt rebuilt) =
     (t ≡ Some task.Rebuild) × ((status ≡ 0) ⊎ (status ≡ 4) ⊎ (status ≡ 7))

@@ -1,8 +1,12 @@
 -- What the program's words ask for. The word in the folder's place comes first.
-use Rattle.std.specs.Prelude.{◌≡◌, ◌⊎◌, ◌≤◌, ◌^◌, ⊤, ℕ, Bool, false, List, [], ◌∷◌, Option, Some, None, bytes_eq, codes, nat_le, option_map, if◌then◌else◌}
+use Rattle.std.specs.Prelude.{◌≡◌, ◌⊎◌, ◌≤◌, ◌^◌, ⊤, ℕ, Bool, true, false, List, [], ◌∷◌, Option, Some, None, bytes_eq, codes, nat_le, option_map, if◌then◌else◌}
+use Rattle.dv_model.specs.declared.types.Key.{Key}
 use Rattle.dv_shelf.specs.Streams.{Appends, AppendsFront}
 use Rattle.dv_formats.specs.Parsing.{◌>>=◌, number_of}
 use Rattle.dv_catching.specs.Clients.{client_of}
+use Rattle.dv_search.specs.Nesting.{levels_of, most_levels}
+use Rattle.dv_live.specs.Steadiness.{steady}
+use Rattle.dv_watching.specs.Keys.{steady_key}
 use Rattle.dv_disk.specs.declared.files.Missing.{Missing}
 use Rattle.dv_disk.specs.declared.files.Missing.TheVariants as missing
 use Rattle.dv_cli.specs.declared.words.Load.{Load}
@@ -40,19 +44,27 @@ pub record IsLoad (load : Load) : Type 0 where
   pub few : load.sessions ≤ 64
   pub short : load.count ≤ 1000000
 
--- a task's load has so many
+-- a search with this key can be kept
+pub record IsKept (key : Key) : Type 0 where
+  pub follows : steady key ≡ true
+  pub shallow : levels_of key ≤ most_levels
+
+-- a task's load has so many, and its search can be kept
 abbrev pub IsTask : Task → Type 0
 IsTask task.Run = ⊤
 IsTask task.Rebuild = ⊤
 IsTask (task.Generate load) = IsLoad load
 IsTask (task.Resync client) = ⊤
+IsTask (task.Watch key) = IsKept key
 
--- the words behind the folder: `run`, `rebuild`, `gen` with a load, or `resync` with what a client
--- knows
+-- the words behind the folder: `run`, `rebuild`, `watch` with the key of a search that can be kept,
+-- `gen` with a load, or `resync` with what a client knows
 abbrev pub task_of : List (List ℕ) → Option Task
 task_of (word ∷ []) =
     if bytes_eq word (codes "run") then Some task.Run
     else (if bytes_eq word (codes "rebuild") then Some task.Rebuild else None)
+task_of (word ∷ key ∷ []) =
+    if bytes_eq word (codes "watch") then option_map task.Watch (steady_key key) else None
 task_of (word ∷ first ∷ second ∷ third ∷ []) =
     if bytes_eq word (codes "gen") then option_map task.Generate (load_of first second third)
     else (if bytes_eq word (codes "resync")
@@ -63,6 +75,11 @@ task_of words = None
 abbrev pub IsResync : Option Task → Type 0
 IsResync (Some (task.Resync client)) = ⊤
 IsResync other = ⊥
+
+-- they are `watch` and one word more, which may be a key or not
+abbrev pub IsWatch : List (List ℕ) → Type 0
+IsWatch (word ∷ key ∷ []) = bytes_eq word (codes "watch") ≡ true
+IsWatch words = ⊥
 
 -- a rebuild doesn't make a folder that is missing
 abbrev pub missing_for : Option Task → Missing

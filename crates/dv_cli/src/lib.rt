@@ -14,6 +14,7 @@ mod running;
 #[cfg(test)]
 mod tests;
 mod top_call;
+mod watching;
 mod words;
 
 pub use errors::ErrorOutput;

@@ -4,7 +4,7 @@ ghost use Rattle.std.specs.Prelude.{◌≡◌, ◌⊎◌, ◌≤◌, [], IfErr, 
 ghost use Rattle.dv_model.specs.Counts.{Rose};
 ghost use Rattle.dv_cli.specs.Obeying.{IsMemory, Obeys, SaysOf, Tells, TellsErrors};
 ghost use Rattle.dv_notices.specs.declared.telling.Told.TheVariants as telling;
-ghost use Rattle.dv_cli.specs.Running.{usage_text};
+ghost use Rattle.dv_cli.specs.Running.{memory_text, usage_text};
 ghost use Rattle.dv_cli.specs.Words.{Prints, asks_for, folder_word, missing_for, run_words, task_of};
 ghost use Rattle.dv_folder.specs.Paths.{layout_of, missing_of, path_of};
 ghost use Rattle.dv_folder.specs.Ways.{folder_path};
@@ -28,12 +28,14 @@ const VERSION_WORD: &str = "--version";
 const VERSION: &[u8] = b"sdbox 0.1.0\n";
 
 const USAGE: &[u8] = b"usage: sdbox FOLDER run < SCRIPT
+       sdbox FOLDER watch KEY < SCRIPT
        sdbox FOLDER rebuild
        sdbox FOLDER gen SEED COUNT SESSIONS
        sdbox FOLDER resync VALIDITY MODSEQ SET
 ";
 
 const HELP: &[u8] = b"usage: sdbox FOLDER run < SCRIPT
+       sdbox FOLDER watch KEY < SCRIPT
        sdbox FOLDER rebuild
        sdbox FOLDER gen SEED COUNT SESSIONS
        sdbox FOLDER resync VALIDITY MODSEQ SET
@@ -58,6 +60,11 @@ are passed over.
 
 SET is numbers, * and ranges with commas between, as 1,3:5,7:*. FLAGS are \\Answered, \\Flagged,
 \\Deleted, \\Seen, \\Draft and keywords.
+
+watch answers a script as run does, of at most 63 sessions, and keeps a search beside it: behind the
+replies to each command that wrote a group a line WATCH has the UIDs of the messages that then meet
+KEY. KEY is one of the KEYS above, in one word of the command line; LARGER, HEADER and * may not
+stand in it.
 
 rebuild gives a damaged FOLDER, or one that a Dovecot server made, a new log: every message whose
 file u.N is whole is kept, with the flags and keywords that are left in log and snapshot. There is
@@ -197,7 +204,7 @@ fn tell<E: Sink>(alloc: Global, errors: &mut E, status: u8, told: &Told)
 }
 
 /// Serves a folder by these words, and gives the exit status. Words that aren't those of a run
-/// are answered on standard error too.
+/// are answered on standard error too, unless memory runs out before they are known for that.
 fn serve<O: Sink, E: Sink>(
     rt: HostRuntime,
     out: &mut O,
@@ -205,9 +212,11 @@ fn serve<O: Sink, E: Sink>(
     shelf: Folder,
     words: &[String],
 ) -> u8
-    ensures usage { task_of (map string_bytes words.now) ≡ None → (result ≡ 1) ⊎ (result ≡ 7) }
+    ensures usage { task_of (map string_bytes words.now) ≡ None →
+        (result ≡ 1) ⊎ (result ≡ 4) ⊎ (result ≡ 7) }
     ensures usage_output { task_of (map string_bytes words.now) ≡ None → O.sees.tells →
-        Prints 1 usage_text result (O.sees.taken out.old) (O.sees.taken out.new) }
+        Prints 1 usage_text result (O.sees.taken out.old) (O.sees.taken out.new)
+        ⊎ Prints 4 memory_text result (O.sees.taken out.old) (O.sees.taken out.new) }
     ensures usage_only { result ≡ 1 → task_of (map string_bytes words.now) ≡ None }
     ensures sink { result ≡ 7 → Rose (O.sees.fault_count out.old) (O.sees.fault_count out.new) }
     ensures small { result ≤ 7 }

@@ -48,7 +48,12 @@ fn loaded_by<S: Shelf, C: Clock>(load: Option<Load>, serial: &Serial<S, C>) -> O
 }
 
 /// How a run ends behind its lines.
-fn end_behind(served: Result<(), LineEnd>, mark: Mark, groups: u64, loaded: Option<Loaded>) -> End
+pub fn end_behind(
+    served: Result<(), LineEnd>,
+    mark: Mark,
+    groups: u64,
+    loaded: Option<Loaded>,
+) -> End
     ensures { result ≡ end_behind served mark groups loaded }
 {
     match served {

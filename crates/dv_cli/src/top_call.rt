@@ -1,9 +1,9 @@
 //! The whole run.
 
-ghost use Rattle.std.specs.Prelude.{◌≡◌, ◌≢◌, ◌⊎◌, ◌≤◌, ℕ, Err, IfErr, IfOk, List, None, Ok, Result, Some, length, map, string_bytes, take};
+ghost use Rattle.std.specs.Prelude.{◌≡◌, ◌≢◌, ◌⊎◌, ◌≤◌, ℕ, Err, IfErr, IfOk, List, None, Ok, Option, Result, Some, length, map, string_bytes, take};
 ghost use Rattle.dv_shelf.specs.Crashes.{IsSettled};
 ghost use Rattle.dv_shelf.specs.Streams.{Appends};
-ghost use Rattle.dv_formats.specs.Parsing.{ScriptFault, parsed};
+ghost use Rattle.dv_formats.specs.Parsing.{ScriptFault};
 ghost use Rattle.dv_formats.specs.Scripts.{NamedLine};
 ghost use Rattle.dv_serving.specs.NextRuns.{IsTrueFolder};
 ghost use Rattle.dv_serving.specs.Outputs.{output_of};
@@ -15,14 +15,16 @@ ghost use Rattle.dv_cli.specs.Readings.{TakesFront, read_limit};
 ghost use Rattle.dv_cli.specs.Rebuilding.{RebuildsFolder};
 ghost use Rattle.dv_cli.specs.Resyncing.{IsClientRun, RunsClient};
 ghost use Rattle.dv_qresync.specs.declared.types.Old.{Old};
-ghost use Rattle.dv_cli.specs.Running.{usage_text};
-ghost use Rattle.dv_cli.specs.Runs.{RunsOver};
+ghost use Rattle.dv_model.specs.declared.types.Key.{Key};
 ghost use Rattle.dv_cli.specs.Spans.{times_from, times_of};
 ghost use Rattle.dv_serving.specs.Faults.{faults_of};
-ghost use Rattle.dv_cli.specs.Tasks.{Answers, EndsBy, HasScript, Reaches};
+ghost use Rattle.dv_script.specs.Beside.{parsed_beside};
+ghost use Rattle.dv_cli.specs.Tasks.{Answers, EndsBy, HasScript, Reaches, parsed_for, parsed_with, script_task};
 ghost use Rattle.dv_cli.specs.Told.{IsToldAt, IsToldBy, TellsEnd, TellsFault};
 ghost use Rattle.dv_cli.specs.Wholes.{IsRebuildRun, IsRefused, IsRun, IsUnread, RunsTask};
-ghost use Rattle.dv_cli.specs.Words.{Prints, task_of};
+ghost use Rattle.dv_cli.specs.Watching.{IsWatchRun, MayKeep, RunsWatch, RunsWith};
+ghost use Rattle.dv_cli.specs.Words.{task_of};
+ghost use Rattle.dv_cli.specs.WrongWords.{EndsUsage, IsUsageStatus, PrintsUsage};
 ghost use Rattle.dv_cli.specs.declared.ending.End.TheVariants as how;
 ghost use Rattle.dv_cli.specs.declared.words.Task.TheVariants as task;
 
@@ -31,11 +33,12 @@ use crate::loading::run_load;
 use crate::reading::{ReadEnd, read_script};
 use crate::rebuilding::run_rebuild;
 use crate::resyncing::run_resync;
-use crate::running::{Outcome, run_folder, untouched};
+use crate::running::{Outcome, untouched};
+use crate::watching::{open_with, run_with};
 use crate::words::{Task, task_of};
-use dv_model::Bytes;
+use dv_model::{Bytes, Key};
 use dv_notices::{Told, told_line};
-use dv_script::{Script, ScriptEnd, open_script};
+use dv_script::{Script, ScriptEnd};
 use dv_serving::commands_are_servable;
 use dv_shelf::{Clock, Gate, Shelf, Sink, Source};
 use std::alloc::Global;
@@ -50,8 +53,8 @@ pub struct Ran<S, C> {
 
 /// The script's text, or how a run without it ends.
 fn script_text<I: Source>(alloc: Global, script: &mut I) -> Result<Bytes, End>
-    ensures text { I.sees.tells → IfOk result (λ text.
-        parsed text ≡ parsed (I.sees.left script.old)) }
+    ensures text { I.sees.tells → IfOk result (λ text. (beside : Option Key) →
+        parsed_with beside text ≡ parsed_with beside (I.sees.left script.old)) }
     ensures front { I.sees.tells →
         IfOk result (λ text. text ≡ take read_limit (I.sees.left script.old)) }
     ensures unread { IfErr result (λ e. (read : Result (List NamedLine) ScriptFault) →
@@ -84,34 +87,38 @@ fn told_of(alloc: Global, text: &[u8], end: ScriptEnd) -> Told
     }
 }
 
-/// Reads the script, and answers its lines in the folder.
+/// Reads the script, and answers its lines in the folder; where there is a key, beside a search
+/// with it that is kept.
 fn run_script<S: Shelf, I: Source, O: Sink, C: Clock, G: Gate>(
     alloc: Global,
+    beside: Option<Key>,
     shelf: S,
     script: &mut I,
     out: &mut O,
     clock: C,
     gate: &G,
 ) -> Outcome<S, C>
+    requires kept { MayKeep beside }
     // The lines of a good script are answered, unless it couldn't be read.
     ensures runs { S.sees.tells → I.sees.tells → IsSettled S.sees shelf →
         IsTrueFolder (S.sees.files shelf) → (lines : List NamedLine) →
-        parsed (I.sees.left script.old) ≡ Ok lines →
+        parsed_with beside (I.sees.left script.old) ≡ Ok lines →
         AtReadings C.sees.tells (C.sees.upcoming clock) (λ readings.
         IsUnread result.end (O.sees.taken out.old) (O.sees.taken out.new) shelf result.shelf
-        ⊎ RunsOver S.sees (times_from C.sees readings result.clock)
-        (faults_of S.sees shelf result.shelf) None lines result.end
+        ⊎ RunsWith beside S.sees (times_from C.sees readings result.clock)
+        (faults_of S.sees shelf result.shelf) lines result.end
         (output_of O.sees out.old out.new) shelf result.shelf) }
     // One that is refused leaves everything but its source untouched.
     ensures refused { I.sees.tells → (fault : ScriptFault) →
-        parsed (I.sees.left script.old) ≡ Err fault →
+        parsed_with beside (I.sees.left script.old) ≡ Err fault →
         IsUntouched shelf result.shelf clock result.clock
         × EndsRefused fault result.end × (out.new ≡ out.old) }
     // What the script and the folder hold is told, and each end has its cause.
-    ensures script { I.sees.tells → TellsScript (parsed (I.sees.left script.old)) result.end
+    ensures script { I.sees.tells →
+        TellsScript (parsed_with beside (I.sees.left script.old)) result.end
         × TellsEnd (take read_limit (I.sees.left script.old)) result.end result.told }
     ensures found { S.sees.tells → TellsFaults (S.sees.files shelf) result.end }
-    ensures ends { EndsBy (Some task.Run) result.end × IsToldAt result.end result.told }
+    ensures ends { EndsBy (Some (script_task beside)) result.end × IsToldAt result.end result.told }
     ensures cause { HasRunCause
         (counts_of (S.sees.fault_count shelf) (I.sees.fault_count script.old)
         (O.sees.fault_count out.old))
@@ -121,7 +128,7 @@ fn run_script<S: Shelf, I: Source, O: Sink, C: Clock, G: Gate>(
     ensures bound { I.sees.tells → TakesFront (I.sees.left script.old) (I.sees.left script.new) }
     // How often the clock is read.
     ensures readings { C.sees.tells → I.sees.tells → (lines : List NamedLine) →
-        parsed (I.sees.left script.old) ≡ Ok lines →
+        parsed_with beside (I.sees.left script.old) ≡ Ok lines →
         TakesUpTo (most_readings (length lines)) (C.sees.upcoming clock)
         (C.sees.upcoming result.clock) }
     ensures unread { C.sees.tells →
@@ -132,13 +139,13 @@ fn run_script<S: Shelf, I: Source, O: Sink, C: Clock, G: Gate>(
         Err(end) => return untouched(shelf, clock, end, Told::Nothing),
     };
     commands_are_servable();
-    match open_script(alloc, text.as_slice()) {
+    match open_with(alloc, &beside, text.as_slice()) {
         Ok(opened) => {
             let Script {
                 mut lines,
                 sessions,
             } = opened;
-            run_folder(alloc, None, &mut lines, sessions, shelf, clock, out, gate)
+            run_with(alloc, beside, &mut lines, sessions, shelf, clock, out, gate)
         }
         Err(end) => {
             let told = told_of(alloc, text.as_slice(), end);
@@ -158,11 +165,11 @@ fn perform<S: Shelf, I: Source, O: Sink, C: Clock, G: Gate>(
     gate: &G,
 ) -> Outcome<S, C>
     // The lines of a script, or generated ones, are answered; a folder is rebuilt; a client with an
-    // older state is answered.
+    // older state is answered; and what is written beside a kept search.
     ensures runs { S.sees.tells → IsSettled S.sees shelf →
         IsTrueFolder (S.sees.files shelf) → (lines : List NamedLine) →
         Answers (task_of (map string_bytes words.now)) I.sees.tells
-        (parsed (I.sees.left script.old)) lines →
+        (parsed_for (task_of (map string_bytes words.now)) (I.sees.left script.old)) lines →
         AtReadings C.sees.tells (C.sees.upcoming clock) (λ readings.
         RunsTask S.sees (times_from C.sees readings result.clock)
         (faults_of S.sees shelf result.shelf) (task_of (map string_bytes words.now)) lines
@@ -177,20 +184,28 @@ fn perform<S: Shelf, I: Source, O: Sink, C: Clock, G: Gate>(
         AtReadings C.sees.tells (C.sees.upcoming clock) (λ readings.
         RunsClient S.sees (times_from C.sees readings result.clock) client result.end
         (output_of O.sees out.old out.new) shelf result.shelf) }
+    ensures watches { (key : Key) → task_of (map string_bytes words.now) ≡ Some (task.Watch key) →
+        S.sees.tells → I.sees.tells → IsSettled S.sees shelf → IsTrueFolder (S.sees.files shelf) →
+        (lines : List NamedLine) → parsed_beside (I.sees.left script.old) ≡ Ok lines →
+        AtReadings C.sees.tells (C.sees.upcoming clock) (λ readings.
+        RunsWatch S.sees (times_from C.sees readings result.clock)
+        (faults_of S.sees shelf result.shelf) key lines result.end
+        (output_of O.sees out.old out.new) shelf result.shelf) }
     // What is left untouched where they ask for nothing, or the script is refused.
     ensures usage { task_of (map string_bytes words.now) ≡ None → (out.new ≡ out.old)
-        × (result.end ≡ how.Usage)
+        × EndsUsage (map string_bytes words.now) result.end
         × IsUntouched shelf result.shelf clock result.clock }
-    ensures refused { task_of (map string_bytes words.now) ≡ Some task.Run → I.sees.tells →
-        (fault : ScriptFault) → parsed (I.sees.left script.old) ≡ Err fault →
+    ensures refused { HasScript (task_of (map string_bytes words.now)) → I.sees.tells →
+        (fault : ScriptFault) →
+        parsed_for (task_of (map string_bytes words.now)) (I.sees.left script.old) ≡ Err fault →
         EndsRefused fault result.end
         × IsUntouched shelf result.shelf clock result.clock
         × (out.new ≡ out.old) }
     // What the script and the folder hold is told, and each end has its cause.
-    ensures script { task_of (map string_bytes words.now) ≡ Some task.Run → I.sees.tells →
-        TellsScript (parsed (I.sees.left script.old)) result.end
-        × TellsEnd (take read_limit (I.sees.left script.old)) result.end result.told }
-    ensures found { S.sees.tells → TellsFaults (S.sees.files shelf) result.end }
+    ensures found { (S.sees.tells → TellsFaults (S.sees.files shelf) result.end)
+        × (HasScript (task_of (map string_bytes words.now)) → I.sees.tells → TellsScript
+        (parsed_for (task_of (map string_bytes words.now)) (I.sees.left script.old)) result.end
+        × TellsEnd (take read_limit (I.sees.left script.old)) result.end result.told) }
     ensures cause { EndsBy (task_of (map string_bytes words.now)) result.end × HasRunCause
         (counts_of (S.sees.fault_count shelf) (I.sees.fault_count script.old)
         (O.sees.fault_count out.old))
@@ -201,8 +216,8 @@ fn perform<S: Shelf, I: Source, O: Sink, C: Clock, G: Gate>(
     ensures bound { (I.sees.tells → TakesFront (I.sees.left script.old) (I.sees.left script.new))
         × ((HasScript (task_of (map string_bytes words.now)) → ⊥) → script.new ≡ script.old) }
     ensures readings { C.sees.tells → IsRead (task_of (map string_bytes words.now)) I.sees.tells
-        (parsed (I.sees.left script.old)) result.end (C.sees.upcoming clock)
-        (C.sees.upcoming result.clock) }
+        (parsed_for (task_of (map string_bytes words.now)) (I.sees.left script.old)) result.end
+        (C.sees.upcoming clock) (C.sees.upcoming result.clock) }
 {
     let Ok(task) = task_of(alloc, words) else {
         return untouched(shelf, clock, End::NoMemory, Told::Nothing);
@@ -211,7 +226,8 @@ fn perform<S: Shelf, I: Source, O: Sink, C: Clock, G: Gate>(
         return untouched(shelf, clock, End::Usage, Told::Nothing);
     };
     match task {
-        Task::Run => run_script(alloc, shelf, script, out, clock, gate),
+        Task::Run => run_script(alloc, None, shelf, script, out, clock, gate),
+        Task::Watch(key) => run_script(alloc, Some(key), shelf, script, out, clock, gate),
         Task::Rebuild => run_rebuild(alloc, shelf, clock),
         Task::Generate(load) => run_load(alloc, load, shelf, clock, gate),
         Task::Resync(client) => run_resync(alloc, &client, shelf, clock, out),
@@ -222,7 +238,8 @@ fn perform<S: Shelf, I: Source, O: Sink, C: Clock, G: Gate>(
 /// serves a mailbox folder to the sessions of a script: it opens its mailbox, or makes one, answers
 /// each line, and writes the replies. `gen` does so with a generated script, and writes no reply.
 /// `rebuild` gives a damaged folder a new log. `resync` tells what a client with an older state of
-/// the mailbox hears.
+/// the mailbox hears. `watch` serves a script as `run` does, and writes behind the replies to each
+/// command that wrote a group what a search finds then.
 pub fn run<S: Shelf + Send, I: Source, O: Sink, C: Clock + Send, G: Gate + Sync>(
     alloc: Global,
     words: &[String],
@@ -242,7 +259,7 @@ pub fn run<S: Shelf + Send, I: Source, O: Sink, C: Clock + Send, G: Gate + Sync>
     ensures runs { S.sees.tells → IsSettled S.sees shelf →
         IsTrueFolder (S.sees.files shelf) → (lines : List NamedLine) →
         Answers (task_of (map string_bytes words.now)) I.sees.tells
-        (parsed (I.sees.left script.old)) lines →
+        (parsed_for (task_of (map string_bytes words.now)) (I.sees.left script.old)) lines →
         AtReadings C.sees.tells (C.sees.upcoming clock) (λ readings.
         IsRun S.sees (times_from C.sees readings result.clock)
         (counts_of (S.sees.fault_count shelf) (I.sees.fault_count script.old)
@@ -276,15 +293,32 @@ pub fn run<S: Shelf + Send, I: Source, O: Sink, C: Clock + Send, G: Gate + Sync>
         (O.sees.fault_count out.new))
         client result.status (output_of O.sees out.old out.new) shelf result.shelf) }
 
+    // Beside a kept search the lines are answered in the same way. Behind the replies to each line
+    // that wrote an entry stands one line with what the key finds then, which is the answer of a
+    // UID SEARCH in the mailbox of the log so far; behind no other line there is one. Where memory
+    // or the output ends the run a front of this text was written.
+    ensures watches { (key : Key) → task_of (map string_bytes words.now) ≡ Some (task.Watch key) →
+        S.sees.tells → I.sees.tells → IsSettled S.sees shelf → IsTrueFolder (S.sees.files shelf) →
+        (lines : List NamedLine) → parsed_beside (I.sees.left script.old) ≡ Ok lines →
+        AtReadings C.sees.tells (C.sees.upcoming clock) (λ readings.
+        IsWatchRun S.sees (times_from C.sees readings result.clock)
+        (counts_of (S.sees.fault_count shelf) (I.sees.fault_count script.old)
+        (O.sees.fault_count out.old))
+        (counts_of (S.sees.fault_count result.shelf) (I.sees.fault_count script.new)
+        (O.sees.fault_count out.new))
+        key lines result.status (output_of O.sees out.old out.new) shelf result.shelf) }
+
     // Words that ask for nothing leave everything untouched, and a script that is refused leaves
-    // folder and clock so; what is written then. Of such a script its first bad line is told.
+    // folder and clock so; what is written then. Of such a script its first bad line is told. Of
+    // what may be a key it may be that memory runs out before it is seen to be none.
     ensures usage { task_of (map string_bytes words.now) ≡ None →
         IsUntouched shelf result.shelf clock result.clock
-        × ((result.status ≡ 1) ⊎ (result.status ≡ 7))
-        × (O.sees.tells → Prints 1 usage_text result.status (O.sees.taken out.old)
-        (O.sees.taken out.new)) }
-    ensures refused { task_of (map string_bytes words.now) ≡ Some task.Run → I.sees.tells →
-        (fault : ScriptFault) → parsed (I.sees.left script.old) ≡ Err fault →
+        × IsUsageStatus (map string_bytes words.now) result.status
+        × (O.sees.tells → PrintsUsage (map string_bytes words.now) result.status
+        (O.sees.taken out.old) (O.sees.taken out.new)) }
+    ensures refused { HasScript (task_of (map string_bytes words.now)) → I.sees.tells →
+        (fault : ScriptFault) →
+        parsed_for (task_of (map string_bytes words.now)) (I.sees.left script.old) ≡ Err fault →
         IsUntouched shelf result.shelf clock result.clock × IsRefused fault
         (counts_of (S.sees.fault_count shelf) (I.sees.fault_count script.old)
         (O.sees.fault_count out.old))
@@ -302,9 +336,10 @@ pub fn run<S: Shelf + Send, I: Source, O: Sink, C: Clock + Send, G: Gate + Sync>
         (counts_of (S.sees.fault_count result.shelf) (I.sees.fault_count script.new)
         (O.sees.fault_count out.new))
         (S.sees.tells → HasFault (S.sees.files shelf))
-        (I.sees.tells → (fault : ScriptFault) × (parsed (I.sees.left script.old) ≡ Err fault)) }
+        (I.sees.tells → (fault : ScriptFault) × (parsed_for
+        (task_of (map string_bytes words.now)) (I.sees.left script.old) ≡ Err fault)) }
     ensures complete { S.sees.tells → Reaches (task_of (map string_bytes words.now)) I.sees.tells
-        (parsed (I.sees.left script.old)) →
+        (parsed_for (task_of (map string_bytes words.now)) (I.sees.left script.old)) →
         IsByFolder (C.sees.upcoming clock) (S.sees.files shelf) result.status
         (counts_of (S.sees.fault_count shelf) (I.sees.fault_count script.old)
         (O.sees.fault_count out.old))
@@ -324,15 +359,15 @@ pub fn run<S: Shelf + Send, I: Source, O: Sink, C: Clock + Send, G: Gate + Sync>
         × IsOutputOf (task_of (map string_bytes words.now)) (I.sees.left script.old)
         (C.sees.upcoming clock) (S.sees.files shelf) text }
 
-    // The script is read for `run` alone, and at most one byte more than the longest script is. The
-    // clock is read once at most for a mailbox that is made, and twice at most for each line; not
-    // at all where the words, the script or the folder are refused, and once at most where the disk
-    // fails before the first line.
+    // The script is read for `run` and `watch` alone, and at most one byte more than the longest
+    // script is. The clock is read once at most for a mailbox that is made, and twice at most for
+    // each line; not at all where the words, the script or the folder are refused, and once at most
+    // where the disk fails before the first line.
     ensures bound { (I.sees.tells → TakesFront (I.sees.left script.old) (I.sees.left script.new))
         × ((HasScript (task_of (map string_bytes words.now)) → ⊥) → script.new ≡ script.old) }
     ensures readings { C.sees.tells → IsTimed (task_of (map string_bytes words.now)) I.sees.tells
-        (parsed (I.sees.left script.old)) result.status (C.sees.upcoming clock)
-        (C.sees.upcoming result.clock) }
+        (parsed_for (task_of (map string_bytes words.now)) (I.sees.left script.old)) result.status
+        (C.sees.upcoming clock) (C.sees.upcoming result.clock) }
 {
     let Outcome {
         end,

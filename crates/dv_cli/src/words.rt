@@ -1,13 +1,14 @@
 //! What the program's words behind the folder's ask for.
 
-ghost use Rattle.std.specs.Prelude.{◌≡◌, ◌+◌, ◌^◌, ◌<◌, ◌≤◌, ◌∷◌, [], IfErr, IfOk, IfSome, map, string_bytes};
+ghost use Rattle.std.specs.Prelude.{◌≡◌, ◌⊎◌, ◌+◌, ◌^◌, ◌<◌, ◌≤◌, ◌∷◌, [], IfErr, IfOk, IfSome, map, string_bytes};
 ghost use Rattle.dv_formats.specs.Parsing.{number_of};
-ghost use Rattle.dv_cli.specs.Words.{IsLoad, IsResync, IsTask, load_of, task_of};
+ghost use Rattle.dv_cli.specs.Words.{IsLoad, IsResync, IsTask, IsWatch, load_of, task_of};
 
 use dv_catching::client_of;
 use dv_commands::read_decimal;
-use dv_model::NoMemory;
+use dv_model::{Key, NoMemory};
 use dv_qresync::Old;
+use dv_watching::steady_key;
 use std::alloc::Global;
 
 /// The most commands that are generated, not counting a SELECT of each session.
@@ -35,6 +36,8 @@ pub enum Task {
     Generate(Load),
     /// A client with an older state hears of the folder's mailbox.
     Resync(Old),
+    /// The script is answered over the folder, beside a search with this key.
+    Watch(Key),
 }
 
 /// A number of 64 bits is one.
@@ -87,6 +90,21 @@ fn load_of(seed: &[u8], count: &[u8], sessions: &[u8]) -> Option<Load>
     })
 }
 
+/// What a word and one behind it ask for, or nothing.
+fn task_beside(alloc: Global, word: &str, key: &[u8]) -> Result<Option<Task>, NoMemory>
+    ensures is { IfOk result (λ task. task ≡ task_of (word.now ∷ key.now ∷ [])) }
+    ensures some { IfOk result (λ task. IfSome task IsTask) }
+    ensures lacking { IfErr result (λ e. IsWatch (word.now ∷ key.now ∷ [])) }
+{
+    if word != "watch" {
+        return Ok(None);
+    }
+    match steady_key(alloc, key)? {
+        Some(key) => Ok(Some(Task::Watch(key))),
+        None => Ok(None),
+    }
+}
+
 /// What a word and three behind it ask for, or nothing.
 fn task_with(
     alloc: Global,
@@ -117,15 +135,17 @@ fn task_with(
 }
 
 /// What the words behind the folder's ask for, or nothing. Memory lacks only where a client's state
-/// is among them.
+/// is among them, or what may be a key.
 pub fn task_of(alloc: Global, words: &[String]) -> Result<Option<Task>, NoMemory>
     ensures is { IfOk result (λ task. task ≡ task_of (map string_bytes words.now)) }
     ensures some { IfOk result (λ task. IfSome task IsTask) }
-    ensures lacking { IfErr result (λ e. IsResync (task_of (map string_bytes words.now))) }
+    ensures lacking { IfErr result (λ e. IsWatch (map string_bytes words.now)
+        ⊎ IsResync (task_of (map string_bytes words.now))) }
 {
     match words {
         [word] if word.as_str() == "run" => Ok(Some(Task::Run)),
         [word] if word.as_str() == "rebuild" => Ok(Some(Task::Rebuild)),
+        [word, key] => task_beside(alloc, word.as_str(), key.as_bytes()),
         [word, first, second, third] => task_with(
             alloc,
             word.as_str(),

@@ -1,12 +1,11 @@
 ghost use Rattle.std.specs.Prelude.{◌≡◌, List, map, string_bytes};
 ghost use Rattle.dv_shelf.specs.Crashes.{IsSettled};
-ghost use Rattle.dv_formats.specs.Parsing.{parsed};
 ghost use Rattle.dv_formats.specs.Scripts.{NamedLine};
 ghost use Rattle.dv_serving.specs.NextRuns.{IsTrueFolder};
 ghost use Rattle.dv_serving.specs.Outputs.{output_of};
 ghost use Rattle.dv_serving.specs.Readings.{AtReadings};
 ghost use Rattle.dv_stopping.specs.Stops.{leavings};
-ghost use Rattle.dv_cli.specs.Tasks.{Answers, replies_of};
+ghost use Rattle.dv_cli.specs.Tasks.{Answers, parsed_for, replies_of};
 ghost use Rattle.dv_cli.specs.Words.{task_of};
 ghost use Rattle.dv_power_cuts.specs.Acknowledging.{Acknowledges};
 
@@ -39,7 +38,7 @@ pub fn run_until_cut<S: Shelf + Send, I: Source, O: Sink, C: Clock + Send, G: Ga
     ensures acknowledges { S.sees.tells → IsSettled S.sees shelf →
         IsTrueFolder (S.sees.files shelf) → (lines : List NamedLine) →
         Answers (task_of (map string_bytes words.now)) I.sees.tells
-        (parsed (I.sees.left script.old)) lines →
+        (parsed_for (task_of (map string_bytes words.now)) (I.sees.left script.old)) lines →
         AtReadings C.sees.tells (C.sees.upcoming clock) (λ readings.
         Acknowledges readings (S.sees.files shelf) 0 lines result.status
         (replies_of (task_of (map string_bytes words.now)) (output_of O.sees out.old out.new))

@@ -118,8 +118,10 @@ fn the_named_folder_is_made_by_the_real_clock(rt: HostRuntime) -> Result<(), Fai
     Ok(())
 }
 
-const USAGE: &str = "usage: sdbox FOLDER run < SCRIPT\n       sdbox FOLDER rebuild\n       \
-    sdbox FOLDER gen SEED COUNT SESSIONS\n       sdbox FOLDER resync VALIDITY MODSEQ SET\n";
+const USAGE: &str =
+    "usage: sdbox FOLDER run < SCRIPT\n       sdbox FOLDER watch KEY < SCRIPT\n       \
+    sdbox FOLDER rebuild\n       sdbox FOLDER gen SEED COUNT SESSIONS\n       \
+    sdbox FOLDER resync VALIDITY MODSEQ SET\n";
 
 #[test]
 fn wrong_words_are_told_on_both_outputs(rt: HostRuntime) -> Result<(), Fail> {

@@ -79,6 +79,23 @@ fn a_damaged_folder_is_rebuilt_and_served(rt: HostRuntime) -> Result<(), Fail> {
     Ok(())
 }
 
+const WATCHED: &str = "a * 0 EXISTS\na * OK [UIDVALIDITY 1000]\na * OK [UIDNEXT 1]\n\
+    a OK [MARK 1:56] SELECT\na * 1 EXISTS\na * 1 FETCH (UID 1 FLAGS ())\n\
+    a OK [APPENDUID 1000 1] [MARK 1:72] APPEND\nWATCH\na * 1 FETCH (UID 1 FLAGS (\\Seen))\n\
+    a OK [MARK 1:92] STORE\nWATCH 1\nEND 0 MARK 1:92 GROUPS 2\n";
+
+#[test]
+fn what_a_search_finds_is_told_behind_each_group(rt: HostRuntime) -> Result<(), Fail> {
+    let alloc = rt.alloc();
+    let setting = Setting {
+        words: &["watch", "SEEN"],
+        ..given(b"a SELECT\na APPEND () {5}\nhello\na STORE 1 +FLAGS (\\Seen)\n")
+    };
+    let left = play(alloc, &folder_of(alloc, &[])?, &[], setting)?;
+    ends(&rt, &left, 0, WATCHED);
+    Ok(())
+}
+
 // Both loads were played by another program, by the generator's definition.
 #[test]
 fn a_load_is_told_and_no_reply(rt: HostRuntime) -> Result<(), Fail> {
@@ -107,6 +124,10 @@ const WRONG: &[&[&str]] = &[
     &["gen", "7", "1", "0"],
     &["gen", "7", "1", "65"],
     &["rebuild", "again"],
+    &["watch"],
+    &["watch", "seen"],
+    &["watch", "SEEN DELETED"],
+    &["watch", "NOT LARGER 1"],
 ];
 
 #[test]
