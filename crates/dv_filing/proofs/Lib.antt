@@ -5,3 +5,4 @@ pub mod Making
 pub mod Filed
 pub mod Grouped
 pub mod Carried
+pub mod Cleared

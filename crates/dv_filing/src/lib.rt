@@ -4,6 +4,7 @@
 #![tactic(auto)]
 
 mod carrying;
+mod clearing;
 mod files;
 mod repairs;
 mod steps;
@@ -11,6 +12,7 @@ mod turns;
 mod way;
 
 pub use carrying::carry_out;
+pub use clearing::clear;
 pub use files::write_files;
 pub use repairs::pay;
 pub use steps::{Files, Steps};

@@ -2,3 +2,11 @@ pub mod Keys
 pub mod Counting
 pub mod Saving
 pub mod Spelled
+mod Spans
+pub mod Moving
+pub mod Rewriting
+pub mod Purged
+pub mod Thinned
+pub mod Kept
+mod Respelled
+pub mod Leaving

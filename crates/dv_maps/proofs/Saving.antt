@@ -18,7 +18,8 @@ use Rattle.dv_model.specs.Journals.{Held}
 use Rattle.dv_model.specs.Mailboxes.{IsRowOf, IsValid}
 use Rattle.dv_shelf.specs.Folders.{Folder}
 use Rattle.dv_maps.specs.declared.place.Place.{Place}
-use Rattle.dv_maps.specs.Groups.{Placed, count_records, count_row, intro_of, map_intro, place_row, save_records, update_of}
+use Rattle.dv_maps.specs.declared.mapped.Placed.{Placed}
+use Rattle.dv_maps.specs.Groups.{count_records, count_row, intro_of, map_intro, place_row, save_records, update_of}
 use Rattle.dv_maps.specs.Laws.{IsMap, IsPlace, Saves, SavesAre, extension_of, map_extensions}
 use Rattle.dv_maps.specs.Maps.{count_of, place_of}
 use Rattle.dv_maps.specs.Storages.{Item, item_of}
@@ -55,7 +56,7 @@ below_of m (row ∷ rows) all = ((All-head (IsRowOf m) row rows all).uid.1, belo
 
 -- ---- the records
 
-abbrev map_current : Current
+abbrev pub map_current : Current
 map_current = record { extension = 0; size = 12 }
 
 abbrev map_extension : Extension
@@ -85,7 +86,7 @@ map_base m sized = record {
 }
 
 -- `map` is introduced again
-map_again : (m : Mailbox) → m.extensions ≡ map_extensions → AreSized (keys m.rows) → IsWith m (stamped m.rows (with_intro (with_higher m) (intro_of (codes "map") 12 4))) map_extensions (keys m.rows) (Some map_current)
+pub map_again : (m : Mailbox) → m.extensions ≡ map_extensions → AreSized (keys m.rows) → IsWith m (stamped m.rows (with_intro (with_higher m) (intro_of (codes "map") 12 4))) map_extensions (keys m.rows) (Some map_current)
 map_again m own sized =
     subst (λ (es : List Extension). IsWith m (stamped m.rows (with_intro (with_higher (record m { extensions = es })) (intro_of (codes "map") 12 4))) map_extensions (keys m.rows) (Some map_current)) (sym own) (map_base m sized)
 

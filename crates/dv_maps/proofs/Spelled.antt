@@ -1,5 +1,5 @@
 -- The records of a copy, a drop and a save have a spelling, and apply to any map.
-use Rattle.std.proofs.Common.{◌≡◌, ℕ, Bool, true, false, cond, List, [], ◌∷◌, Option, Some, None, refl, sym, subst, arith}
+use Rattle.std.proofs.Common.{◌≡◌, ℕ, Bool, false, cond, List, [], ◌∷◌, Some, None, refl, sym, subst, arith}
 use Rattle.std.specs.Prelude.{All, IsSome, codes, nat_lt}
 use Rattle.std.specs.Option.{option_and_then, option_map}
 use Rattle.std.proofs.lemmas.Bool.Decides.{nat_tests}
@@ -13,7 +13,7 @@ use Rattle.dv_model.specs.Spelling.{AreIntroNumbers, IsRecord, IsUid}
 use Rattle.dv_records.proofs.Valid.{valid_append, valid_ext_intro, valid_ext_record_update}
 use Rattle.dv_maps.specs.declared.place.Place.{Place}
 use Rattle.dv_maps.specs.Groups.{count_records, count_row, intro_of, map_intro, place_row, ref_intro, save_records, update_of}
-use Rattle.dv_maps.specs.Laws.{AreWritten, CountsAreWritten, SavesAreWritten}
+use Rattle.dv_maps.specs.Laws.{CountsAreWritten, SavesAreWritten}
 
 numbers_map : AreIntroNumbers (intro_of (codes "map") 12 4)
 numbers_map = record { wide = (omega arith, omega arith, omega arith); short = (omega arith, omega arith, omega arith, omega arith) }
@@ -21,7 +21,7 @@ numbers_map = record { wide = (omega arith, omega arith, omega arith); short = (
 numbers_ref : AreIntroNumbers (intro_of (codes "ref") 2 2)
 numbers_ref = record { wide = (omega arith, omega arith, omega arith); short = (omega arith, omega arith, omega arith, omega arith) }
 
-map_spelled : IsRecord map_intro
+pub map_spelled : IsRecord map_intro
 map_spelled = valid_ext_intro 0 (intro_of (codes "map") 12 4 ∷ []) (omega arith) (omega arith) (numbers_map, tt) (omega arith)
 
 ref_spelled : IsRecord ref_intro

@@ -6,6 +6,7 @@ use Rattle.dv_model.specs.declared.types.Intro.{Intro}
 use Rattle.dv_model.specs.declared.types.Record.{Record}
 use Rattle.dv_model.specs.Effects.{no_id}
 use Rattle.dv_model.specs.Sessions.{external_record, internal_record, pieces, ranges_of}
+use Rattle.dv_maps.specs.declared.mapped.Placed.{Placed}
 use Rattle.dv_maps.specs.declared.place.Place.{Place}
 
 -- an extension of so many bytes for each row is introduced by its name
@@ -30,11 +31,6 @@ map_intro = intro_record (codes "map") 12 4
 
 abbrev pub ref_intro : Record
 ref_intro = intro_record (codes "ref") 2 2
-
--- an id with the place of its text
-pub record Placed : Type 0 where
-  pub id : ℕ
-  pub place : Place
 
 -- its row of an update of `map`
 abbrev pub place_row : Placed → List ℕ

@@ -4,3 +4,4 @@ pub mod Texts
 pub mod Storages
 pub mod Groups
 pub mod Laws
+pub mod Purges

@@ -3,9 +3,14 @@
 #![tactic(auto)]
 
 mod laws;
+mod mapped;
 mod parts;
 mod place;
 
-pub use laws::{counts_are, records_are_written, saves_are};
+pub use laws::{
+    counts_are, records_are_written, rewrites_are, rewrites_are_written, rewrites_lose_nothing,
+    saves_are, thinnings_are,
+};
+pub use mapped::{Mapped, Placed, read_row};
 pub use parts::{count_of, part_of, place_of};
 pub use place::Place;

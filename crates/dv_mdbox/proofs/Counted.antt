@@ -1,5 +1,5 @@
 -- The count of an id is changed.
-use Rattle.std.proofs.Common.{◌≡◌, inl, inr, ⊎_elim, ℕ, ◌+◌, ◌^◌, ◌<◌, ◌≤◌, List, [], length, Option, Some, None, Result, Ok, Err, OnOk, OnErr, refl, sym, ◌∙◌, ap, subst, arith}
+use Rattle.std.proofs.Common.{◌≡◌, inl, ⊎_elim, ℕ, ◌^◌, ◌<◌, ◌≤◌, List, [], length, Option, Some, None, Result, Ok, Err, refl, sym, ◌∙◌, ap, subst, arith}
 use Rattle.std.specs.Prelude.{IfErr, IsSome, flat_map}
 use Rattle.dv_model.specs.declared.types.Mailbox.{Mailbox}
 use Rattle.dv_model.specs.declared.types.Record.{Record}
@@ -11,11 +11,11 @@ use Rattle.dv_shelf.specs.Folders.{Folder}
 use Rattle.dv_shelf.specs.Sees.{SeesFolder}
 use Rattle.dv_shelf.proofs.Moments.{started}
 use Rattle.dv_chain.specs.declared.chain.Chain.{Chain}
-use Rattle.dv_chain.specs.Rest.{Nothing, Owed}
+use Rattle.dv_chain.specs.Rest.{Owed}
 use Rattle.dv_rotation.specs.declared.texts.Turn.{Turn}
 use Rattle.dv_filing.specs.declared.steps.Files.TheVariants as files
 use Rattle.dv_filing.specs.Standing.{Fits, Stands}
-use Rattle.dv_filing.specs.Writes.{IsLeftOwed, KeepsThrough}
+use Rattle.dv_filing.specs.Writes.{KeepsThrough}
 use Rattle.dv_filing.proofs.Resting.{rests_give}
 use Rattle.dv_maps.specs.Groups.{count_records}
 use Rattle.dv_maps.specs.Laws.{AreWritten, Counts, CountsAre, CountsAreWritten, IsMap}

@@ -5,7 +5,7 @@ use Rattle.dv_shelf.specs.Folders.{Folder}
 use Rattle.dv_shelf.specs.Sees.{SeesFolder}
 use Rattle.dv_chain.specs.declared.chain.Chain.{Chain}
 use Rattle.dv_chain.specs.Openings.{HasBounds, OnlyLooks}
-use Rattle.dv_chain.specs.Rest.{Holds, IsPending, IsResting, Last, Nothing, Owed, Owes, Pending, Rests}
+use Rattle.dv_chain.specs.Rest.{Holds, IsPending, IsResting, Last, Nothing, Owed, Owes, Pending}
 use Rattle.dv_rotation.specs.declared.texts.Turn.{Turn}
 use Rattle.dv_rotation.specs.Texts.{IsTurnOf}
 use Rattle.dv_writing.specs.Opening.{AreEqual}

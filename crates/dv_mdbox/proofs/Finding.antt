@@ -1,5 +1,5 @@
 -- A message is saved where a place for its text was found.
-use Rattle.std.proofs.Common.{◌≡◌, ◌⊎◌, inl, inr, ⊎_elim, ℕ, ◌<◌, ◌≤◌, List, Result, Ok, Err, refl}
+use Rattle.std.proofs.Common.{◌≡◌, inl, inr, ⊎_elim, ℕ, List, Result, Ok, Err}
 use Rattle.std.specs.Prelude.{IfErr, IfOk}
 use Rattle.dv_model.specs.declared.types.Mailbox.{Mailbox}
 use Rattle.dv_shelf.specs.Crashes.{LeavesOnly}
@@ -12,15 +12,13 @@ use Rattle.dv_chain.specs.Rest.{Owed}
 use Rattle.dv_filing.specs.Standing.{MayGive}
 use Rattle.dv_filing.proofs.Resting.{rests_give}
 use Rattle.dv_maps.specs.declared.place.Place.{Place}
-use Rattle.dv_maps.specs.Groups.{save_records}
 use Rattle.dv_maps.specs.Texts.{Messages, with_message}
 use Rattle.dv_mdbox.specs.declared.fault.StorageFault.{StorageFault}
 use Rattle.dv_mdbox.specs.declared.fault.StorageFault.TheVariants as fault
-use Rattle.dv_mdbox.specs.declared.tails.Target.{Target}
 use Rattle.dv_mdbox.specs.Answers.{AnswersSave, IsFailure, IsShort}
 use Rattle.dv_mdbox.specs.States.{IsAtRest, State}
 use Rattle.dv_mdbox.specs.Tails.{FindsTarget}
-use Rattle.dv_mdbox.specs.Writes.{MayGiveCall, SavesAt, SavesGroup, SavesQuietly, WritesGroup}
+use Rattle.dv_mdbox.specs.Writes.{MayGiveCall, SavesAt, SavesGroup, SavesQuietly}
 use Rattle.dv_mdbox.proofs.Equal.{stands_looked}
 
 -- ---- answers

@@ -8,3 +8,12 @@ pub mod Torn
 pub mod Saved
 pub mod Tailing
 pub mod Finding
+pub mod Thinning
+pub mod Stepping
+pub mod Rewritten
+pub mod Gathered
+pub mod Clearing
+pub mod Orphaned
+pub mod Recorded
+pub mod Finished
+pub mod Moved

@@ -1,5 +1,5 @@
 -- A group that is ready over a chain's map is ready behind what is owed and due.
-use Rattle.std.proofs.Common.{◌≡◌, ℕ, ◌+◌, ◌≤◌, List, ◌++◌, length, Option, Some, None, sym, ◌∙◌, subst, ap, arith, length-append}
+use Rattle.std.proofs.Common.{◌≡◌, ℕ, ◌+◌, ◌≤◌, List, ◌++◌, length, Option, Some, sym, ◌∙◌, subst, ap, arith, length-append}
 use Rattle.std.specs.Prelude.{All, IsSomeAnd}
 use Rattle.dv_model.specs.declared.types.Group.{Group}
 use Rattle.dv_model.specs.declared.types.Mailbox.{Mailbox}

@@ -1,6 +1,6 @@
 -- A message is saved.
-use Rattle.std.proofs.Common.{◌≡◌, ◌≢◌, ◌⊎◌, inl, inr, ⊎_elim, ℕ, ◌+◌, ◌-◌, ◌^◌, ◌<◌, ◌≤◌, Bool, true, false, List, [], length, get_or, nat_eq, Option, Some, None, Result, Ok, Err, OnOk, OnErr, refl, sym, ◌∙◌, ap, subst, arith}
-use Rattle.std.specs.Prelude.{All, IfErr, IfOk, IsSome, flat_map, unwrap_or}
+use Rattle.std.proofs.Common.{◌≡◌, ◌≢◌, inl, inr, ⊎_elim, ℕ, ◌+◌, ◌-◌, ◌^◌, ◌<◌, ◌≤◌, Bool, true, false, List, length, get_or, nat_eq, Option, Some, None, Result, Ok, Err, refl, sym, ◌∙◌, ap, subst, arith}
+use Rattle.std.specs.Prelude.{IfOk, IsSome, flat_map}
 use Rattle.std.proofs.lemmas.Bool.{eqb-false, eqb-true}
 use Rattle.dv_model.specs.declared.types.Mailbox.{Mailbox}
 use Rattle.dv_model.specs.declared.types.Record.{Record}
@@ -17,7 +17,7 @@ use Rattle.dv_shelf.specs.Crashes.{LeavesOnly}
 use Rattle.dv_shelf.specs.Sees.{SeesFolder}
 use Rattle.dv_shelf.proofs.Moments.{started}
 use Rattle.dv_chain.specs.declared.chain.Chain.{Chain}
-use Rattle.dv_chain.specs.Rest.{Nothing, Owed}
+use Rattle.dv_chain.specs.Rest.{Owed}
 use Rattle.dv_dbox.specs.BoxTexts.{BoxContent}
 use Rattle.dv_dbox.specs.Mails.{content_in, mail_in}
 use Rattle.dv_dbox.specs.Reading.{written_content}
@@ -32,7 +32,7 @@ use Rattle.dv_maps.specs.declared.place.Place.{Place}
 use Rattle.dv_maps.specs.Groups.{save_records}
 use Rattle.dv_maps.specs.Laws.{AreWritten, IsMap, IsPlace, Saves, SavesAre, SavesAreWritten}
 use Rattle.dv_maps.specs.Maps.{row_place}
-use Rattle.dv_maps.specs.Texts.{HasText, KeepsTexts, Messages, text_at, text_in, with_message}
+use Rattle.dv_maps.specs.Texts.{KeepsTexts, Messages, text_at, text_in, with_message}
 use Rattle.dv_maps.proofs.Saving.{message_else}
 use Rattle.dv_mdbox.specs.declared.fault.StorageFault.{StorageFault}
 use Rattle.dv_mdbox.specs.declared.tails.Target.{Target}

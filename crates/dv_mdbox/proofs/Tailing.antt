@@ -1,6 +1,6 @@
 -- Where the text of the next message goes.
-use Rattle.std.proofs.Common.{◌≡◌, ◌⊎◌, inl, inr, ⊎_elim, ℕ, ◌+◌, ◌<◌, ◌≤◌, max, List, [], ◌∷◌, ◌++◌, length, take, get_or, Option, Some, None, Result, Ok, Err, refl, sym, ◌∙◌, ap, subst, arith}
-use Rattle.std.specs.Prelude.{All, Contains, MatchOption, slice_get}
+use Rattle.std.proofs.Common.{◌≡◌, ⊎_elim, ℕ, ◌+◌, ◌<◌, ◌≤◌, max, List, [], ◌∷◌, ◌++◌, length, take, get_or, Option, Some, None, sym, ◌∙◌, ap, subst, arith}
+use Rattle.std.specs.Prelude.{All, Contains, slice_get}
 use Rattle.std.proofs.lemmas.Bool.{cases_lt}
 use Rattle.std.proofs.lemmas.List.{take_more}
 use Rattle.std.proofs.lemmas.List.Elements.{All-nil, All-push, Contains-append_left, Contains-push, Contains-push_cases}
@@ -9,14 +9,11 @@ use Rattle.dv_model.specs.declared.types.Mailbox.{Mailbox}
 use Rattle.dv_model.specs.declared.types.Row.{Row}
 use Rattle.dv_shelf.specs.declared.shelf.Name.{Name}
 use Rattle.dv_shelf.specs.declared.shelf.Name.TheVariants as name
-use Rattle.dv_shelf.specs.Folders.{Folder, Lists}
 use Rattle.dv_maps.specs.declared.place.Place.{Place}
 use Rattle.dv_maps.specs.Maps.{row_place}
-use Rattle.dv_mdbox.specs.declared.fault.StorageFault.{StorageFault}
-use Rattle.dv_mdbox.specs.declared.fault.StorageFault.TheVariants as fault
 use Rattle.dv_mdbox.specs.declared.tails.Tail.{Tail}
 use Rattle.dv_mdbox.specs.declared.tails.Target.{Target}
-use Rattle.dv_mdbox.specs.Tails.{Extends, FindsFile, FindsTarget, GoesBehind, IsBefore, IsFreeFrom, IsHighest, IsListed, IsTail, IsTailOf, end_of, larger, mail_number, number_behind, tail_file}
+use Rattle.dv_mdbox.specs.Tails.{Extends, IsBefore, IsFreeFrom, IsHighest, IsTail, IsTailOf, end_of, larger, mail_number, number_behind, tail_file}
 
 -- ---- the last text of the last file
 

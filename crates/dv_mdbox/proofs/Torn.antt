@@ -1,11 +1,11 @@
 -- Texts that stand before a place stay where that place is written.
-use Rattle.std.proofs.Common.{◌≡◌, ◌≢◌, ⊎_elim, ℕ, ◌+◌, ◌-◌, ◌<◌, ◌≤◌, min, Bool, true, false, cond, List, [], ◌++◌, length, take, drop, replicate, nat_eq, Option, Some, None, refl, sym, ◌∙◌, ap, subst, arith, length-append, append_assoc}
-use Rattle.std.specs.Prelude.{All, nat_le, unwrap_or}
+use Rattle.std.proofs.Common.{◌≡◌, ◌≢◌, ℕ, ◌+◌, ◌-◌, ◌≤◌, min, Bool, true, false, cond, List, [], ◌++◌, length, take, drop, replicate, nat_eq, Option, Some, None, refl, sym, ◌∙◌, ap, subst, arith, length-append, append_assoc}
+use Rattle.std.specs.Prelude.{nat_le, unwrap_or}
 use Rattle.std.proofs.lemmas.Bool.{eqb-false, eqb-true, le-leb, leb-true}
 use Rattle.std.proofs.lemmas.List.{drop-take, drop_at, length-replicate, length-take, take_at, take-take}
-use Rattle.dv_model.specs.Journals.{Damaged, Held, Mail}
+use Rattle.dv_model.specs.Journals.{Damaged, Held}
 use Rattle.dv_shelf.specs.declared.shelf.Name.TheVariants as name
-use Rattle.dv_shelf.specs.Folders.{ChangesOnly, Folder, Torn, TornFile, contents, patched}
+use Rattle.dv_shelf.specs.Folders.{Folder, Torn, TornFile, patched}
 use Rattle.dv_shelf.proofs.Torn.{patched_torn}
 use Rattle.dv_dbox.specs.Mails.{mail_in}
 use Rattle.dv_maps.specs.declared.place.Place.{Place}

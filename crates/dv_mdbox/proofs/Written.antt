@@ -1,5 +1,5 @@
 -- What the write of a group does to a storage.
-use Rattle.std.proofs.Common.{◌≡◌, ◌⊎◌, inl, inr, ⊎_elim, ◌||◌, Bool, true, false, ℕ, ◌+◌, ◌-◌, List, [], ◌∷◌, ◌++◌, length, Option, Some, None, is_some, Result, Ok, Err, OnOk, OnErr, refl, sym, ◌∙◌, ap, subst, arith}
+use Rattle.std.proofs.Common.{◌≡◌, inl, inr, ⊎_elim, ◌||◌, Bool, true, false, ℕ, ◌+◌, ◌-◌, List, [], ◌∷◌, ◌++◌, length, Option, Some, None, is_some, Result, Ok, Err, refl, sym, ◌∙◌, ap, subst, arith}
 use Rattle.std.specs.Prelude.{IfSome, IsSome, flat_map}
 use Rattle.dv_model.specs.declared.types.Entry.{Entry}
 use Rattle.dv_model.specs.declared.types.Mailbox.{Mailbox}
@@ -7,29 +7,31 @@ use Rattle.dv_model.specs.declared.types.Mark.{Mark}
 use Rattle.dv_model.specs.declared.types.Record.{Record}
 use Rattle.dv_model.specs.Effects.{applied}
 use Rattle.dv_model.specs.Spelling.{written}
+use Rattle.dv_shelf.specs.declared.shelf.Name.TheVariants as name
 use Rattle.dv_shelf.specs.Crashes.{LeavesOnly}
 use Rattle.dv_shelf.specs.Folders.{Folder}
 use Rattle.dv_shelf.specs.Sees.{SeesFolder}
 use Rattle.dv_shelf.proofs.Moments.{joined, weaker}
 use Rattle.dv_chain.specs.declared.chain.Chain.{Chain}
 use Rattle.dv_chain.specs.Openings.{OnlyLooks}
-use Rattle.dv_chain.specs.Rest.{IsPending, Last, Nothing, Owed, Pending, next_mark}
+use Rattle.dv_chain.specs.Rest.{Last, Nothing, Owed, Pending}
 use Rattle.dv_plans.specs.Begins.{beginning, turns}
 use Rattle.dv_plans.proofs.Readied.{ready_place}
 use Rattle.dv_rotation.specs.declared.texts.Turn.{Turn}
 use Rattle.dv_rotation.specs.Texts.{ClosesLog, place_of}
 use Rattle.dv_writing.specs.declared.committing.Committed.{Committed}
 use Rattle.dv_writing.specs.Opening.{AreEqual, mark_behind}
-use Rattle.dv_writing.specs.Ways.{IsDue, held, ready}
+use Rattle.dv_writing.specs.Ways.{held, ready}
 use Rattle.dv_filing.specs.declared.steps.Files.{Files}
 use Rattle.dv_filing.specs.declared.steps.Steps.{Steps}
+use Rattle.dv_filing.specs.Files.{IsNamed}
 use Rattle.dv_filing.specs.Standing.{Fits, Gives, MayGive, Stands}
-use Rattle.dv_filing.specs.Writes.{CarriesOut, IsLeftOwed, IsWriteOf, KeepsThrough, MayGiveWrite, StandsEither, WritesStorage}
+use Rattle.dv_filing.specs.Writes.{CarriesOut, IsLeftOwed, IsWriteOf, KeepsThrough, KeepsUnnamed, MayGiveWrite, WritesStorage}
 use Rattle.dv_filing.proofs.Resting.{rests_give}
 use Rattle.dv_maps.specs.Texts.{Messages}
 use Rattle.dv_mdbox.specs.Readying.{IsReadyFor}
 use Rattle.dv_mdbox.specs.States.{State}
-use Rattle.dv_mdbox.specs.Writes.{MayGiveCall, WritesGroup, WritesQuietly, begin_of, entry_of, mark_after}
+use Rattle.dv_mdbox.specs.Writes.{KeepsMails, MayGiveCall, WritesGroup, WritesQuietly, entry_of, mark_after}
 use Rattle.dv_mdbox.proofs.Equal.{equal_path, roomy}
 
 some_of : {A : Type 0} (o : Option A) → IsSome o → (n : A) × (o ≡ Some n)
@@ -194,3 +196,12 @@ module _ {S C : Type 0} (sees : SeesFolder S) (messages next : Messages) (debt :
             err = (some.0, text, subst (λ (m : Mailbox). IsLeftOwed debt text m after some.0) same.mailbox some.1, some.2, some.3);
             any_moment = since_write {T = Committed} (Err e) writes;
           }
+
+-- ---- the other message files
+
+pub mails_looked : {S : Type 0} (sees : SeesFolder S) (files : Files) (old mid : S) → OnlyLooks sees old mid → KeepsMails files (sees.files old) (sees.files mid)
+mails_looked sees files old mid looks = λ n away. ap (λ (f : Folder). f (name.Mail n)) looks.same
+
+pub mails_written : {S : Type 0} (sees : SeesFolder S) (files : Files) (steps : Steps) → steps.files ≡ files → (old mid new : S) → OnlyLooks sees old mid → KeepsUnnamed steps (sees.files mid) (sees.files new) → KeepsMails files (sees.files old) (sees.files new)
+mails_written sees files steps same old mid new looks others = λ n away.
+    others (name.Mail n) (λ named. away (subst (λ (f : Files). IsNamed f (name.Mail n)) same named)) (λ e. e) ∙ ap (λ (f : Folder). f (name.Mail n)) looks.same

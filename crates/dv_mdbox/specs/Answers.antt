@@ -1,5 +1,5 @@
 -- What calls on a storage answer, and why.
-use Rattle.std.specs.Prelude.{◌≡◌, ◌⊎◌, ℕ, ◌+◌, ◌≤◌, ◌<◌, Result, Ok, Err, Option, Some, None, IsSome, false, true, ⊤, List, length}
+use Rattle.std.specs.Prelude.{◌≡◌, ◌⊎◌, ℕ, ◌≤◌, ◌<◌, Result, Ok, Err, Some, None, false, true, ⊤}
 use Rattle.dv_model.specs.Counts.{Rose}
 use Rattle.dv_model.specs.Sessions.{end_of_uids, is_log_full, message_limit}
 use Rattle.dv_shelf.specs.Folders.{Folder}

@@ -5,3 +5,5 @@ pub mod Tails
 pub mod Readying
 pub mod Writes
 pub mod Answers
+pub mod Purging
+pub mod Gathering

@@ -4,10 +4,8 @@ use Rattle.std.specs.Option.{option_and_then}
 use Rattle.dv_model.specs.declared.types.Mailbox.{Mailbox}
 use Rattle.dv_model.specs.declared.types.Row.{Row}
 use Rattle.dv_model.specs.Journals.{Damaged, Held, Mail}
-use Rattle.dv_shelf.specs.Folders.{Folder}
 use Rattle.dv_maps.specs.declared.place.Place.{Place}
 use Rattle.dv_maps.specs.Maps.{row_count, row_place}
-use Rattle.dv_maps.specs.Texts.{text_at}
 use Rattle.dv_mdbox.specs.declared.looking.Reference.{Reference}
 use Rattle.dv_mdbox.specs.declared.got.Got.{Got}
 use Rattle.dv_mdbox.specs.declared.got.Got.TheVariants as got

@@ -5,6 +5,7 @@ use Rattle.dv_model.specs.declared.types.Mailbox.{Mailbox}
 use Rattle.dv_model.specs.declared.types.Mark.{Mark}
 use Rattle.dv_model.specs.declared.types.Record.{Record}
 use Rattle.dv_model.specs.Effects.{applied}
+use Rattle.dv_shelf.specs.declared.shelf.Name.TheVariants as name
 use Rattle.dv_shelf.specs.Crashes.{LeavesOnly}
 use Rattle.dv_shelf.specs.Folders.{Folder}
 use Rattle.dv_shelf.specs.Sees.{SeesFolder}
@@ -13,6 +14,8 @@ use Rattle.dv_chain.specs.Rest.{Nothing, Owed, next_mark}
 use Rattle.dv_plans.specs.Begins.{beginning, turns}
 use Rattle.dv_rotation.specs.declared.texts.Turn.{Turn}
 use Rattle.dv_rotation.specs.Texts.{place_of}
+use Rattle.dv_filing.specs.declared.steps.Files.{Files}
+use Rattle.dv_filing.specs.Files.{IsNamed}
 use Rattle.dv_filing.specs.Standing.{Fits, Gives, MayGive, Stands}
 use Rattle.dv_filing.specs.Writes.{IsLeftOwed, StandsEither}
 use Rattle.dv_maps.specs.declared.place.Place.{Place}
@@ -37,6 +40,11 @@ MayGiveCall messages next debt after size owed chain c =
     MayGive messages debt chain c
     ⊎ Gives messages chain.indexid chain.live.mailbox (next_mark chain) c
     ⊎ Gives next chain.indexid after (mark_after (begin_of owed chain) size) c
+
+-- the message files but the one that is written are as before
+abbrev pub KeepsMails : Files → Folder → Folder → Type 0
+KeepsMails files old new =
+    (n : ℕ) → (IsNamed files (name.Mail n) → ⊥) → new (name.Mail n) ≡ old (name.Mail n)
 
 -- a group of the storage's own
 abbrev pub entry_of : List Record → Entry
@@ -68,6 +76,13 @@ module _ {S C : Type 0} where
         × StandsEither sees messages next now new.chain new.shelf)
     pub any_moment : LeavesOnly sees old.shelf new.shelf
         (MayGiveCall messages next debt after size old.owed old.chain)
+
+  -- and the message files but the one that is written are as before
+  abbrev pub WritesBeside : SeesFolder S → Messages → Messages → Owed → Mailbox → ℕ → Files
+      → State S C → State S C → {T E : Type 0} → Result T E → Type 0
+  WritesBeside sees messages next debt after size files old new result =
+      WritesQuietly sees messages next debt after size old new result
+      × KeepsMails files (sees.files old.shelf) (sees.files new.shelf)
 
   -- ---- the count of an id
 

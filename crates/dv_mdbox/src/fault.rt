@@ -1,14 +1,15 @@
 //! Why a call on a storage gave nothing.
 
-ghost use Rattle.std.specs.Prelude.{◌≡◌};
+ghost use Rattle.std.specs.Prelude.{◌≡◌, Err, MatchResult, Ok};
 ghost use Rattle.dv_mdbox.specs.Answers.{chain_told, shelf_told};
 ghost use Rattle.dv_mdbox.specs.declared.fault.StorageFault.TheVariants as fault;
 
 use dv_model::OutOfMemory;
 use dv_rotation::ChainFault;
-use dv_shelf::{Shelf, ShelfFault};
+use dv_shelf::{Failed, Shelf, ShelfFault};
 
-/// Why a call on a storage gave nothing. The ids are then as before.
+/// Why a call on a storage gave nothing. The ids are then as before, but for those that a purge has
+/// removed by then.
 #[derive(Clone, Copy, PartialEq, Eq, Debug)]
 pub enum StorageFault {
     /// Memory ran out.
@@ -49,6 +50,17 @@ pub(crate) fn told<S: Shelf>(shelf: &S, fault: ShelfFault) -> StorageFault
     match fault {
         ShelfFault::Failed => disk(shelf),
         ShelfFault::NoMemory => StorageFault::NoMemory,
+    }
+}
+
+/// What comes of calls on a shelf that only fail.
+pub(crate) fn outcome<S: Shelf>(shelf: &S, done: Result<(), Failed>) -> Result<(), StorageFault>
+    ensures { MatchResult done (λ x. result ≡ Ok x)
+        (λ e. result ≡ Err (fault.Disk (S.sees.fault_count shelf.now))) }
+{
+    match done {
+        Ok(()) => Ok(()),
+        Err(_) => Err(disk(shelf)),
     }
 }
 

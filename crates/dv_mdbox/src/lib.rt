@@ -4,12 +4,16 @@
 
 mod counting;
 mod fault;
+mod gathering;
 mod got;
 mod looking;
 mod opening;
+mod purging;
 mod readying;
 mod records;
+mod rewriting;
 mod saving;
+mod settling;
 mod storage;
 mod tails;
 mod writing;

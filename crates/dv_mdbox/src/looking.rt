@@ -66,7 +66,7 @@ pub(crate) fn reference_of(live: &Live, id: u32) -> Option<Reference>
 }
 
 /// The bytes at a place, where it is in the file.
-fn bytes_at(bytes: &[u8], place: Place) -> Option<&[u8]>
+pub(crate) fn bytes_at(bytes: &[u8], place: Place) -> Option<&[u8]>
     ensures { option_copied result ≡ (if nat_le (place.offset + place.size) (length bytes.now)
         then Some (take place.size (drop place.offset bytes.now)) else None) }
 {
@@ -76,7 +76,7 @@ fn bytes_at(bytes: &[u8], place: Place) -> Option<&[u8]>
 }
 
 /// The message of a text.
-fn message_of(alloc: Global, text: &[u8]) -> Result<Got, NoMemory>
+pub(crate) fn message_of(alloc: Global, text: &[u8]) -> Result<Got, NoMemory>
     ensures { IfOk result (λ got. got_mail got ≡ mail_in (Some text.now)) }
 {
     match read(alloc, text) {

@@ -1,11 +1,16 @@
 //! The records of a storage's groups.
 
-ghost use Rattle.std.specs.Prelude.{◌≡◌, ◌++◌, IfOk, OnOk};
+ghost use Rattle.std.specs.Prelude.{◌≡◌, ◌++◌, ◌^◌, ◌<◌, IfOk, OnOk, flat_map, map};
+ghost use Rattle.dv_model.specs.declared.types.Body.TheVariants as body;
+ghost use Rattle.dv_model.specs.Sessions.{external_record, pieces, ranges_of as ranges};
 ghost use Rattle.dv_maps.specs.Groups as groups;
 ghost use Rattle.dv_maps.specs.Groups.{count_row, place_row};
+ghost use Rattle.dv_maps.specs.Purges.{moved};
+ghost use Rattle.dv_mdbox.specs.Gathering.{size_of};
 
-use dv_groups::{external, internal};
-use dv_maps::Place;
+use crate::gathering::FileRows;
+use dv_groups::{external, internal, next_piece, ranges_of};
+use dv_maps::{Mapped, Place, Placed};
 use dv_model::{Body, Bytes, Intro, List, NewRow, NoMemory, Record};
 use std::alloc::Global;
 
@@ -82,5 +87,87 @@ pub(crate) fn save_records(alloc: Global, id: u32, place: Place) -> Result<List<
     let row = place_row(alloc, id, place)?;
     records.push(internal(Body::ExtRecordUpdate(row)))?;
     add_count(alloc, id, 1, &mut records)?;
+    Ok(records)
+}
+
+/// The new places of rows whose texts go into a new file, one behind another.
+fn moved(alloc: Global, rows: &[Mapped], new: u32) -> Result<Vec<Placed>, NoMemory>
+    requires { size_of rows.now < 2 ^ 32 }
+    ensures { IfOk result (λ placed. placed.items ≡ moved new 0 rows.now) }
+{
+    let mut placed = Vec::new(alloc);
+    let mut offset = 0;
+    for row in rows {
+        let size = row.place.size;
+        let place = Place {
+            file: new,
+            offset,
+            size,
+        };
+        placed.push(Placed { id: row.id, place })?;
+        offset += size;
+    }
+    Ok(placed)
+}
+
+/// The rows of an update of places.
+fn place_rows(alloc: Global, rows: &[Placed]) -> Result<Bytes, NoMemory>
+    ensures { IfOk result (λ b. b ≡ flat_map place_row rows.now) }
+{
+    let mut bytes = Bytes::new(alloc);
+    for row in rows {
+        let one = place_row(alloc, row.id, row.place)?;
+        bytes.extend(one.as_slice())?;
+    }
+    Ok(bytes)
+}
+
+/// Adds the records that give rows new places, where there are rows.
+fn add_places(alloc: Global, rows: &[Placed], records: &mut List<Record>) -> Result<(), NoMemory>
+    ensures { OnOk result (records.new ≡ records.old ++ groups.move_records rows.now) }
+{
+    if rows.is_empty() {
+        return Ok(());
+    }
+    records.push(intro_of(alloc, b"map", 12, 4)?)?;
+    let mut rest = rows;
+    while let Some((piece, behind)) = next_piece(rest) {
+        let bytes = place_rows(alloc, piece)?;
+        records.push(internal(Body::ExtRecordUpdate(bytes)))?;
+        rest = behind;
+    }
+    Ok(())
+}
+
+/// Adds the records that remove ids.
+fn add_expunges(alloc: Global, ids: &[u32], records: &mut List<Record>) -> Result<(), NoMemory>
+    ensures { OnOk result (records.new ≡ records.old
+        ++ map (λ piece. external_record (body.Expunge piece)) (pieces (ranges ids.now))) }
+{
+    let pairs = ranges_of(alloc, ids)?;
+    let mut rest = pairs.as_slice();
+    while let Some((piece, behind)) = next_piece(rest) {
+        let pairs = List::from_slice(alloc, piece)?;
+        records.push(external(Body::Expunge(pairs)))?;
+        rest = behind;
+    }
+    Ok(())
+}
+
+/// The records of the purge of a file, whose kept texts go into a new one. `NoMemory` is the only
+/// error.
+pub(crate) fn purge_records(
+    alloc: Global,
+    rows: &FileRows,
+    new: u32,
+) -> Result<List<Record>, NoMemory>
+    requires { size_of rows.now.kept.items < 2 ^ 32 }
+    ensures { IfOk result (λ records. records
+        ≡ groups.purge_records (moved new 0 rows.now.kept.items) rows.now.gone.items) }
+{
+    let mut records = List::new(alloc);
+    let placed = moved(alloc, rows.kept.as_slice(), new)?;
+    add_places(alloc, placed.as_slice(), &mut records)?;
+    add_expunges(alloc, rows.gone.as_slice(), &mut records)?;
     Ok(records)
 }

@@ -35,7 +35,7 @@ const MESSAGE_LIMIT: usize = 33_554_432;
 const SAVE_SIZE: u32 = 120;
 
 /// A number of 32 bits is one. Nothing is computed.
-fn is_number(n: u32)
+pub(crate) fn is_number(n: u32)
     ensures { IsU32 n }
 {}
 

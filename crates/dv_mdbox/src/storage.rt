@@ -91,8 +91,8 @@ impl<S, C> Storage<S, C> {
         self.mark
     }
 
-    /// The folder and the clock, for other uses, and the groups that were written, each by author 1.
-    /// Takes no memory.
+    /// The folder and the clock, for other uses, and the groups that were written, each by author
+    /// 1. Takes no memory.
     pub fn parts(self) -> (S, C, List<Entry>)
         ensures { result ≡ (self.shelf, self.clock, self.entries) }
     {

@@ -83,7 +83,7 @@ fn larger(a: Option<u32>, b: Option<u32>) -> Option<u32>
 }
 
 /// The number of a message file.
-fn number_of(name: Name) -> Option<u32>
+pub(crate) fn number_of(name: Name) -> Option<u32>
     ensures { result ≡ mail_number name }
 {
     match name {
@@ -123,7 +123,7 @@ fn place_behind(tail: Option<Tail>) -> Option<Target>
 }
 
 /// The number behind another, or 1 where there is none; none behind the last one.
-fn number_behind(highest: Option<u32>) -> Option<u32>
+pub(crate) fn number_behind(highest: Option<u32>) -> Option<u32>
     ensures { MatchOption result (highest ≡ Some 4294967295)
         (λ n. n ≡ tails.number_behind highest) }
 {

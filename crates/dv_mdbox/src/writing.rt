@@ -17,7 +17,7 @@ ghost use Rattle.dv_filing.specs.Writes.{KeepsThrough};
 ghost use Rattle.dv_maps.specs.Laws.{AreWritten};
 ghost use Rattle.dv_maps.specs.Texts.{Messages};
 ghost use Rattle.dv_mdbox.specs.Answers.{HasStorageCause, IsFailure};
-ghost use Rattle.dv_mdbox.specs.Writes.{WritesGroup, WritesQuietly};
+ghost use Rattle.dv_mdbox.specs.Writes.{WritesBeside, WritesGroup};
 
 use crate::fault::disk;
 use crate::readying::{Ready, make_ready};
@@ -54,7 +54,7 @@ pub(crate) fn turn_time<C: Clock>(clock: &mut C, chain: &Chain, owed: &Option<Tu
 
 /// Whether a group of so many bytes has no room behind a chain's log, and no file can follow.
 pub(crate) fn is_full(chain: &Chain, size: u32) -> bool
-    requires { size ≤ 1000 }
+    requires { size ≤ 67108864 }
     ensures { result ≡ is_log_full true (place_of chain.now) size }
 {
     chain.log.file_seq == u32::MAX && u64::from(chain.log.end) + u64::from(size) > 1_073_741_820
@@ -93,7 +93,7 @@ impl<S: Shelf, C> Storage<S, C> {
             Stands S.sees messages debt self.old.chain self.old.shelf →
             applied self.old.chain.live.mailbox records ≡ Some after →
             KeepsThrough messages next self.old.chain.live.mailbox after files →
-            WritesQuietly S.sees messages next debt after (length (flat_map written records))
+            WritesBeside S.sees messages next debt after (length (flat_map written records)) files
             self.old self.new result }
         ensures settled { S.sees.tells → StaysSettled S.sees self.old.shelf self.new.shelf }
         // Memory ran out, or the disk failed, which has its cause.

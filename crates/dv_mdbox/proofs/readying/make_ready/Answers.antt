@@ -1,5 +1,4 @@
 use Rattle.std.proofs.Common.{◌∙◌, refl, length}
-use Rattle.std.proofs.lemmas.Result.{err_from_is_err_and}
 use Rattle.dv_model.specs.Spelling.{group_text}
 use Rattle.dv_chain.specs.declared.chain.Chain.{Chain}
 use Rattle.dv_plans.proofs.Readied.{due_of, room_left, seq_of}

@@ -59,4 +59,4 @@ returns-clause-gives g c = rw (← c.self.view_is) (λ tells messages debt n cha
     let records = c.in_ok-records.records in
     let is = is_counted c.counts_are.ensures law m c.args.id n c.args.count change rest.map c.is_valid.ensures (omega (arith, c.ranges.id.fits)) (omega (arith, c.ranges.count.fits)) there to in
     counts_done S.sees messages debt c.args.id c.args.count change _ rest is law records c.in_ok-records.ensures c.write.new.self c.turn_time-time.new.clock c.write.result c.write.ensures.value
-    (c.write.ensures.gives tells messages messages debt is.after rest.fits rest.stands (ap (applied m) c.in_ok-records.ensures ∙ is.gives) (through_count messages m is.after c.args.id change is.counts)))
+    (c.write.ensures.gives tells messages messages debt is.after rest.fits rest.stands (ap (applied m) c.in_ok-records.ensures ∙ is.gives) (through_count messages m is.after c.args.id change is.counts)).0)

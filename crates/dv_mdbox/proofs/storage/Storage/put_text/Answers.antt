@@ -74,7 +74,7 @@ returns-in-Ok-clause-gives g c =
       saves_ok S.sees messages debt message place _ c.write.new.self tt c.next_uid-id.result
           (saves_done S.sees messages debt message place _ rest saved law uid c.in_ok-records.records is c.write.new.self (Ok tt) value
           (gives tells messages (with_message m.next_uid message messages) debt saved.after rest.fits rest.stands (ap (applied m) is ∙ saved.gives)
-          (save_through m valid (record { file = place.file; offset = place.offset }) free message text held messages place (place_is place text c.requires.size) saved))),
+          (save_through m valid (record { file = place.file; offset = place.offset }) free message text held messages place (place_is place text c.requires.size) saved)).0),
     ))
 
 pub returns-in-Err-clause-gives : goal.returns-in-Err-clause-gives
@@ -98,5 +98,5 @@ returns-in-Err-clause-gives g c =
       saves_err S.sees messages debt message place _ c.write.new.self c.in-Err.e c.in-Err.e
           (saves_done S.sees messages debt message place _ rest saved law uid c.in_ok-records.records is c.write.new.self (Err c.in-Err.e) value
           (gives tells messages (with_message m.next_uid message messages) debt saved.after rest.fits rest.stands (ap (applied m) is ∙ saved.gives)
-          (save_through m valid (record { file = place.file; offset = place.offset }) free message text held messages place (place_is place text c.requires.size) saved))),
+          (save_through m valid (record { file = place.file; offset = place.offset }) free message text held messages place (place_is place text c.requires.size) saved)).0),
     ))

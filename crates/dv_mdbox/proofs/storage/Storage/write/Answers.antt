@@ -1,11 +1,11 @@
-use Rattle.std.proofs.Common.{List, Option, Some, Ok, Err, ◌∙◌, ◌++◌, ◌∷◌, [], refl, sym, ap, subst}
+use Rattle.std.proofs.Common.{List, ◌∙◌, ◌++◌, ◌∷◌, [], refl, sym, ap, subst}
 use Rattle.std.proofs.lemmas.Result.{err_from_is_err_and}
 use Rattle.dv_model.specs.declared.types.Entry.{Entry}
 use Rattle.dv_model.specs.declared.types.Mailbox.{Mailbox}
 use Rattle.dv_filing.specs.Standing.{Fits}
 use Rattle.dv_mdbox.specs.Writes.{entry_of}
 use Rattle.dv_mdbox.proofs.Equal.{owing_equal, stands_equal, stands_looked}
-use Rattle.dv_mdbox.proofs.Written.{group_written, quiet_entries, quiet_failed, quiet_unwritten, quiet_written, write_of}
+use Rattle.dv_mdbox.proofs.Written.{group_written, mails_looked, mails_written, quiet_entries, quiet_failed, quiet_unwritten, quiet_written, write_of}
 use Rattle.dv_mdbox.proofs.storage.Storage.write.Goals as goal
 
 pub invariant_of-self-in_err-reserve : goal.invariant_of-self-in_err-reserve
@@ -25,8 +25,10 @@ returns-in_err-text-clause-gives g c = rw (← c.self.view_is) (λ tells message
     let same = c.in_err-text.ensures.chain in
     let looks = c.in_err-text.ensures.looks tells in
     let p = err_from_is_err_and c.from_residual.result c.from_residual.ensures.1 in
-    rw p.1
-    (quiet_unwritten S.sees messages next debt after c.args.records _ chain same mid looks stands p.0 fits (stands_equal S.sees messages debt chain old.chain mid same (stands_looked S.sees messages debt old.chain old.shelf mid looks stands))))
+    rw p.1 (
+      quiet_unwritten S.sees messages next debt after c.args.records _ chain same mid looks stands p.0 fits (stands_equal S.sees messages debt chain old.chain mid same (stands_looked S.sees messages debt old.chain old.shelf mid looks stands)),
+      mails_looked S.sees c.args.files old.shelf mid looks,
+    ))
 
 pub returns-in_err-reserve-clause-gives : goal.returns-in_err-reserve-clause-gives
 returns-in_err-reserve-clause-gives g c = rw (← c.self.view_is) (λ tells messages next debt after fits stands gives keeps.
@@ -37,9 +39,11 @@ returns-in_err-reserve-clause-gives g c = rw (← c.self.view_is) (λ tells mess
     let same = c.in_ok-text.ensures.chain in
     let looks = c.in_ok-text.ensures.looks tells in
     let p = err_from_is_err_and c.from_residual-in_err-reserve.result c.from_residual-in_err-reserve.ensures.1 in
-    rw p.1
-    (quiet_entries S.sees messages next debt after _ _ _ _ _
-    (quiet_unwritten S.sees messages next debt after c.args.records _ chain same mid looks stands p.0 fits (stands_equal S.sees messages debt chain old.chain mid same (stands_looked S.sees messages debt old.chain old.shelf mid looks stands)))))
+    rw p.1 (
+      quiet_entries S.sees messages next debt after _ _ _ _ _
+          (quiet_unwritten S.sees messages next debt after c.args.records _ chain same mid looks stands p.0 fits (stands_equal S.sees messages debt chain old.chain mid same (stands_looked S.sees messages debt old.chain old.shelf mid looks stands))),
+      mails_looked S.sees c.args.files old.shelf mid looks,
+    ))
 
 -- ---- the group was written
 
@@ -66,8 +70,10 @@ returns-in-Ok-clause-gives g c = rw (← c.self.view_is) (λ tells messages next
     let steps = ready.ensures.ready in
     let closes = ready.ensures.closes tells in
     let is = write_of S.sees messages next after c.args.records old.owed old.chain chain same old.shelf mid looks c.args.files made.text made.steps steps closes gives keeps in
-    quiet_written S.sees messages next debt after c.args.records _ chain same mid looks stands c.args.files made.text made.steps steps new.owed new.chain new.shelf c.in-Ok.committed _ refl refl refl c.in-Ok.ensures.value.paid.1
-    (c.in-Ok.ensures.gives tells messages next debt after (subst (λ (m : Mailbox). Fits old.owed m debt) (sym same.mailbox) fits) here is))
+    let done = c.in-Ok.ensures.gives tells messages next debt after (subst (λ (m : Mailbox). Fits old.owed m debt) (sym same.mailbox) fits) here is in (
+      quiet_written S.sees messages next debt after c.args.records _ chain same mid looks stands c.args.files made.text made.steps steps new.owed new.chain new.shelf c.in-Ok.committed _ refl refl refl c.in-Ok.ensures.value.paid.1 done,
+      mails_written S.sees c.args.files made.steps steps.file old.shelf mid new.shelf looks done.others,
+    ))
 
 -- ---- or that failed
 
@@ -86,6 +92,8 @@ returns-in-Err-clause-gives g c = rw (← c.self.view_is) (λ tells messages nex
     let steps = ready.ensures.ready in
     let closes = ready.ensures.closes tells in
     let is = write_of S.sees messages next after c.args.records old.owed old.chain chain same old.shelf mid looks c.args.files made.text made.steps steps closes gives keeps in
-    quiet_entries S.sees messages next debt after _ _ _ _ _
-    (quiet_failed S.sees messages next debt after c.args.records _ chain same mid looks stands c.args.files made.text made.steps steps new.owed new.chain new.shelf c.in-Err.field-0 _
-    (c.in-Err.ensures.gives tells messages next debt after (subst (λ (m : Mailbox). Fits old.owed m debt) (sym same.mailbox) fits) here is)))
+    let done = c.in-Err.ensures.gives tells messages next debt after (subst (λ (m : Mailbox). Fits old.owed m debt) (sym same.mailbox) fits) here is in (
+      quiet_entries S.sees messages next debt after _ _ _ _ _
+          (quiet_failed S.sees messages next debt after c.args.records _ chain same mid looks stands c.args.files made.text made.steps steps new.owed new.chain new.shelf c.in-Err.field-0 _ done),
+      mails_written S.sees c.args.files made.steps steps.file old.shelf mid new.shelf looks done.others,
+    ))

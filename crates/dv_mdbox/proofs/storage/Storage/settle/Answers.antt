@@ -1,0 +1,16 @@
+use Rattle.std.proofs.Common.{refl}
+use Rattle.dv_mdbox.proofs.Stepping.{none_taken}
+use Rattle.dv_mdbox.proofs.Thinning.{outcome_failure, paid_then, quiet_settled, repaired_id}
+use Rattle.dv_mdbox.proofs.storage.Storage.settle.Goals as goal
+
+pub returns-clause-value : goal.returns-clause-value
+returns-clause-value g c = rw (← c.self.view_is) (none_taken 0 _ _ (λ i. (c.pay-paid.ensures.value.live i).mailbox) refl refl refl (repaired_id _ _ _ c.pay-paid.result c.pay-paid.ensures.value.chain))
+
+pub returns-clause-gives : goal.returns-clause-gives
+returns-clause-gives g c = rw (← c.self.view_is) (λ tells messages debt rest.
+    let value = c.pay-paid.ensures.value in
+    let done = paid_then _ _ _ _ c.pay-paid.result value.paid value.failed in
+    quiet_settled g.S.Shelf.sees messages c.thinnings_are.ensures debt _ _ (λ i. (value.live i).mailbox) rest _ c.pay-paid.result c.outcome.result c.outcome.ensures done.0 done.1 (c.pay-paid.ensures.quiet tells messages debt rest.fits rest.stands))
+
+pub returns-clause-err : goal.returns-clause-err
+returns-clause-err g c = outcome_failure _ c.pay-paid.result c.outcome.result c.outcome.ensures

@@ -1,0 +1,239 @@
+//! Ids that have no reference are removed, and the files rewritten that have some.
+
+ghost use Rattle.std.specs.Prelude.{◌≡◌, ◌-◌, ◌^◌, ◌<◌, ◌≤◌, All, IfErr, IfOk, IfSome, List, MatchOption, OnOk, length, ℕ};
+ghost use Rattle.dv_logfile.specs.Settling.{StaysSettled};
+ghost use Rattle.dv_shelf.specs.declared.shelf.Name.TheVariants as name;
+ghost use Rattle.dv_chain.specs.Openings.{OnlyLooks};
+ghost use Rattle.dv_chain.specs.Rest.{Nothing, Owed};
+ghost use Rattle.dv_maps.specs.Purges.{StandsIn, texts_in};
+ghost use Rattle.dv_maps.specs.Texts.{Messages};
+ghost use Rattle.dv_mdbox.specs.Answers.{HasStorageCause, IsFailure};
+ghost use Rattle.dv_mdbox.specs.Gathering.{AreRowsOf, Gathers, size_of};
+ghost use Rattle.dv_mdbox.specs.Purging.{AllNamed, AnswersPurge, IsCleared, IsNextGone, IsTaken, IsTakenAway, NoneGoneFrom, NumbersFile, PurgesMap, PurgesQuietly, TakesFile, TakesSome};
+ghost use Rattle.dv_mdbox.specs.States.{IsAtRest, IsLookedAt};
+
+use crate::fault::told;
+use crate::gathering::{FileRows, next_gone, read_kept, rows_of};
+use crate::tails::{number_behind, tail_of};
+use crate::{Storage, StorageFault};
+use dv_apply::Live;
+use dv_filing::Files;
+use dv_maps::thinnings_are;
+use dv_model::{Bytes, NoMemory};
+use dv_shelf::{Clock, Shelf};
+
+/// The number behind the highest that a map names.
+fn next_file(live: &Live) -> Result<u32, StorageFault>
+    ensures { NumbersFile live.now.mailbox result }
+{
+    let named = match tail_of(live) {
+        Some(tail) => Some(tail.file),
+        None => None,
+    };
+    match number_behind(named) {
+        Some(file) => Ok(file),
+        None => Err(StorageFault::Files),
+    }
+}
+
+impl<S, C> Storage<S, C> {
+    /// How many ids there are.
+    fn count(&self) -> u32
+        ensures { result ≡ length self.now.chain.live.mailbox.rows }
+    {
+        self.chain.live.count()
+    }
+
+    /// The first file from a number on that has an id without references.
+    fn next_gone(&self, from: u64) -> Option<u32>
+        ensures { MatchOption result (NoneGoneFrom self.now.chain.live.mailbox from)
+            (IsNextGone self.now.chain.live.mailbox from) }
+    {
+        next_gone(&self.chain.live, from)
+    }
+
+    /// The rows of a file.
+    fn file_rows(&self, file: u32) -> Result<FileRows, NoMemory>
+        ensures { IfOk result (AreRowsOf self.now.chain.live.mailbox file) }
+    {
+        rows_of(self.alloc, &self.chain.live, file)
+    }
+
+    /// The number of the next new file.
+    fn next_number(&self) -> Result<u32, StorageFault>
+        ensures { NumbersFile self.now.chain.live.mailbox result }
+    {
+        next_file(&self.chain.live)
+    }
+}
+
+impl<S: Shelf, C: Clock> Storage<S, C> {
+    /// The texts that a file keeps, one behind another; none where one is damaged, or where they
+    /// have 4 GiB or more.
+    fn file_texts(&mut self, file: u32, rows: &FileRows) -> Result<Option<Bytes>, StorageFault>
+        requires { 1 ≤ length rows.now.kept.items }
+        ensures stays { IsLookedAt self.old self.new }
+        ensures found { S.sees.tells → IfOk result
+            (Gathers (S.sees.files self.old.shelf (name.Mail file)) rows.now.kept.items) }
+        ensures short { IfOk result (λ found.
+            IfSome found (λ texts. size_of rows.now.kept.items < 2 ^ 32)) }
+        ensures looks { S.sees.tells → OnlyLooks S.sees self.old.shelf self.new.shelf }
+        ensures err { IfErr result IsFailure }
+        ensures cause { HasStorageCause (S.sees.fault_count self.old.shelf)
+            (S.sees.fault_count self.new.shelf) result }
+    {
+        match read_kept(self.alloc, &mut self.shelf, file, rows.kept.as_slice()) {
+            Ok(texts) => Ok(texts),
+            Err(fault) => Err(told(&self.shelf, fault)),
+        }
+    }
+
+    /// Rewrites a file whose kept texts these are, one behind another.
+    fn put_texts(&mut self, file: u32, rows: FileRows, texts: Bytes) -> Result<(), StorageFault>
+        requires rows { AreRowsOf self.old.chain.live.mailbox file rows }
+        requires some { (1 ≤ length rows.kept.items) × (1 ≤ length rows.gone.items) }
+        requires short { size_of rows.kept.items < 2 ^ 32 }
+        ensures value { (from : ℕ) → IsNextGone self.old.chain.live.mailbox from file →
+            TakesFile from file self.old self.new result }
+        ensures gives { S.sees.tells → (messages : Messages) (bytes : List ℕ) →
+            IsAtRest S.sees messages Nothing self.old →
+            texts ≡ texts_in bytes rows.kept.items →
+            All (StandsIn messages bytes) rows.kept.items →
+            PurgesQuietly S.sees messages Nothing self.old self.new result
+            × OnOk result (IsTakenAway file (S.sees.files self.old.shelf)
+            (S.sees.files self.new.shelf) self.old.chain.live.mailbox
+            self.new.chain.live.mailbox) }
+        ensures settled { S.sees.tells → StaysSettled S.sees self.old.shelf self.new.shelf }
+        ensures clock { C.sees.tells →
+            TakesSome (C.sees.upcoming self.old.clock) (C.sees.upcoming self.new.clock) }
+        ensures answers { AnswersPurge self.new.chain result }
+        ensures cause { HasStorageCause (S.sees.fault_count self.old.shelf)
+            (S.sees.fault_count self.new.shelf) result }
+    {
+        thinnings_are();
+        let new = self.next_number()?;
+        self.rewrite_file(file, new, rows, Files::File(new, texts))
+    }
+
+    /// Rewrites a file that keeps texts, or passes it over.
+    fn move_texts(&mut self, file: u32, rows: FileRows) -> Result<(), StorageFault>
+        requires rows { AreRowsOf self.old.chain.live.mailbox file rows }
+        requires some { (1 ≤ length rows.kept.items) × (1 ≤ length rows.gone.items) }
+        ensures value { (from : ℕ) → IsNextGone self.old.chain.live.mailbox from file →
+            TakesFile from file self.old self.new result }
+        ensures gives { S.sees.tells → (messages : Messages) →
+            IsAtRest S.sees messages Nothing self.old →
+            PurgesQuietly S.sees messages Nothing self.old self.new result
+            × OnOk result (IsTaken file (S.sees.files self.old.shelf)
+            (S.sees.files self.new.shelf) self.old.chain.live.mailbox
+            self.new.chain.live.mailbox) }
+        ensures settled { S.sees.tells → StaysSettled S.sees self.old.shelf self.new.shelf }
+        ensures clock { C.sees.tells →
+            TakesSome (C.sees.upcoming self.old.clock) (C.sees.upcoming self.new.clock) }
+        ensures answers { AnswersPurge self.new.chain result }
+        ensures cause { HasStorageCause (S.sees.fault_count self.old.shelf)
+            (S.sees.fault_count self.new.shelf) result }
+    {
+        thinnings_are();
+        let found = self.file_texts(file, &rows)?;
+        match found {
+            Some(texts) => self.put_texts(file, rows, texts),
+            None => Ok(()),
+        }
+    }
+
+    /// Rewrites a file that has a row without references, or passes it over: where a text that it
+    /// keeps is damaged, or where those have 4 GiB or more.
+    fn take_file(&mut self, file: u32) -> Result<(), StorageFault>
+        requires { (from : ℕ) × IsNextGone self.old.chain.live.mailbox from file }
+        ensures value { (from : ℕ) → IsNextGone self.old.chain.live.mailbox from file →
+            TakesFile from file self.old self.new result }
+        ensures gives { S.sees.tells → (messages : Messages) →
+            IsAtRest S.sees messages Nothing self.old →
+            PurgesQuietly S.sees messages Nothing self.old self.new result
+            × OnOk result (IsTaken file (S.sees.files self.old.shelf)
+            (S.sees.files self.new.shelf) self.old.chain.live.mailbox
+            self.new.chain.live.mailbox) }
+        ensures settled { S.sees.tells → StaysSettled S.sees self.old.shelf self.new.shelf }
+        ensures clock { C.sees.tells →
+            TakesSome (C.sees.upcoming self.old.clock) (C.sees.upcoming self.new.clock) }
+        ensures answers { AnswersPurge self.new.chain result }
+        ensures cause { HasStorageCause (S.sees.fault_count self.old.shelf)
+            (S.sees.fault_count self.new.shelf) result }
+    {
+        thinnings_are();
+        let rows = self.file_rows(file)?;
+        if rows.kept.as_slice().is_empty() {
+            self.rewrite_file(file, 0, rows, Files::Nothing)
+        } else {
+            self.move_texts(file, rows)
+        }
+    }
+
+    /// Takes each file that has a row without references, by rising number.
+    fn take_files(&mut self) -> Result<(), StorageFault>
+        ensures value { PurgesMap self.old self.new result }
+        ensures gives { S.sees.tells → (messages : Messages) →
+            IsAtRest S.sees messages Nothing self.old →
+            PurgesQuietly S.sees messages Nothing self.old self.new result }
+        ensures clears { S.sees.tells → (messages : Messages) →
+            IsAtRest S.sees messages Nothing self.old →
+            AllNamed (S.sees.files self.old.shelf) self.old.chain.live.mailbox →
+            OnOk result
+            (IsCleared (S.sees.files self.new.shelf) self.new.chain.live.mailbox) }
+        ensures settled { S.sees.tells → StaysSettled S.sees self.old.shelf self.new.shelf }
+        ensures clock { C.sees.tells →
+            TakesSome (C.sees.upcoming self.old.clock) (C.sees.upcoming self.new.clock) }
+        ensures answers { AnswersPurge self.new.chain result }
+        ensures cause { HasStorageCause (S.sees.fault_count self.old.shelf)
+            (S.sees.fault_count self.new.shelf) result }
+    {
+        thinnings_are();
+        let mut from: u64 = 0;
+        while let Some(file) = self.next_gone(from) {
+            self.take_file(file)?;
+            from = u64::from(file) + 1;
+        }
+        Ok(())
+    }
+
+    /// Removes the ids that have no reference, and answers how many went. What is owed is paid, and
+    /// message files that the map doesn't name are removed. Then by rising number each file that
+    /// has an id without references is rewritten: the texts of its other ids go into a new file, a
+    /// group removes the ids and says the new places, and the file is removed. A file in which such
+    /// a text is damaged is passed over, and so is one where they have 4 GiB or more; so ids
+    /// without references may stay there. `Files` comes only where a new file is needed and no
+    /// number is left for it, and `TooLong` only where a group has more than 64 MiB, or where the
+    /// log is full and no file can follow it. `Disk` comes only where the shelf's count of faults
+    /// rose. After an error the ids are as before, but that those that went with a group stay gone.
+    pub fn purge(&mut self) -> Result<u32, StorageFault>
+        // Which error it is, and how many ids went.
+        ensures answers { AnswersPurge self.new.chain result }
+        ensures count { IfOk result (λ n. n ≡ length self.old.chain.live.mailbox.rows
+            - length self.new.chain.live.mailbox.rows) }
+        // What becomes of the map, file by file, over any shelf.
+        ensures value { PurgesMap self.old self.new result }
+        // The storage is without some ids that have no reference; from rest to rest.
+        ensures gives { S.sees.tells → (messages : Messages) (debt : Owed) →
+            IsAtRest S.sees messages debt self.old →
+            PurgesQuietly S.sees messages debt self.old self.new result }
+        // Each message file is named, and no id without references is left, but in files that were
+        // passed over.
+        ensures clears { S.sees.tells → (messages : Messages) (debt : Owed) →
+            IsAtRest S.sees messages debt self.old → OnOk result
+            (IsCleared (S.sees.files self.new.shelf) self.new.chain.live.mailbox) }
+        ensures settled { S.sees.tells → StaysSettled S.sees self.old.shelf self.new.shelf }
+        // The clock is read where the log is rotated; a fault of the disk has its cause.
+        ensures clock { C.sees.tells →
+            TakesSome (C.sees.upcoming self.old.clock) (C.sees.upcoming self.new.clock) }
+        ensures cause { HasStorageCause (S.sees.fault_count self.old.shelf)
+            (S.sees.fault_count self.new.shelf) result }
+    {
+        thinnings_are();
+        let before = self.count();
+        self.settle()?;
+        self.clear_orphans()?;
+        self.take_files()?;
+        Ok(before.saturating_sub(self.count()))
+    }
+}

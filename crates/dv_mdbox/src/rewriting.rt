@@ -1,0 +1,136 @@
+//! A file is rewritten.
+
+ghost use Rattle.std.specs.Prelude.{◌≡◌, ◌⊎◌, ◌^◌, ◌<◌, ◌≤◌, List, All, IfOk, MatchBool, OnOk, flat_map, length, ℕ};
+ghost use Rattle.dv_model.specs.Sessions.{group_limit};
+ghost use Rattle.dv_model.specs.Mailboxes.{IsValid};
+ghost use Rattle.dv_model.specs.Spelling.{IsRecord, written};
+ghost use Rattle.dv_logfile.specs.Settling.{StaysSettled};
+ghost use Rattle.dv_chain.specs.Rest.{Nothing};
+ghost use Rattle.dv_filing.specs.Files as filing;
+ghost use Rattle.dv_maps.specs.Groups.{purge_records as records_of};
+ghost use Rattle.dv_maps.specs.Purges.{AreSpelled, moved};
+ghost use Rattle.dv_maps.specs.Texts.{Messages};
+ghost use Rattle.dv_mdbox.specs.Answers.{HasRoom, HasStorageCause, IsFull};
+ghost use Rattle.dv_mdbox.specs.Gathering.{size_of as bytes_of};
+ghost use Rattle.dv_mdbox.specs.Purging.{AnswersPurge, IsNextGone, IsRewriteOf, IsTakenAway, PurgesQuietly, TakesFile, TakesSome, WritesKept, WritesLater};
+ghost use Rattle.dv_mdbox.specs.States.{IsAtRest};
+ghost use Rattle.dv_mdbox.specs.Writes.{WritesGroup};
+
+use crate::gathering::FileRows;
+use crate::records::purge_records;
+use crate::saving::is_number;
+use crate::writing::{is_full, is_valid, turn_time};
+use crate::{Storage, StorageFault};
+use dv_chain::Chain;
+use dv_filing::Files;
+use dv_logfile::group_text;
+use dv_maps::{rewrites_are, rewrites_are_written, rewrites_lose_nothing, thinnings_are};
+use dv_model::{Group, List, NoMemory, Record};
+use dv_shelf::{Clock, Shelf};
+use std::alloc::Global;
+
+/// The most bytes of a group.
+const GROUP_LIMIT: u64 = 67_108_864;
+
+/// The bytes of a group.
+fn size_of(alloc: Global, group: &Group) -> Result<u64, NoMemory>
+    requires some { 1 ≤ length group.now.records }
+    requires valid { All IsRecord group.now.records }
+    ensures { IfOk result (λ size. size ≡ length (flat_map written group.now.records)) }
+{
+    let text = group_text(alloc, group)?;
+    Ok(text.len() as u64 - 4)
+}
+
+/// Whether a group of so many bytes is too long, or has no room behind a chain's log while no file
+/// can follow.
+fn lacks_room(chain: &Chain, size: u64) -> bool
+    ensures { MatchBool result ((group_limit < size) ⊎ IsFull chain.now size)
+        ((size ≤ group_limit) × HasRoom chain.now size) }
+{
+    if size > GROUP_LIMIT {
+        return true;
+    }
+    is_full(chain, size as u32)
+}
+
+impl<S, C> Storage<S, C> {
+    /// The map is valid. Nothing is computed.
+    fn has_valid_map(&self)
+        ensures { IsValid self.now.chain.live.mailbox }
+    {
+        is_valid(&self.chain.live);
+    }
+
+    /// The records for these rows of a file.
+    fn file_records(&self, rows: &FileRows, new: u32) -> Result<List<Record>, NoMemory>
+        requires { bytes_of rows.now.kept.items < 2 ^ 32 }
+        ensures { IfOk result (λ records. records
+            ≡ records_of (moved new 0 rows.now.kept.items) rows.now.gone.items) }
+    {
+        purge_records(self.alloc, rows, new)
+    }
+}
+
+impl<S: Shelf, C: Clock> Storage<S, C> {
+    /// Writes a group of these records behind this file.
+    fn put_group(&mut self, records: List<Record>, files: Files) -> Result<(), StorageFault>
+        requires some { 1 ≤ length records }
+        requires spelled { AreSpelled self.old.chain.live.mailbox records }
+        requires room { filing.HasRoom files }
+        // The map, the entries and the mark, over any shelf.
+        ensures value { WritesGroup records self.old self.new result }
+        // What the folder gives, at any moment and afterwards; from rest to rest.
+        ensures gives { S.sees.tells → WritesLater S.sees records files self.old self.new result }
+        ensures settled { S.sees.tells → StaysSettled S.sees self.old.shelf self.new.shelf }
+        ensures clock { C.sees.tells →
+            TakesSome (C.sees.upcoming self.old.clock) (C.sees.upcoming self.new.clock) }
+        ensures answers { AnswersPurge self.new.chain result }
+        ensures cause { HasStorageCause (S.sees.fault_count self.old.shelf)
+            (S.sees.fault_count self.new.shelf) result }
+    {
+        let group = Group { records };
+        let size = size_of(self.alloc, &group)?;
+        if lacks_room(&self.chain, size) {
+            return Err(StorageFault::TooLong { bytes: size });
+        }
+        let time = turn_time(&mut self.clock, &self.chain, &self.owed);
+        self.write(group.records, files, time)
+    }
+
+    /// Rewrites a file: its kept texts go into a new one, where there are some.
+    pub(crate) fn rewrite_file(
+        &mut self,
+        file: u32,
+        new: u32,
+        rows: FileRows,
+        files: Files,
+    ) -> Result<(), StorageFault>
+        requires { IsRewriteOf self.old.chain.live.mailbox file new rows files }
+        ensures value { (from : ℕ) → IsNextGone self.old.chain.live.mailbox from file →
+            TakesFile from file self.old self.new result }
+        ensures gives { S.sees.tells → (messages : Messages) (bytes : List ℕ) →
+            IsAtRest S.sees messages Nothing self.old →
+            WritesKept messages self.old.chain.live.mailbox file new bytes files →
+            PurgesQuietly S.sees messages Nothing self.old self.new result
+            × OnOk result (IsTakenAway file (S.sees.files self.old.shelf)
+            (S.sees.files self.new.shelf) self.old.chain.live.mailbox
+            self.new.chain.live.mailbox) }
+        ensures settled { S.sees.tells → StaysSettled S.sees self.old.shelf self.new.shelf }
+        ensures clock { C.sees.tells →
+            TakesSome (C.sees.upcoming self.old.clock) (C.sees.upcoming self.new.clock) }
+        ensures answers { AnswersPurge self.new.chain result }
+        ensures cause { HasStorageCause (S.sees.fault_count self.old.shelf)
+            (S.sees.fault_count self.new.shelf) result }
+    {
+        self.has_valid_map();
+        is_number(new);
+        rewrites_are();
+        rewrites_are_written();
+        rewrites_lose_nothing();
+        thinnings_are();
+        let records = self.file_records(&rows, new)?;
+        self.put_group(records, files)?;
+        self.clear_files(&[file])
+    }
+}
