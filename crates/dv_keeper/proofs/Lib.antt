@@ -1,1 +1,5 @@
 pub mod Settles
+pub mod Members
+pub mod Turning
+pub mod Committed
+pub mod Telling

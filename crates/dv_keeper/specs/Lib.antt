@@ -1,2 +1,4 @@
 pub mod Sessions
 pub mod Closing
+pub mod Turns
+pub mod Commits

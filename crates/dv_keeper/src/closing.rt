@@ -49,7 +49,7 @@ impl<S: Shelf, C: Clock, K: Keeping, L: Tally, M: Tally> Keeper<S, C, K, L, M> {
             × (K.honest → (folder : Folder) → S.sees.may_leave k.store.shelf folder
             → IsDurable K.start (notes_in k) folder) }
     {
-        let Keeper { shared } = self;
+        let Keeper { shared, .. } = self;
         let mut shared = shared.into_inner();
         let (mut writes, mut refusals) = shared.no_shares();
         settle_all(&mut shared, sessions, &mut writes, &mut refusals);

@@ -9,12 +9,14 @@ use dv_model::NoMemory;
 use dv_naming::{Keeping, Tally};
 use dv_shared::Shared;
 use dv_shelf::{Clock, Shelf};
+use std::alloc::Global;
 use std::sync::{Mutex, Wait};
 
 /// A mailbox store behind one lock, and what its sessions share.
 #[derive(Drop)]
 pub struct Keeper<S: Shelf, C: Clock, K: Keeping, L: Tally, M: Tally> {
     pub(crate) shared: Mutex<Shared<S, C, K, L, M>>,
+    pub(crate) alloc: Global,
 }
 
 impl<S: Shelf, C: Clock, K: Keeping, L: Tally, M: Tally> Keeper<S, C, K, L, M> {

@@ -73,6 +73,7 @@ impl<S: Shelf, C: Clock, K: Keeping, L: Tally, M: Tally> Keeper<S, C, K, L, M> {
             Ok(made) => {
                 let keeper = Keeper {
                     shared: Mutex::new(shared),
+                    alloc,
                 };
                 Ok((keeper, made))
             }

@@ -1,4 +1,4 @@
-use Rattle.std.proofs.Common.{◌≡◌, ◌∙◌, ℕ, List, ap, length, subst, sym}
+use Rattle.std.proofs.Common.{◌∙◌, ℕ, ap, length, subst, sym}
 use Rattle.std.specs.Prelude.{All}
 use mathlib.Core.List.{IsPrefix}
 use Rattle.dv_model.specs.Counts.{RoseBy}
