@@ -138,7 +138,7 @@ module _ {S : Type 0} (sees : SeesFolder S) (messages next : Messages) (debt : O
       → WritesStorage sees messages next debt after text steps (held old chain owed) (held way mid left) {T = U} {E = F} (Err f)
   storage_stopped e f quiet others = record {
     ok = tt;
-    err = (quiet.err.0, inl quiet.err.1, quiet.err.2, inl quiet.err.3);
+    err = (quiet.err.0, quiet.err.2, inl (quiet.err.1, quiet.err.3));
     any_moment = weaker sees old way (MayGiveOn messages debt steps.turn chain) May quiet.since (λ c gives. inl gives);
     others = others;
   }
@@ -183,7 +183,7 @@ module _ {S : Type 0} (sees : SeesFolder S) (messages next : Messages) (debt : O
       pub storage_halted : {F : Type 0} (f : F) → KeepsUnnamed steps (sees.files old) (sees.files between) → WritesStorage sees messages next debt after text steps (held old chain owed) (held between mid left) {T = Committed} {E = F} (Err f)
       storage_halted f others = record {
         ok = tt;
-        err = (Nothing, inl (inr (inl refl)), fits_none, inl stands_between);
+        err = (Nothing, fits_none, inl (inr (inl refl), stands_between));
         any_moment = since_between;
         others = others;
       }
@@ -206,11 +206,11 @@ module _ {S : Type 0} (sees : SeesFolder S) (messages next : Messages) (debt : O
 
         -- or that failed
         pub storage_failed : {F : Type 0} (f : F)
-            → (now : Owed) × ((now ≡ Nothing) ⊎ (now ≡ Pending text after)) × Fits None new_chain.live.mailbox now × (Stands sees messages now new_chain new ⊎ Stands sees next now new_chain new)
+            → (now : Owed) × Fits None new_chain.live.mailbox now × (((now ≡ Nothing) × Stands sees messages now new_chain new) ⊎ ((now ≡ Pending text after) × Stands sees next now new_chain new))
             → KeepsUnnamed steps (sees.files old) (sees.files new) → WritesStorage sees messages next debt after text steps (held old chain owed) (held new new_chain left) {T = Committed} {E = F} (Err f)
         storage_failed f some others = record {
           ok = tt;
-          err = (some.0, ⊎_elim (λ none. inl (inr (inl none))) (λ pending. inr pending) some.1, subst (λ (o : Option Turn). Fits o new_chain.live.mailbox some.0) (sym value.ok.1) some.2, some.3);
+          err = (some.0, subst (λ (o : Option Turn). Fits o new_chain.live.mailbox some.0) (sym value.ok.1) some.1, ⊎_elim (λ none. inl (inr (inl none.0), none.1)) (λ pending. inr pending) some.2);
           any_moment = since_new;
           others = others;
         }

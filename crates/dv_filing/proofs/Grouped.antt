@@ -17,7 +17,6 @@ use Rattle.dv_writing.specs.Commits.{AdvancesChain, CommitsGroup, OpensBeside, o
 use Rattle.dv_writing.specs.Opening.{mark_behind}
 use Rattle.dv_writing.proofs.Kept.{beside_log}
 use Rattle.dv_filing.specs.Standing.{Fits, Gives, Stands}
-use Rattle.dv_filing.specs.Writes.{StandsEither}
 use Rattle.dv_filing.proofs.Resting.{texts_same}
 use Rattle.dv_maps.specs.Texts.{KeepsTexts, Messages}
 
@@ -62,28 +61,32 @@ module _ {S : Type 0} (sees : SeesFolder S) (text : List ℕ) (messages next : M
 
   -- what a failed commit leaves
   abbrev LeftBy : Type 0
-  LeftBy = (owed : Owed) × ((owed ≡ Nothing) ⊎ (owed ≡ Pending text after)) × Fits None new_chain.live.mailbox owed × StandsEither sees messages next owed new_chain new
+  LeftBy = (owed : Owed) × Fits None new_chain.live.mailbox owed × (((owed ≡ Nothing) × Stands sees messages owed new_chain new) ⊎ ((owed ≡ Pending text after) × Stands sees next owed new_chain new))
 
   err_debt : (debt : LogDebt) → new_chain.live ≡ chain.live → Rests sees (owed_after debt text after) new_chain new → LeftBy
   err_debt log_debt.None live rests = (
     Nothing,
-    inl refl,
     tt,
-    inl (record {
-      rests = rests;
-      keeps = λ c left. subst (λ (l : Held). KeepsTexts messages l.mailbox c) (sym live) (kept c left).0;
-      pending = λ c left. tt;
-    }),
+    inl (
+      refl,
+      record {
+        rests = rests;
+        keeps = λ c left. subst (λ (l : Held). KeepsTexts messages l.mailbox c) (sym live) (kept c left).0;
+        pending = λ c left. tt;
+      },
+    ),
   )
   err_debt log_debt.Gate live rests = (
     Pending text after,
-    inr refl,
     tt,
-    inr (record {
-      rests = rests;
-      keeps = λ c left. subst (λ (l : Held). KeepsTexts next l.mailbox c) (sym live) (same c (kept c left).0);
-      pending = λ c left. (kept c left).1;
-    }),
+    inr (
+      refl,
+      record {
+        rests = rests;
+        keeps = λ c left. subst (λ (l : Held). KeepsTexts next l.mailbox c) (sym live) (same c (kept c left).0);
+        pending = λ c left. (kept c left).1;
+      },
+    ),
   )
 
   err_by : (r : Result Committed E) → AdvancesChain text chain new_chain r → OnErr r (Rests sees (owed_after new_chain.log.debt text after) new_chain new) → OnErr r LeftBy

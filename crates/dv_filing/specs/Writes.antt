@@ -73,11 +73,13 @@ pub record CarriesOut (owed left : Option Turn) (text : List ℕ) (steps : Steps
 abbrev pub IsLeftOwed : Owed → List ℕ → Mailbox → Mailbox → Owed → Type 0
 IsLeftOwed owed text m after now = IsOwedOnWay owed m now ⊎ (now ≡ Pending text after)
 
--- the storage stands with the messages from before, or with those that are known then
-abbrev pub StandsEither : {S : Type 0} → SeesFolder S → Messages → Messages → Owed → Chain → S
-    → Type 0
-StandsEither sees messages next owed chain shelf =
-    Stands sees messages owed chain shelf ⊎ Stands sees next owed chain shelf
+-- So the storage stands: with the messages from before, where what is owed was left on the way; or,
+-- where the group's gate may be open, with those that are known then.
+abbrev pub StandsLeft : {S : Type 0} → SeesFolder S → Messages → Messages → Owed → List ℕ → Mailbox
+    → Mailbox → Owed → Held S → Type 0
+StandsLeft sees messages next owed text m after now held =
+    (IsOwedOnWay owed m now × Stands sees messages now held.chain held.shelf)
+    ⊎ ((now ≡ Pending text after) × Stands sees next now held.chain held.shelf)
 
 -- what a crash leaves gives the map from before, or that with what was owed, or that with the group
 abbrev pub MayGiveWrite : Messages → Messages → Owed → Mailbox → Option Turn → List ℕ → Steps
@@ -100,9 +102,8 @@ pub record WritesStorage {S : Type 0} (sees : SeesFolder S) (messages next : Mes
     {T E : Type 0} (result : Result T E) : Type 0 where
   pub ok : OnOk result (Stands sees next Nothing new.chain new.shelf)
   pub err : OnErr result ((now : Owed)
-      × IsLeftOwed owed text old.chain.live.mailbox after now
       × Fits new.owed new.chain.live.mailbox now
-      × StandsEither sees messages next now new.chain new.shelf)
+      × StandsLeft sees messages next owed text old.chain.live.mailbox after now new)
   pub any_moment : LeavesOnly sees old.shelf new.shelf
       (MayGiveWrite messages next owed after old.owed text steps old.chain)
   pub others : KeepsUnnamed steps (sees.files old.shelf) (sees.files new.shelf)

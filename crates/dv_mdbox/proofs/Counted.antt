@@ -1,5 +1,5 @@
 -- The count of an id is changed.
-use Rattle.std.proofs.Common.{◌≡◌, inl, ⊎_elim, ℕ, ◌^◌, ◌<◌, ◌≤◌, List, [], length, Option, Some, None, Result, Ok, Err, refl, sym, ◌∙◌, ap, subst, arith}
+use Rattle.std.proofs.Common.{◌≡◌, inl, inr, ⊎_elim, ℕ, ◌^◌, ◌<◌, ◌≤◌, List, [], length, Option, Some, None, Result, Ok, Err, refl, sym, ◌∙◌, ap, subst, arith}
 use Rattle.std.specs.Prelude.{IfErr, IsSome, flat_map}
 use Rattle.dv_model.specs.declared.types.Mailbox.{Mailbox}
 use Rattle.dv_model.specs.declared.types.Record.{Record}
@@ -23,7 +23,7 @@ use Rattle.dv_maps.specs.Texts.{KeepsTexts, Messages}
 use Rattle.dv_mdbox.specs.declared.fault.StorageFault.{StorageFault}
 use Rattle.dv_mdbox.specs.declared.fault.StorageFault.TheVariants as fault
 use Rattle.dv_mdbox.specs.declared.looking.Reference.{Reference}
-use Rattle.dv_mdbox.specs.Answers.{ChangesCount, FindsRoom, HasRoom, IsFailure, IsReferenced}
+use Rattle.dv_mdbox.specs.Answers.{ChangesCount, FindsRoom, HasRoom, IsFailure, IsReferenced, OnRefused}
 use Rattle.dv_mdbox.specs.Looks.{reference_of}
 use Rattle.dv_mdbox.specs.States.{IsAtRest, State}
 use Rattle.dv_mdbox.specs.Writes.{CountsQuietly, MayGiveCall, WritesGroup, WritesQuietly}
@@ -35,17 +35,38 @@ use Rattle.dv_mdbox.proofs.Written.{group_clocked, quiet_clocked}
 pub finds_room : {A : Type 0} (chain : Chain) (size : ℕ) (result : Result A StorageFault) → HasRoom chain size → IfErr result IsFailure → FindsRoom chain size result
 finds_room chain size (Ok x) room failure = room
 finds_room chain size (Err (fault.Disk faults)) room failure = room
-finds_room chain size (Err fault.NoMemory) room failure = tt
+finds_room chain size (Err fault.NoMemory) room failure = room
 finds_room chain size (Err fault.None) room failure = absurd failure
 finds_room chain size (Err fault.Full) room failure = absurd failure
 finds_room chain size (Err fault.Ids) room failure = absurd failure
 finds_room chain size (Err fault.Files) room failure = absurd failure
 finds_room chain size (Err (fault.TooLong bytes)) room failure = absurd failure
 
+-- a failure is no refusal
+pub failure_refused : {A : Type 0} (P : Type 0) (result : Result A StorageFault) → IfErr result IsFailure → OnRefused result P
+failure_refused P (Ok x) failure = tt
+failure_refused P (Err (fault.Disk faults)) failure = tt
+failure_refused P (Err fault.NoMemory) failure = tt
+failure_refused P (Err fault.None) failure = absurd failure
+failure_refused P (Err fault.Full) failure = absurd failure
+failure_refused P (Err fault.Ids) failure = absurd failure
+failure_refused P (Err fault.Files) failure = absurd failure
+failure_refused P (Err (fault.TooLong bytes)) failure = absurd failure
+
+-- what holds anyway holds behind a refusal
+pub refused_anyway : (A P : Type 0) (e : StorageFault) → P → OnRefused {A = A} (Err e) P
+refused_anyway A P (fault.Disk faults) holds = tt
+refused_anyway A P fault.NoMemory holds = tt
+refused_anyway A P fault.None holds = holds
+refused_anyway A P fault.Full holds = holds
+refused_anyway A P fault.Ids holds = holds
+refused_anyway A P fault.Files holds = holds
+refused_anyway A P (fault.TooLong bytes) holds = holds
+
 pub changes_count : {A : Type 0} (m : Mailbox) (chain : Chain) (id most : ℕ) (reference : Reference) (result : Result A StorageFault) → reference_of m id ≡ Some reference → reference.count < most → FindsRoom chain 48 result → ChangesCount m chain id most result
 changes_count m chain id most reference (Ok x) is less room = ((reference, is, less), room)
 changes_count m chain id most reference (Err (fault.Disk faults)) is less room = ((reference, is, less), room)
-changes_count m chain id most reference (Err fault.NoMemory) is less room = tt
+changes_count m chain id most reference (Err fault.NoMemory) is less room = ((reference, is, less), room)
 changes_count m chain id most reference (Err fault.None) is less room = absurd room
 changes_count m chain id most reference (Err fault.Full) is less room = absurd room
 changes_count m chain id most reference (Err fault.Ids) is less room = absurd room
@@ -163,7 +184,7 @@ module _ {S C : Type 0} (sees : SeesFolder S) (messages : Messages) (debt : Owed
         after = is.after;
         counts = is.counts;
         ok = tt;
-        err = (some.0, some.1, some.2, record { stands = ⊎_elim (λ s. s) (λ s. s) some.4; fits = some.3; map = subst IsMap (sym value.kept.0) rest.map });
+        err = (some.0, some.1, ⊎_elim (λ way. inl way.0) (λ gate. inr gate.0) some.3, record { stands = ⊎_elim (λ way. way.1) (λ gate. gate.1) some.3; fits = some.2; map = subst IsMap (sym value.kept.0) rest.map });
         any_moment = writes.any_moment;
       }
 

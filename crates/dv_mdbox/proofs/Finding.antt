@@ -1,11 +1,11 @@
 -- A message is saved where a place for its text was found.
-use Rattle.std.proofs.Common.{◌≡◌, inl, inr, ⊎_elim, ℕ, List, Result, Ok, Err}
+use Rattle.std.proofs.Common.{◌≡◌, inl, inr, ⊎_elim, ℕ, List, Result, Ok, Err, refl}
 use Rattle.std.specs.Prelude.{IfErr, IfOk}
 use Rattle.dv_model.specs.declared.types.Mailbox.{Mailbox}
 use Rattle.dv_shelf.specs.Crashes.{LeavesOnly}
 use Rattle.dv_shelf.specs.Folders.{Folder}
 use Rattle.dv_shelf.specs.Sees.{SeesFolder}
-use Rattle.dv_shelf.proofs.Moments.{joined, weaker}
+use Rattle.dv_shelf.proofs.Moments.{joined, started, weaker}
 use Rattle.dv_chain.specs.declared.chain.Chain.{Chain}
 use Rattle.dv_chain.specs.Openings.{OnlyLooks}
 use Rattle.dv_chain.specs.Rest.{Owed}
@@ -16,7 +16,7 @@ use Rattle.dv_maps.specs.Texts.{Messages, with_message}
 use Rattle.dv_mdbox.specs.declared.fault.StorageFault.{StorageFault}
 use Rattle.dv_mdbox.specs.declared.fault.StorageFault.TheVariants as fault
 use Rattle.dv_mdbox.specs.Answers.{AnswersSave, IsFailure, IsShort}
-use Rattle.dv_mdbox.specs.States.{IsAtRest, State}
+use Rattle.dv_mdbox.specs.States.{IsAtRest, IsLookedAt, State}
 use Rattle.dv_mdbox.specs.Tails.{FindsTarget}
 use Rattle.dv_mdbox.specs.Writes.{MayGiveCall, SavesAt, SavesGroup, SavesQuietly}
 use Rattle.dv_mdbox.proofs.Equal.{stands_looked}
@@ -27,7 +27,7 @@ module _ (tells : Type 0) (folder : Folder) (m : Mailbox) (chain : Chain) (size 
   pub answers_put : (result : Result ℕ StorageFault) → IfOk result (λ id. id ≡ m.next_uid) → IfErr result IsFailure → AnswersSave tells folder m chain size result
   answers_put (Ok id) is failure = (short, is)
   answers_put (Err (fault.Disk faults)) is failure = short
-  answers_put (Err fault.NoMemory) is failure = tt
+  answers_put (Err fault.NoMemory) is failure = short
   answers_put (Err fault.None) is failure = absurd failure
   answers_put (Err fault.Full) is failure = absurd failure
   answers_put (Err fault.Ids) is failure = absurd failure
@@ -37,7 +37,7 @@ module _ (tells : Type 0) (folder : Folder) (m : Mailbox) (chain : Chain) (size 
   pub answers_unfound : (e : StorageFault) → FindsTarget tells folder m (Err e) → AnswersSave tells folder m chain size (Err e)
   answers_unfound fault.Files finds = (short, finds)
   answers_unfound (fault.Disk faults) finds = short
-  answers_unfound fault.NoMemory finds = tt
+  answers_unfound fault.NoMemory finds = short
   answers_unfound fault.None finds = absurd finds.3
   answers_unfound fault.Full finds = absurd finds.3
   answers_unfound fault.Ids finds = absurd finds.3
@@ -52,6 +52,13 @@ group_shelved old new shelf result saves =
     (saves.0, record { map = w.map; entries = w.entries; mark = w.mark; kept = w.kept; start = w.start; indexid = w.indexid })
 
 -- ---- the folder
+
+-- nothing was called
+pub looks_itself : {S : Type 0} (sees : SeesFolder S) (s : S) → ((c : Folder) → sees.left_since s (sees.moment s) c → sees.may_leave s c) → OnlyLooks sees s s
+looks_itself sees s now = record { same = refl; crash = λ c left. left; since = started sees s (sees.may_leave s) now }
+
+pub looked_itself : {S C : Type 0} (s : State S C) → IsLookedAt s s
+looked_itself s = record { clock = refl; chain = refl; owed = refl; start = refl; entries = refl; mark = refl }
 
 module _ {S C : Type 0} (sees : SeesFolder S) (messages : Messages) (debt : Owed) (message : List ℕ) (old : State S C) (mid : S) (looks : OnlyLooks sees old.shelf mid) (rest : IsAtRest sees messages debt old) where
   abbrev looked : State S C

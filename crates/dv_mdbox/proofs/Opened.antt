@@ -1,6 +1,6 @@
 -- A storage that was opened or made just now.
 use Rattle.std.proofs.Common.{◌≡◌, inl, inr, ℕ, List, [], Some, Result, Ok, Err, refl, sym, ◌∙◌, ap, subst}
-use Rattle.std.specs.Prelude.{All, IfOk}
+use Rattle.std.specs.Prelude.{All, IfErr, IfOk}
 use Rattle.std.proofs.lemmas.List.Elements.{All-nil}
 use Rattle.dv_model.specs.declared.types.Mailbox.{Mailbox}
 use Rattle.dv_model.specs.declared.types.OpenFault.{OpenFault}
@@ -22,7 +22,7 @@ use Rattle.dv_filing.specs.Standing.{Stands}
 use Rattle.dv_filing.proofs.Resting.{texts_same}
 use Rattle.dv_maps.specs.Laws.{IsMap}
 use Rattle.dv_maps.specs.Texts.{HasText, KeepsTexts, Messages}
-use Rattle.dv_mdbox.specs.Opening.{MakesChain, OpensChain}
+use Rattle.dv_mdbox.specs.Opening.{MakesChain, OpensChain, TakesOne, TakesToOpen, TellsFolder}
 
 -- the fault alone says what its cause is
 pub cause_passed : (A B : Type 0) (before now : ℕ) (f : OpenFault) → HasCause {A = A} before now (Err f) → HasCause {A = B} before now (Err f)
@@ -33,6 +33,47 @@ cause_passed A B before now fault.BadLogHeader cause = record { later = cause.la
 cause_passed A B before now (fault.BadRecord offset) cause = record { later = cause.later; rose = tt }
 cause_passed A B before now fault.BadIndex cause = record { later = cause.later; rose = tt }
 cause_passed A B before now (fault.Gap index log) cause = record { later = cause.later; rose = tt }
+
+-- ---- what is told
+
+-- the clock wasn't read
+pub takes_nothing : {A : Type 0} (old : ℕ → ℕ) (result : Result A OpenFault) → TakesToOpen old old result
+takes_nothing old (Ok x) = inl refl
+takes_nothing old (Err (fault.Disk faults)) = inl refl
+takes_nothing old (Err fault.NoMemory) = inl refl
+takes_nothing old (Err fault.NoLog) = refl
+takes_nothing old (Err fault.BadLogHeader) = refl
+takes_nothing old (Err (fault.BadRecord offset)) = refl
+takes_nothing old (Err fault.BadIndex) = refl
+takes_nothing old (Err (fault.Gap index log)) = refl
+
+-- it was read for a storage that is made
+pub takes_made : {A : Type 0} (old new : ℕ → ℕ) (result : Result A OpenFault) → IfErr result IsOutside → TakesOne old new → TakesToOpen old new result
+takes_made old new (Ok x) outside takes = takes
+takes_made old new (Err (fault.Disk faults)) outside takes = takes
+takes_made old new (Err fault.NoMemory) outside takes = takes
+takes_made old new (Err fault.NoLog) outside takes = absurd outside
+takes_made old new (Err fault.BadLogHeader) outside takes = absurd outside
+takes_made old new (Err (fault.BadRecord offset)) outside takes = absurd outside
+takes_made old new (Err fault.BadIndex) outside takes = absurd outside
+takes_made old new (Err (fault.Gap index log)) outside takes = absurd outside
+
+pub tells_found : (folder : Folder) (result : Result Chain OpenFault) → (IsNew folder → ⊥) → Answers found_of result (IsFound folder) → TellsFolder folder result
+tells_found folder (Ok chain) some found = inr found
+tells_found folder (Err e) some found = (found, inr some)
+
+pub tells_outside : (folder : Folder) (e : OpenFault) → IsOutside e → TellsFolder folder (Err e)
+tells_outside folder (fault.Disk faults) is = (tt, inl tt)
+tells_outside folder fault.NoMemory is = (tt, inl tt)
+tells_outside folder fault.NoLog is = absurd is
+tells_outside folder fault.BadLogHeader is = absurd is
+tells_outside folder (fault.BadRecord offset) is = absurd is
+tells_outside folder fault.BadIndex is = absurd is
+tells_outside folder (fault.Gap index log) is = absurd is
+
+pub tells_made : (folder : Folder) (result : Result Chain OpenFault) → IsNew folder → IfErr result IsOutside → TellsFolder folder result
+tells_made folder (Ok chain) new outside = inl new
+tells_made folder (Err e) new outside = tells_outside folder e outside
 
 pub none_of : (folder : Folder) → IsNew folder → HasNone folder
 none_of folder new = record { index = new.index; log = new.log; log2 = new.log2 }

@@ -223,7 +223,7 @@ module _ {S C : Type 0} (sees : SeesFolder S) (messages : Messages) (debt : Owed
         after = is.after;
         saves = is.saves;
         ok = tt;
-        err = (some.0, some.1, some.2, ⊎_elim (λ s. inl (record { stands = s; fits = some.3; map = map })) (λ s. inr (record { stands = s; fits = some.3; map = map })) some.4);
+        err = (some.0, some.1, ⊎_elim (λ way. inl (way.0, record { stands = way.1; fits = some.2; map = map })) (λ gate. inr (gate.0, record { stands = gate.1; fits = some.2; map = map })) some.3);
         any_moment = writes.any_moment;
       }
 

@@ -46,10 +46,7 @@ one_sum a b k = omega arith
 pub takes_both : (old mid new : ℕ → ℕ) → TakesSome old mid → TakesSome mid new → TakesSome old new
 takes_both old mid new one two = (one.0 + two.0, two.1 ∙ ap (λ (f : ℕ → ℕ). behind f two.0) one.1 ∙ (λ i k. old (one_sum one.0 two.0 k i)))
 
--- ---- what is owed
-
-pub owed_then : (debt now : Owed) (text : List ℕ) (m after : Mailbox) → IsLeftOwed Nothing text m after now → IsLeftOwed debt text m after now
-owed_then debt now text m after = ⊎_elim (λ way. inl (⊎_elim (λ none. inr (inl none)) (λ rest. inr rest) way)) inr
+-- ---- the map stays
 
 pub thin_same : (messages : Messages) → ThinningsAre → (m n : Mailbox) → n ≡ m → IsThinned (storage_of messages m) (storage_of messages n)
 thin_same messages laws m n is = subst (λ (k : Mailbox). IsThinned (storage_of messages m) (storage_of messages k)) (sym is) (laws.none (storage_of messages m))
@@ -72,7 +69,7 @@ module _ {S C : Type 0} (sees : SeesFolder S) (messages : Messages) (laws : Thin
 
     pub quiet_kept : {T E : Type 0} (result : Result T E) → PurgesQuietly sees messages Nothing old new result
     quiet_kept (Ok x) = record { thins = thin; ok = rest; err = tt; any_moment = since }
-    quiet_kept (Err e) = record { thins = thin; ok = tt; err = (Nothing, [], new.chain.live.mailbox, thin, inl (inl refl), rest); any_moment = since }
+    quiet_kept (Err e) = record { thins = thin; ok = tt; err = (Nothing, [], new.chain.live.mailbox, rest.map, laws.none (storage_of messages new.chain.live.mailbox), inr (inl (inl refl)), rest); any_moment = since }
 
   -- nothing was called
   pub quiet_stays : (old new : State S C) → new.shelf ≡ old.shelf → new.chain ≡ old.chain → new.owed ≡ old.owed → ((c : Folder) → sees.left_since old.shelf (sees.moment old.shelf) c → sees.may_leave old.shelf c) → IsAtRest sees messages Nothing old → {T E : Type 0} (result : Result T E)
@@ -119,7 +116,7 @@ module _ {S C : Type 0} (sees : SeesFolder S) (messages : Messages) (laws : Thin
         record {
           thins = thin;
           ok = tt;
-          err = (debt, [], new.chain.live.mailbox, thin, inl (inl refl), record { stands = stands; fits = fits; map = paid_map });
+          err = (debt, [], new.chain.live.mailbox, paid_map, laws.none (storage_of messages new.chain.live.mailbox), inl (refl, on), record { stands = stands; fits = fits; map = paid_map });
           any_moment = paid_since;
         }
 
@@ -128,8 +125,8 @@ module _ {S C : Type 0} (sees : SeesFolder S) (messages : Messages) (laws : Thin
     group_gives : (c : Folder) → MayGiveCall messages messages Nothing after size old.owed old.chain c → MayGivePurge messages Nothing old.chain c
     group_gives c =
         ⊎_elim inl
-        (⊎_elim (λ turned. inr (old.chain.live.mailbox, next_mark old.chain, laws.none (storage_of messages old.chain.live.mailbox), turned))
-        (λ done. inr (after, mark_after (begin_of old.owed old.chain) size, thins, done)))
+        (⊎_elim (λ turned. inr (old.chain.live.mailbox, next_mark old.chain, rest.map, laws.none (storage_of messages old.chain.live.mailbox), turned))
+        (λ done. inr (after, mark_after (begin_of old.owed old.chain) size, map, thins, done)))
 
     one_map : (a b : Mailbox) → Some a ≡ Some b → a ≡ b
     one_map a b e = cc
@@ -152,9 +149,10 @@ module _ {S C : Type 0} (sees : SeesFolder S) (messages : Messages) (laws : Thin
             some.0,
             some.1,
             after,
-            thins,
-            subst (λ (m : Mailbox). IsLeftOwed Nothing some.1 m after some.0) (sym value.kept.0) some.2,
-            record { stands = ⊎_elim (λ s. s) (λ s. s) some.4; fits = some.3; map = subst IsMap (sym value.kept.0) rest.map },
+            map,
+            subst (λ (m : Mailbox). IsThinned (storage_of messages m) (storage_of messages after)) (sym value.kept.0) thins,
+            inr (subst (λ (m : Mailbox). IsLeftOwed Nothing some.1 m after some.0) (sym value.kept.0) (⊎_elim (λ way. inl way.0) (λ gate. inr gate.0) some.3)),
+            record { stands = ⊎_elim (λ way. way.1) (λ gate. gate.1) some.3; fits = some.2; map = subst IsMap (sym value.kept.0) rest.map },
           );
           any_moment = weaker sees old.shelf new.shelf (MayGiveCall messages messages Nothing after size old.owed old.chain) (MayGivePurge messages Nothing old.chain) writes.any_moment group_gives;
         }
@@ -163,8 +161,8 @@ module _ {S C : Type 0} (sees : SeesFolder S) (messages : Messages) (laws : Thin
   module _ (debt : Owed) (old mid new : State S C) {A B : Type 0} (x : A) (one : PurgesQuietly sees messages debt old mid {T = A} {E = B} (Ok x)) (id : mid.chain.indexid ≡ old.chain.indexid) where
     later : (c : Folder) → MayGivePurge messages Nothing mid.chain c → MayGivePurge messages debt old.chain c
     later c =
-        ⊎_elim (λ gives. inr (mid.chain.live.mailbox, place_of mid.chain, one.thins, subst (λ (n : ℕ). Gives messages n mid.chain.live.mailbox (place_of mid.chain) c) id gives))
-        (λ some. inr (some.0, some.1, laws.both _ _ _ one.thins some.2, subst (λ (n : ℕ). Gives messages n some.0 some.1 c) id some.3))
+        ⊎_elim (λ gives. inr (mid.chain.live.mailbox, place_of mid.chain, one.ok.map, one.thins, subst (λ (n : ℕ). Gives messages n mid.chain.live.mailbox (place_of mid.chain) c) id gives))
+        (λ some. inr (some.0, some.1, some.2, laws.both _ _ _ one.thins some.3, subst (λ (n : ℕ). Gives messages n some.0 some.1 c) id some.4))
 
     pub quiet_then : {T E : Type 0} (result : Result T E) → PurgesQuietly sees messages Nothing mid new result → PurgesQuietly sees messages debt old new result
     quiet_then (Ok y) two = record {
@@ -179,7 +177,7 @@ module _ {S C : Type 0} (sees : SeesFolder S) (messages : Messages) (laws : Thin
         record {
           thins = laws.both _ _ _ one.thins two.thins;
           ok = tt;
-          err = (some.0, some.1, some.2, laws.both _ _ _ one.thins some.3, owed_then debt some.0 some.1 new.chain.live.mailbox some.2 some.4, some.5);
+          err = (some.0, some.1, some.2, some.3, some.4, inr (⊎_elim (λ kept. inl (inl kept.0)) (λ left. left) some.5), some.6);
           any_moment = joined sees old.shelf mid.shelf new.shelf (MayGivePurge messages debt old.chain) one.any_moment
               (weaker sees mid.shelf new.shelf (MayGivePurge messages Nothing mid.chain) (MayGivePurge messages debt old.chain) two.any_moment later);
         }
@@ -211,7 +209,7 @@ later_stays sees records files old now e = λ messages after rest gives through.
   (
     record {
       ok = tt;
-      err = (Nothing, [], inl (inl refl), rest.fits, inl rest.stands);
+      err = (Nothing, [], rest.fits, inl (inl refl, rest.stands));
       any_moment = started sees old.shelf (MayGiveCall messages messages Nothing after 0 old.owed old.chain) (λ c left. inl (rests_give sees messages Nothing old.chain old.shelf c rest.stands (now c left)));
     },
     λ n away. refl,

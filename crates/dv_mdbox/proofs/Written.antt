@@ -26,7 +26,7 @@ use Rattle.dv_filing.specs.declared.steps.Files.{Files}
 use Rattle.dv_filing.specs.declared.steps.Steps.{Steps}
 use Rattle.dv_filing.specs.Files.{IsNamed}
 use Rattle.dv_filing.specs.Standing.{Fits, Gives, MayGive, Stands}
-use Rattle.dv_filing.specs.Writes.{CarriesOut, IsLeftOwed, IsWriteOf, KeepsThrough, KeepsUnnamed, MayGiveWrite, WritesStorage}
+use Rattle.dv_filing.specs.Writes.{CarriesOut, IsWriteOf, KeepsThrough, KeepsUnnamed, MayGiveWrite, StandsLeft, WritesStorage}
 use Rattle.dv_filing.proofs.Resting.{rests_give}
 use Rattle.dv_maps.specs.Texts.{Messages}
 use Rattle.dv_mdbox.specs.Readying.{IsReadyFor}
@@ -156,7 +156,7 @@ module _ {S C : Type 0} (sees : SeesFolder S) (messages next : Messages) (debt :
     pub quiet_unwritten : {T E : Type 0} (e : E) → Fits old.owed old.chain.live.mailbox debt → Stands sees messages debt chain mid → WritesQuietly sees messages next debt after size old (record old { shelf = mid; chain = chain }) {T = T} {E = E} (Err e)
     quiet_unwritten e fits still = record {
       ok = tt;
-      err = (debt, [], inl (inl refl), subst (λ (m : Mailbox). Fits old.owed m debt) (sym same.mailbox) fits, inl still);
+      err = (debt, [], subst (λ (m : Mailbox). Fits old.owed m debt) (sym same.mailbox) fits, inl (inl refl, still));
       any_moment = since_look;
     }
 
@@ -193,7 +193,7 @@ module _ {S C : Type 0} (sees : SeesFolder S) (messages next : Messages) (debt :
           let some = writes.err in
           record {
             ok = tt;
-            err = (some.0, text, subst (λ (m : Mailbox). IsLeftOwed debt text m after some.0) same.mailbox some.1, some.2, some.3);
+            err = (some.0, text, some.1, subst (λ (m : Mailbox). StandsLeft sees messages next debt text m after some.0 (held shelf new_chain left)) same.mailbox some.2);
             any_moment = since_write {T = Committed} (Err e) writes;
           }
 

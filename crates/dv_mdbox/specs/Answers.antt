@@ -51,6 +51,13 @@ IsFailure fault.NoMemory = ⊤
 IsFailure (fault.Disk faults) = ⊤
 IsFailure e = ⊥
 
+-- neither memory nor the disk is why there is an error, and then this holds
+abbrev pub OnRefused : {A : Type 0} → Result A StorageFault → Type 0 → Type 0
+OnRefused (Ok x) P = ⊤
+OnRefused (Err fault.NoMemory) P = ⊤
+OnRefused (Err (fault.Disk faults)) P = ⊤
+OnRefused (Err e) P = P
+
 -- the id has references, whose count is so
 abbrev pub IsReferenced : Mailbox → ℕ → (ℕ → Type 0) → Type 0
 IsReferenced m id Is =
@@ -58,13 +65,14 @@ IsReferenced m id Is =
 
 -- A change of an id's count: None is answered exactly where the id has no reference, Full exactly
 -- where it has the most that may be, and TooLong exactly where the log is full; else the count is
--- changed, or the disk failed; memory may run out.
+-- changed, or the disk failed, or memory ran out.
 abbrev pub ChangesCount : Mailbox → Chain → ℕ → ℕ → {A : Type 0} → Result A StorageFault → Type 0
 ChangesCount m chain id most (Err fault.None) = reference_of m id ≡ None
 ChangesCount m chain id most (Err fault.Full) = IsReferenced m id (λ count. count ≡ most)
 ChangesCount m chain id most (Err (fault.TooLong bytes)) =
     IsReferenced m id (λ count. count < most) × IsFull chain 48 × (bytes ≡ 48)
-ChangesCount m chain id most (Err fault.NoMemory) = ⊤
+ChangesCount m chain id most (Err fault.NoMemory) =
+    IsReferenced m id (λ count. count < most) × HasRoom chain 48
 ChangesCount m chain id most (Err (fault.Disk faults)) =
     IsReferenced m id (λ count. count < most) × HasRoom chain 48
 ChangesCount m chain id most (Ok x) =
@@ -74,7 +82,7 @@ ChangesCount m chain id most (Err other) = ⊥
 -- Room for a group: TooLong is answered exactly where there is none.
 abbrev pub FindsRoom : Chain → ℕ → {A : Type 0} → Result A StorageFault → Type 0
 FindsRoom chain size (Err (fault.TooLong bytes)) = IsFull chain size × (bytes ≡ size)
-FindsRoom chain size (Err fault.NoMemory) = ⊤
+FindsRoom chain size (Err fault.NoMemory) = HasRoom chain size
 FindsRoom chain size (Err (fault.Disk faults)) = HasRoom chain size
 FindsRoom chain size (Ok x) = HasRoom chain size
 FindsRoom chain size (Err other) = ⊥
@@ -91,7 +99,7 @@ pub record IsShort (m : Mailbox) (chain : Chain) (size : ℕ) : Type 0 where
 
 -- A save: Ids is answered exactly where no id is left, TooLong exactly where the message has more
 -- than 32 MiB, or, with a shorter one, where the log is full, and Files exactly where a new file is
--- needed and no number is left for it; the disk may fail, and memory may run out.
+-- needed and no number is left for it; else the disk may fail, or memory run out.
 abbrev pub AnswersSave : Type 0 → Folder → Mailbox → Chain → ℕ → Result ℕ StorageFault → Type 0
 AnswersSave tells folder m chain size (Err fault.Ids) = m.next_uid ≡ end_of_uids
 AnswersSave tells folder m chain size (Err (fault.TooLong bytes)) =
@@ -101,6 +109,6 @@ AnswersSave tells folder m chain size (Err (fault.TooLong bytes)) =
 AnswersSave tells folder m chain size (Err fault.Files) =
     IsShort m chain size × FindsTarget tells folder m (Err fault.Files)
 AnswersSave tells folder m chain size (Err (fault.Disk faults)) = IsShort m chain size
-AnswersSave tells folder m chain size (Err fault.NoMemory) = ⊤
+AnswersSave tells folder m chain size (Err fault.NoMemory) = IsShort m chain size
 AnswersSave tells folder m chain size (Ok id) = IsShort m chain size × (id ≡ m.next_uid)
 AnswersSave tells folder m chain size (Err other) = ⊥

@@ -1,14 +1,16 @@
 -- A storage is opened, or made. The records take what a shelf shows.
 use Rattle.std.specs.Prelude.{◌≡◌, ◌⊎◌, ℕ, Result, Ok, Err, IfOk}
 use Rattle.dv_model.specs.declared.types.OpenFault.{OpenFault}
+use Rattle.dv_model.specs.declared.types.OpenFault.TheVariants as fault
 use Rattle.dv_shelf.specs.Clocks.{behind}
 use Rattle.dv_shelf.specs.Crashes.{IsSettled, LeavesOnly}
+use Rattle.dv_shelf.specs.Folders.{Folder, IsNew}
 use Rattle.dv_shelf.specs.Sees.{SeesFolder}
 use Rattle.dv_openings.specs.Openings.{IsFound}
 use Rattle.dv_openings.specs.Rebuilds.{stamp_of}
 use Rattle.dv_chain.specs.declared.chain.Chain.{Chain}
 use Rattle.dv_chain.specs.Creations.{IsFirst, IsOldOrCreated}
-use Rattle.dv_chain.specs.Openings.{Answers, HasBounds, IsQuiet, UnlessDisk, found_of}
+use Rattle.dv_chain.specs.Openings.{Answers, FaultFound, HasBounds, IsOutside, IsQuiet, UnlessDisk, found_of}
 use Rattle.dv_chain.specs.Rest.{Nothing}
 use Rattle.dv_filing.specs.Standing.{Stands}
 use Rattle.dv_maps.specs.Laws.{IsMap}
@@ -28,6 +30,10 @@ pub record OpensChain {S : Type 0} (sees : SeesFolder S) (old new : S)
       → KeepsTexts messages chain.live.mailbox (sees.files old)
       → Stands sees messages Nothing chain new)
 
+-- The folder has no file of a storage; or it has one, or can't be looked at, and so it's answered.
+abbrev pub IsNewOrOpened : {S : Type 0} → SeesFolder S → S → S → Result Chain OpenFault → Type 0
+IsNewOrOpened sees old new result = IsNew (sees.files old) ⊎ OpensChain sees old new result
+
 -- A map is made at this reading of the clock: a new one of that number. A crash at any moment leaves
 -- the folder as it was, or with the new log.
 pub record MakesChain {S : Type 0} (sees : SeesFolder S) (old new : S)
@@ -41,6 +47,20 @@ pub record MakesChain {S : Type 0} (sees : SeesFolder S) (old new : S)
 -- one reading of the clock, or none
 abbrev pub TakesOne : (ℕ → ℕ) → (ℕ → ℕ) → Type 0
 TakesOne old new = (new ≡ old) ⊎ (new ≡ behind old 1)
+
+-- so it is; but none where a fault is found in the folder
+abbrev pub TakesToOpen : {A : Type 0} → (ℕ → ℕ) → (ℕ → ℕ) → Result A OpenFault → Type 0
+TakesToOpen old new (Ok x) = TakesOne old new
+TakesToOpen old new (Err (fault.Disk faults)) = TakesOne old new
+TakesToOpen old new (Err fault.NoMemory) = TakesOne old new
+TakesToOpen old new (Err found) = new ≡ old
+
+-- What the folder holds is told: the map at its log's end, where it has a file of a storage, or the
+-- fault that is found. Memory and the disk may end it before.
+abbrev pub TellsFolder : Folder → Result Chain OpenFault → Type 0
+TellsFolder folder (Ok chain) = IsNew folder ⊎ IsFound folder (found_of chain)
+TellsFolder folder (Err e) =
+    FaultFound e (IsFound folder) × (IsOutside e ⊎ (IsNew folder → ⊥))
 
 -- ---- a storage
 

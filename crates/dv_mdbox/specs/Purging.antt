@@ -20,6 +20,7 @@ use Rattle.dv_filing.specs.Files.{HasRoom}
 use Rattle.dv_filing.specs.Standing.{Gives, MayGive}
 use Rattle.dv_filing.specs.Writes.{IsLeftOwed, KeepsThrough}
 use Rattle.dv_maps.specs.declared.mapped.Mapped.{Mapped}
+use Rattle.dv_maps.specs.Laws.{IsMap}
 use Rattle.dv_maps.specs.Purges.{IsThinned, Rewrites, StandsIn, all_mapped, file_records, is_gone, is_kept, kept_size, texts_in}
 use Rattle.dv_maps.specs.Storages.{storage_of}
 use Rattle.dv_maps.specs.Texts.{Messages, text_at}
@@ -96,7 +97,7 @@ PurgesFiles from m (file ∷ files) groups to after =
 abbrev pub MayGivePurge : Messages → Owed → Chain → Folder → Type 0
 MayGivePurge messages debt chain c =
     MayGive messages debt chain c
-    ⊎ ((m : Mailbox) × (mark : Mark)
+    ⊎ ((m : Mailbox) × (mark : Mark) × IsMap m
     × IsThinned (storage_of messages chain.live.mailbox) (storage_of messages m)
     × Gives messages chain.indexid m mark c)
 
@@ -126,16 +127,19 @@ module _ {S C : Type 0} where
   -- ---- the folder
 
   -- From rest to rest: the storage is without some ids that have no reference. Behind Ok nothing is
-  -- owed. A crash at any moment leaves the storage from before, or without some such ids; every
+  -- owed; behind an error what was, where no id went, or the group of a further file. A crash at any
+  -- moment leaves the storage from before, or without some such ids; every
   -- message with a reference is there.
   pub record PurgesQuietly (sees : SeesFolder S) (messages : Messages) (debt : Owed)
       (old new : State S C) {T E : Type 0} (result : Result T E) : Type 0 where
     pub thins : IsThinned (storage_of messages old.chain.live.mailbox)
         (storage_of messages new.chain.live.mailbox)
     pub ok : OnOk result (IsAtRest sees messages Nothing new)
-    pub err : OnErr result ((now : Owed) × (text : List ℕ) × (after : Mailbox)
-        × IsThinned (storage_of messages old.chain.live.mailbox) (storage_of messages after)
-        × IsLeftOwed debt text new.chain.live.mailbox after now × IsAtRest sees messages now new)
+    pub err : OnErr result ((now : Owed) × (text : List ℕ) × (after : Mailbox) × IsMap after
+        × IsThinned (storage_of messages new.chain.live.mailbox) (storage_of messages after)
+        × (((now ≡ debt) × (new.chain.live.mailbox ≡ old.chain.live.mailbox))
+        ⊎ IsLeftOwed Nothing text new.chain.live.mailbox after now)
+        × IsAtRest sees messages now new)
     pub any_moment : LeavesOnly sees old.shelf new.shelf (MayGivePurge messages debt old.chain)
 
   -- a group is written behind a file, and what the folder gives by that

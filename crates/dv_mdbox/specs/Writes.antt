@@ -10,14 +10,16 @@ use Rattle.dv_shelf.specs.Crashes.{LeavesOnly}
 use Rattle.dv_shelf.specs.Folders.{Folder}
 use Rattle.dv_shelf.specs.Sees.{SeesFolder}
 use Rattle.dv_chain.specs.declared.chain.Chain.{Chain}
-use Rattle.dv_chain.specs.Rest.{Nothing, Owed, next_mark}
+use Rattle.dv_chain.specs.Rest.{Nothing, Owed, Pending, next_mark}
 use Rattle.dv_plans.specs.Begins.{beginning, turns}
 use Rattle.dv_rotation.specs.declared.texts.Turn.{Turn}
 use Rattle.dv_rotation.specs.Texts.{place_of}
 use Rattle.dv_filing.specs.declared.steps.Files.{Files}
 use Rattle.dv_filing.specs.Files.{IsNamed}
 use Rattle.dv_filing.specs.Standing.{Fits, Gives, MayGive, Stands}
-use Rattle.dv_filing.specs.Writes.{IsLeftOwed, StandsEither}
+use Rattle.dv_writing.specs.Ways.{held}
+use Rattle.dv_filing.specs.Ways.{IsOwedOnWay}
+use Rattle.dv_filing.specs.Writes.{IsLeftOwed, StandsLeft}
 use Rattle.dv_maps.specs.declared.place.Place.{Place}
 use Rattle.dv_maps.specs.Groups.{save_records}
 use Rattle.dv_maps.specs.Laws.{Counts, Saves}
@@ -71,9 +73,9 @@ module _ {S C : Type 0} where
     pub ok : OnOk result (Stands sees next Nothing new.chain new.shelf
         × Fits new.owed new.chain.live.mailbox Nothing)
     pub err : OnErr result ((now : Owed) × (text : List ℕ)
-        × IsLeftOwed debt text old.chain.live.mailbox after now
         × Fits new.owed new.chain.live.mailbox now
-        × StandsEither sees messages next now new.chain new.shelf)
+        × StandsLeft sees messages next debt text old.chain.live.mailbox after now
+        (held new.shelf new.chain new.owed))
     pub any_moment : LeavesOnly sees old.shelf new.shelf
         (MayGiveCall messages next debt after size old.owed old.chain)
 
@@ -109,8 +111,8 @@ module _ {S C : Type 0} where
       × WritesGroup (save_records old.chain.live.mailbox.next_uid place) old new result
 
   -- From rest to rest: behind Ok the storage has the message, with one reference, and nothing is
-  -- owed; behind an error it is as before. A crash at any moment leaves the storage from before, or
-  -- that with the message.
+  -- owed; behind an error it is as before, and what is owed may be its group, with its text. A crash
+  -- at any moment leaves the storage from before, or that with the message.
   pub record SavesAt (sees : SeesFolder S) (messages : Messages) (debt : Owed) (message : List ℕ)
       (place : Place) (old new : State S C) {T E : Type 0} (result : Result T E) : Type 0 where
     pub after : Mailbox
@@ -119,9 +121,9 @@ module _ {S C : Type 0} where
         (IsAtRest sees (with_message old.chain.live.mailbox.next_uid message messages) Nothing new
         × (new.chain.live.mailbox ≡ after))
     pub err : OnErr result ((now : Owed) × (text : List ℕ)
-        × IsLeftOwed debt text old.chain.live.mailbox after now
-        × (IsAtRest sees messages now new
-        ⊎ IsAtRest sees (with_message old.chain.live.mailbox.next_uid message messages) now new))
+        × ((IsOwedOnWay debt old.chain.live.mailbox now × IsAtRest sees messages now new)
+        ⊎ ((now ≡ Pending text after)
+        × IsAtRest sees (with_message old.chain.live.mailbox.next_uid message messages) now new)))
     pub any_moment : LeavesOnly sees old.shelf new.shelf
         (MayGiveCall messages
         (with_message old.chain.live.mailbox.next_uid message messages) debt after 120 old.owed

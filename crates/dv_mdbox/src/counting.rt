@@ -6,7 +6,7 @@ ghost use Rattle.dv_chain.specs.Rest.{Owed};
 ghost use Rattle.dv_plans.specs.Begins.{count_of, turns};
 ghost use Rattle.dv_maps.specs.Groups.{count_records as records_of};
 ghost use Rattle.dv_maps.specs.Texts.{Messages};
-ghost use Rattle.dv_mdbox.specs.Answers.{ChangesCount, FindsRoom, HasStorageCause, IsReferenced, TakesUpTo};
+ghost use Rattle.dv_mdbox.specs.Answers.{ChangesCount, FindsRoom, HasStorageCause, IsReferenced, OnRefused, TakesUpTo};
 ghost use Rattle.dv_mdbox.specs.Looks as looks;
 ghost use Rattle.dv_mdbox.specs.States.{IsAtRest};
 ghost use Rattle.dv_mdbox.specs.Writes.{CountsQuietly, WritesGroup};
@@ -27,6 +27,7 @@ impl<S: Shelf, C: Clock> Storage<S, C> {
     fn put_count(&mut self, id: u32, count: u16) -> Result<(), StorageFault>
         // Whether there is room, and what becomes of the map, over any shelf.
         ensures room { FindsRoom self.old.chain 48 result }
+        ensures refused { OnRefused result (self.new ≡ self.old) }
         ensures value { WritesGroup (records_of id count) self.old self.new result }
         // What the folder gives, where the id has references; from rest to rest.
         ensures gives { S.sees.tells → (messages : Messages) (debt : Owed) (old : ℕ)
@@ -61,8 +62,10 @@ impl<S: Shelf, C: Clock> Storage<S, C> {
     pub fn copy(&mut self, id: u32) -> Result<(), StorageFault>
         // Which answer it is, and what becomes of the map, over any shelf.
         ensures answers { ChangesCount self.old.chain.live.mailbox self.old.chain id 65535 result }
+        // An id that has no reference is left alone, and so is all behind a limit.
         ensures none { looks.reference_of self.old.chain.live.mailbox id ≡ None →
             self.new ≡ self.old }
+        ensures refused { OnRefused result (self.new ≡ self.old) }
         ensures value { (count : ℕ) →
             IsReferenced self.old.chain.live.mailbox id (λ n. n ≡ count) →
             WritesGroup (records_of id (count + 1)) self.old self.new result }
@@ -95,8 +98,10 @@ impl<S: Shelf, C: Clock> Storage<S, C> {
     pub fn drop_one(&mut self, id: u32) -> Result<(), StorageFault>
         // Which answer it is, and what becomes of the map, over any shelf.
         ensures answers { ChangesCount self.old.chain.live.mailbox self.old.chain id 65536 result }
+        // An id that has no reference is left alone, and so is all behind a limit.
         ensures none { looks.reference_of self.old.chain.live.mailbox id ≡ None →
             self.new ≡ self.old }
+        ensures refused { OnRefused result (self.new ≡ self.old) }
         ensures value { (count : ℕ) →
             IsReferenced self.old.chain.live.mailbox id (λ n. n ≡ count) →
             WritesGroup (records_of id (count - 1)) self.old self.new result }

@@ -23,9 +23,11 @@ use std::alloc::Global;
 
 /// How many references an id has, at least one, and where its text stands.
 #[derive(Clone, Copy)]
-pub(crate) struct Reference {
-    pub(crate) count: u16,
-    pub(crate) place: Place,
+pub struct Reference {
+    /// How many.
+    pub count: u16,
+    /// Where its text stands.
+    pub place: Place,
 }
 
 /// The row of an id.

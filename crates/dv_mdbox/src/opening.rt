@@ -3,9 +3,10 @@
 ghost use Rattle.std.specs.Prelude.{◌≡◌, IfErr, IfOk, MatchBool};
 ghost use Rattle.dv_shelf.specs.Crashes.{IsSettled};
 ghost use Rattle.dv_shelf.specs.Folders.{IsNew};
-ghost use Rattle.dv_chain.specs.Openings.{HasBounds, HasCause, IsOutside, OnlyLooks};
+ghost use Rattle.dv_chain.specs.Openings.{Answers, HasBounds, HasCause, IsOutside, OnlyLooks, found_of};
+ghost use Rattle.dv_openings.specs.Openings.{IsFound};
 ghost use Rattle.dv_plans.specs.Begins.{AtReading};
-ghost use Rattle.dv_mdbox.specs.Opening.{IsFresh, MakesChain, OpensChain, TakesOne, answered, clock_behind, shelf_behind};
+ghost use Rattle.dv_mdbox.specs.Opening.{IsFresh, IsNewOrOpened, MakesChain, OpensChain, TakesToOpen, TellsFolder, answered, clock_behind, shelf_behind};
 
 use crate::Storage;
 use crate::storage::fresh;
@@ -34,6 +35,7 @@ fn has_storage<S: Shelf>(alloc: Global, shelf: &mut S) -> Result<bool, OpenFault
 fn open_found<S: Shelf>(alloc: Global, shelf: &mut S) -> Result<Chain, OpenFault>
     ensures opens { S.sees.tells → IsSettled S.sees shelf.old →
         OpensChain S.sees shelf.old shelf.new result }
+    ensures found { S.sees.tells → Answers found_of result (IsFound (S.sees.files shelf.old)) }
     ensures bounds { IfOk result HasBounds }
     ensures cause { HasCause (S.sees.fault_count shelf.old) (S.sees.fault_count shelf.new) result }
 {
@@ -45,6 +47,7 @@ fn make_new<S: Shelf>(alloc: Global, shelf: &mut S, now: u32) -> Result<Chain, O
     ensures makes { S.sees.tells → IsSettled S.sees shelf.old → IsNew (S.sees.files shelf.old) →
         MakesChain S.sees shelf.old shelf.new result now }
     ensures bounds { IfOk result HasBounds }
+    ensures err { IfErr result IsOutside }
     ensures cause { HasCause (S.sees.fault_count shelf.old) (S.sees.fault_count shelf.new) result }
 {
     dv_chain::create(alloc, shelf, now)
@@ -61,9 +64,12 @@ fn open_chain<S: Shelf, C: Clock>(
     ensures makes { S.sees.tells → IsSettled S.sees shelf.old → IsNew (S.sees.files shelf.old) →
         AtReading C.sees.tells (C.sees.upcoming clock.old 0)
         (MakesChain S.sees shelf.old shelf.new result) }
+    ensures either { S.sees.tells → IsSettled S.sees shelf.old →
+        IsNewOrOpened S.sees shelf.old shelf.new result }
+    ensures found { S.sees.tells → TellsFolder (S.sees.files shelf.old) result }
     ensures bounds { IfOk result HasBounds }
     ensures clock { C.sees.tells →
-        TakesOne (C.sees.upcoming clock.old) (C.sees.upcoming clock.new) }
+        TakesToOpen (C.sees.upcoming clock.old) (C.sees.upcoming clock.new) result }
     ensures cause { HasCause (S.sees.fault_count shelf.old) (S.sees.fault_count shelf.new) result }
 {
     match has_storage(alloc, shelf) {
@@ -96,10 +102,16 @@ impl<S: Shelf, C: Clock> Storage<S, C> {
         ensures makes { S.sees.tells → IsSettled S.sees shelf → IsNew (S.sees.files shelf) →
             AtReading C.sees.tells (C.sees.upcoming clock 0)
             (MakesChain S.sees shelf (shelf_behind result) (answered result)) }
+        // Where it isn't known whether there is one, it's answered as if there were.
+        ensures either { S.sees.tells → IsSettled S.sees shelf →
+            IsNewOrOpened S.sees shelf (shelf_behind result) (answered result) }
         ensures fresh { IfOk result IsFresh }
-        // The clock is read at most once; a fault of the disk has its cause.
-        ensures clock { C.sees.tells → TakesOne (C.sees.upcoming clock)
-            (C.sees.upcoming (clock_behind result)) }
+        // Of any folder: what it holds is told.
+        ensures found { S.sees.tells → TellsFolder (S.sees.files shelf) (answered result) }
+        // The clock is read at most once, where a storage is made; a fault of the disk has its
+        // cause.
+        ensures clock { C.sees.tells → TakesToOpen (C.sees.upcoming clock)
+            (C.sees.upcoming (clock_behind result)) (answered result) }
         ensures cause { HasCause (S.sees.fault_count shelf)
             (S.sees.fault_count (shelf_behind result)) (answered result) }
     {

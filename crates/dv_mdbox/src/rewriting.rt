@@ -55,8 +55,9 @@ fn lacks_room(chain: &Chain, size: u64) -> bool
 }
 
 impl<S, C> Storage<S, C> {
-    /// The map is valid. Nothing is computed.
-    fn has_valid_map(&self)
+    /// The map is valid, as its type has it: ids rise, and each is below the next one. Nothing is
+    /// computed.
+    pub fn has_valid_map(&self)
         ensures { IsValid self.now.chain.live.mailbox }
     {
         is_valid(&self.chain.live);

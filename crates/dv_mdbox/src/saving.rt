@@ -9,8 +9,9 @@ ghost use Rattle.dv_dbox.specs.Mails.{mail_in};
 ghost use Rattle.dv_plans.specs.Begins.{turns};
 ghost use Rattle.dv_maps.specs.Groups.{save_records as records_of};
 ghost use Rattle.dv_maps.specs.Texts.{Messages};
-ghost use Rattle.dv_mdbox.specs.Answers.{AnswersSave, HasRoom, HasStorageCause, IsFailure};
-ghost use Rattle.dv_mdbox.specs.States.{IsAtRest};
+ghost use Rattle.dv_mdbox.specs.Answers.{AnswersSave, HasRoom, HasStorageCause, IsFailure, OnRefused};
+ghost use Rattle.dv_chain.specs.Openings.{OnlyLooks};
+ghost use Rattle.dv_mdbox.specs.States.{IsAtRest, IsLookedAt};
 ghost use Rattle.dv_mdbox.specs.Tails.{IsFreeFrom};
 ghost use Rattle.dv_mdbox.specs.Writes.{SavesGroup, SavesQuietly, WritesGroup};
 
@@ -156,6 +157,9 @@ impl<S: Shelf, C: Clock> Storage<S, C> {
         // Which answer it is, and what becomes of the map, over any shelf.
         ensures answers { AnswersSave S.sees.tells (S.sees.files self.old.shelf)
             self.old.chain.live.mailbox self.old.chain (length message.now) result }
+        // Behind a limit the folder was looked at, and nothing is changed.
+        ensures refused { OnRefused result (IsLookedAt self.old self.new
+            × (S.sees.tells → OnlyLooks S.sees self.old.shelf self.new.shelf)) }
         ensures value { SavesGroup self.old self.new result }
         // The message has one reference, whole; from rest to rest.
         ensures gives { S.sees.tells → (messages : Messages) (debt : Owed) →

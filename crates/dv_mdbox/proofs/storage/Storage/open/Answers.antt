@@ -10,6 +10,12 @@ returns-in-Ok-clause-makes g c = rw c.fresh.ensures (λ tells settled new. c.in-
 pub returns-in-Ok-clause-fresh : goal.returns-in-Ok-clause-fresh
 returns-in-Ok-clause-fresh g c = rw c.fresh.ensures (record { is = refl; bounds = c.in-Ok.ensures.bounds })
 
+pub returns-in-Ok-clause-either : goal.returns-in-Ok-clause-either
+returns-in-Ok-clause-either g c = rw c.fresh.ensures (λ tells settled. c.in-Ok.ensures.either tells settled)
+
+pub returns-in-Ok-clause-found : goal.returns-in-Ok-clause-found
+returns-in-Ok-clause-found g c = rw c.fresh.ensures (λ tells. c.in-Ok.ensures.found tells)
+
 pub returns-in-Ok-clause-clock : goal.returns-in-Ok-clause-clock
 returns-in-Ok-clause-clock g c = rw c.fresh.ensures (λ reads. c.in-Ok.ensures.clock reads)
 

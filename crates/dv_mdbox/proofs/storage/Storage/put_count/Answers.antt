@@ -1,10 +1,11 @@
-use Rattle.std.proofs.Common.{◌∙◌, refl, sym, ap, arith}
+use Rattle.std.proofs.Common.{◌∙◌, Err, refl, sym, ap, subst, arith}
 use Rattle.std.specs.Prelude.{true}
 use Rattle.std.proofs.lemmas.Result.{err_from_is_err_and}
 use Rattle.dv_model.specs.Effects.{applied}
 use Rattle.dv_model.specs.Sessions.{is_log_full}
 use Rattle.dv_rotation.specs.Texts.{place_of}
-use Rattle.dv_mdbox.proofs.Counted.{count_size, count_some, count_written, counts_done, counts_stayed, finds_room, group_counted, is_counted, through_count}
+use Rattle.dv_mdbox.specs.Answers.{IsFailure}
+use Rattle.dv_mdbox.proofs.Counted.{count_size, count_some, count_written, counts_done, counts_stayed, failure_refused, finds_room, group_counted, is_counted, through_count}
 use Rattle.dv_mdbox.proofs.storage.Storage.put_count.Goals as goal
 
 pub write-requires-clause-some : goal.write-requires-clause-some
@@ -42,10 +43,23 @@ returns-in_err-records-clause-gives g c = rw (← c.self.view_is) (λ tells mess
     let is = is_counted c.counts_are.ensures c.records_are_written.ensures.counts m c.args.id n c.args.count change rest.map c.is_valid.ensures (omega (arith, c.ranges.id.fits)) (omega (arith, c.ranges.count.fits)) there to in
     rw p.1 (counts_stayed S.sees messages debt c.args.id c.args.count change _ rest is _ p.0 refl refl refl (λ f left. g.met.S.Shelf.only_now old.shelf f tells left)))
 
+pub returns-in_err-records-clause-room : goal.returns-in_err-records-clause-room
+returns-in_err-records-clause-room g c = rw (← c.self.view_is) (
+    let p = err_from_is_err_and c.from_residual.result c.from_residual.ensures.1 in
+    rw p.1 (finds_room {A = Unit {0}} c.self.inside.chain 48 (Err p.0) (sym c.is_full.ensures ∙ c.if-is_full.false) (subst IsFailure (sym p.2) tt)))
+
+pub returns-in_err-records-clause-refused : goal.returns-in_err-records-clause-refused
+returns-in_err-records-clause-refused g c =
+    let p = err_from_is_err_and c.from_residual.result c.from_residual.ensures.1 in
+    rw p.1 (failure_refused {A = Unit {0}} _ (Err p.0) (subst IsFailure (sym p.2) tt))
+
 -- ---- the group
 
 pub returns-clause-room : goal.returns-clause-room
 returns-clause-room g c = rw (← c.self.view_is) (finds_room c.self.inside.chain 48 c.write.result (sym c.is_full.ensures ∙ c.if-is_full.false) c.write.ensures.err)
+
+pub returns-clause-refused : goal.returns-clause-refused
+returns-clause-refused g c = failure_refused _ c.write.result c.write.ensures.err
 
 pub returns-clause-value : goal.returns-clause-value
 returns-clause-value g c = rw (← c.self.view_is) (group_counted c.args.id c.args.count c.in_ok-records.records c.in_ok-records.ensures _ c.write.new.self c.turn_time-time.new.clock c.write.result c.write.ensures.value)

@@ -1,11 +1,12 @@
-use Rattle.std.proofs.Common.{◌≡◌, ◌<◌, ◌≤◌, ◌∙◌, Err, length, refl, subst, sym}
+use Rattle.std.proofs.Common.{◌≡◌, ℕ, ◌<◌, ◌≤◌, ◌∙◌, Err, length, refl, subst, sym}
 use Rattle.std.proofs.lemmas.Bool.{MatchBool-at_false, MatchBool-at_true}
 use Rattle.dv_model.specs.Sessions.{end_of_uids, message_limit}
 use Rattle.dv_logfile.proofs.Settling.{looked_settled, settled_then}
 use Rattle.dv_maps.specs.declared.place.Place.{Place}
 use Rattle.dv_mdbox.specs.Answers.{AnswersSave}
 use Rattle.dv_mdbox.specs.States.{State}
-use Rattle.dv_mdbox.proofs.Finding.{answers_put, answers_unfound, group_shelved, saves_found, saves_unfound, rest_looked}
+use Rattle.dv_mdbox.proofs.Counted.{failure_refused, refused_anyway}
+use Rattle.dv_mdbox.proofs.Finding.{answers_put, answers_unfound, group_shelved, looked_itself, looks_itself, saves_found, saves_unfound, rest_looked}
 use Rattle.dv_mdbox.proofs.Saved.{saves_stayed}
 use Rattle.dv_mdbox.proofs.Written.{group_kept}
 use Rattle.dv_mdbox.proofs.storage.Storage.save.Goals as goal
@@ -51,6 +52,23 @@ returns-in-Err-clause-answers g c =
       short = MatchBool-at_false (message_limit < size) (size ≤ message_limit) c.if-is_long.false c.is_long.ensures;
       room = sym c.is_full.ensures ∙ c.if-is_full.false;
     }) c.in-Err.e c.in-Err.ensures.finds)
+
+-- ---- a refusal
+
+pub returns-then-is_used_up-clause-refused : goal.returns-then-is_used_up-clause-refused
+returns-then-is_used_up-clause-refused g c = rw (← c.self.view_is) (looked_itself _, λ tells. looks_itself g.S.Shelf.sees c.self.inside.shelf (λ f left. g.met.S.Shelf.only_now c.self.inside.shelf f tells left))
+
+pub returns-then-is_long-clause-refused : goal.returns-then-is_long-clause-refused
+returns-then-is_long-clause-refused g c = rw (← c.self.view_is) (looked_itself _, λ tells. looks_itself g.S.Shelf.sees c.self.inside.shelf (λ f left. g.met.S.Shelf.only_now c.self.inside.shelf f tells left))
+
+pub returns-then-is_full-clause-refused : goal.returns-then-is_full-clause-refused
+returns-then-is_full-clause-refused g c = rw (← c.self.view_is) (looked_itself _, λ tells. looks_itself g.S.Shelf.sees c.self.inside.shelf (λ f left. g.met.S.Shelf.only_now c.self.inside.shelf f tells left))
+
+pub returns-in-Err-clause-refused : goal.returns-in-Err-clause-refused
+returns-in-Err-clause-refused g c = rw (← c.self.view_is) (refused_anyway ℕ _ c.in-Err.e (record { clock = refl; chain = refl; owed = refl; start = refl; entries = refl; mark = refl }, c.in-Err.ensures.looks))
+
+pub returns-in-Ok-clause-refused : goal.returns-in-Ok-clause-refused
+returns-in-Ok-clause-refused g c = failure_refused _ c.put_message.result c.put_message.ensures.err
 
 -- ---- nothing was written
 
