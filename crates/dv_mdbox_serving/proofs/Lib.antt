@@ -1,0 +1,10 @@
+mod Referenced
+mod Going
+mod Giving
+mod Counted
+mod Read
+mod Saved
+mod Purged
+mod Opened
+mod InTurn
+mod Lasting
