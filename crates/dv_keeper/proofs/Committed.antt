@@ -1,6 +1,6 @@
 -- What a write leaves, from what its commit and what follows it leave.
 use Rattle.std.proofs.Common.{◌≡◌, ◌∙◌, ℕ, ◌+◌, ◌-◌, ◌<◌, ◌≤◌, true, false, List, [], ◌∷◌, Result, Ok, Err, ap, arith, length, refl, subst, sym}
-use Rattle.std.specs.Prelude.{IfErr, IfOk, OnOk}
+use Rattle.std.specs.Prelude.{IfErr, IfOk, OnOk, if◌then◌else◌}
 use mathlib.Core.List.{IsPrefix}
 use Rattle.dv_model.specs.declared.types.Command.{Command}
 use Rattle.dv_model.specs.declared.types.Record.{Record}
@@ -13,7 +13,7 @@ use Rattle.dv_answer.specs.Answers.{IsAnswered}
 use Rattle.dv_front.specs.declared.notes.Note.{Note}
 use Rattle.dv_front.proofs.Prefixes.{prefix_length}
 use Rattle.dv_generations.specs.Feeds.{Feed, journal}
-use Rattle.dv_member.specs.Calls.{IsAsBefore}
+use Rattle.dv_member.specs.Calls.{IsAsBefore, counted}
 use Rattle.dv_member.specs.Members.{IsSession, Member, notes_of}
 use Rattle.dv_notes.specs.Logs.{log_of}
 use Rattle.dv_plans.specs.declared.fault.StoreFault.{StoreFault}
@@ -34,9 +34,9 @@ use Rattle.dv_keeper.specs.declared.fault.SessionFault.{SessionFault}
 use Rattle.dv_keeper.specs.declared.fault.SessionFault.TheVariants as session_fault
 use Rattle.dv_keeper.specs.Commits.{IsCommitOf}
 use Rattle.dv_keeper.specs.Sessions.{HasJoined}
-use Rattle.dv_keeper.specs.Turns.{HasAnswered, HasMet, HasSeen, HasTold, LeavesEntry, LeavesUntold, LeavesWriter}
+use Rattle.dv_keeper.specs.Turns.{HasAnswered, HasMet, HasSeen, HasTold, LeavesEntry, LeavesUntold, LeavesWriter, is_marked}
 use Rattle.dv_keeper.proofs.Members.{Came, before_from, behind, committed_is, met_from, spent_from, told_from}
-use Rattle.dv_keeper.proofs.Turning.{TellsMore, denied_turn, done_turn, left_entry, line_counts, records_begin, records_count, records_none, takes_by}
+use Rattle.dv_keeper.proofs.Turning.{TellsMore, answer_marked, counts_turn, denied_turn, done_turn, left_entry, line_counts, line_turns, records_begin, records_count, records_none, takes_by}
 
 pub both_ok : {A E P Q T : Type 0} (result : Result A E) → OnOk result P → OnOk result Q → (P → Q → T) → OnOk result T
 both_ok (Ok x) p q f = f p q
@@ -80,9 +80,9 @@ low_told start count s notes session fresh begins = omega (arith, (session.lives
 module _ (start : Log) (count : ℕ) (c : Command) (old new : Member) (notes now : List Note) (sees : HasSeen now new) (low : old.seen ≤ length notes) where
   pub answered_of : (lines : List Reply)
       → IsTurn (log_of start now) count old.number (record { before = old.follower.state; command = c; met = length notes; behind = length now; replies = lines; after = new.follower.state })
-      → new.wrote ≡ old.wrote + (new.seen - length notes) → new.refused ≡ old.refused + unavailable_count (lines ∷ [])
+      → new.wrote ≡ old.wrote + (new.seen - length notes) → new.refused ≡ old.refused + unavailable_count (lines ∷ []) → new.turns ≡ (if is_marked lines then counted old.turns else old.turns)
       → HasAnswered start count c lines old new
-  answered_of lines turn wrote refused = record {
+  answered_of lines turn wrote refused turns = record {
     met = length notes;
     low = low;
     turn =
@@ -90,6 +90,7 @@ module _ (start : Log) (count : ℕ) (c : Command) (old new : Member) (notes now
         (subst (λ (q : ℕ). IsTurn (log_of start now) count old.number (record { before = old.follower.state; command = c; met = length notes; behind = q; replies = lines; after = new.follower.state })) (sym sees.many) turn);
     wrote = wrote;
     refused = refused;
+    turns = turns;
   }
 
 -- ---- behind a commit that was taken
@@ -165,9 +166,11 @@ module _ (old f w new : Member) (as_before : IsAsBefore old f) (notes now : List
         let a = by_rules old.follower.state in
         let told = told_from old f.front f.tables as_before.tables (length notes) w new v new.seen (number ∙ sym ok.0.many) w_is ok.1 in
         let turn = done_turn start notes now first last stands stands_now old.number old.follower.state c low goes_on count new.follower.state outcome.0 outcome.1 answered.1 in
-        let none : unavailable_count (a.replies ∷ []) ≡ 0 = counts_none a.replies (answer_available log.mail old.follower.state c first.chain.live.mailbox (length now) last.chain.live.mailbox (mark_of log (length now))) in (
+        let none : unavailable_count (a.replies ∷ []) ≡ 0 = counts_none a.replies (answer_available log.mail old.follower.state c first.chain.live.mailbox (length now) last.chain.live.mailbox (mark_of log (length now))) in
+        let marked = answer_marked log.mail old.follower.state c first.chain.live.mailbox (length now) last.chain.live.mailbox (mark_of log (length now)) in (
           answered.0,
-          answered_of start count c old new notes now ok.0 (low_seen start count old notes session begins) a.replies turn (ap (λ (x : Member). x.wrote) told.now) (ap (λ (x : Member). x.refused) told.now ∙ omega (arith, none)),
+          answered_of start count c old new notes now ok.0 (low_seen start count old notes session begins) a.replies turn (ap (λ (x : Member). x.wrote) told.now) (ap (λ (x : Member). x.refused) told.now ∙ omega (arith, none))
+              (ap (λ (x : Member). x.turns) told.now ∙ counts_turn a.replies old.turns marked),
         )
 
     pub write_turn : {E R : Type 0} (with : R → List Reply → R) (said said_now : R) (result : Result (Unit {0}) E) → OnOk result (IsAnswered with said said_now new.follower.state (by_rules w.follower.state)) → OnOk result (HasSeen now new × HasTold 0 w new)
@@ -209,3 +212,4 @@ module _ (old f w new : Member) (as_before : IsAsBefore old f) (n : ℕ) (e : St
       (subst (λ (y : State). IsTurn (log_of start notes) count old.number (record { before = old.follower.state; command = c; met = length notes; behind = length notes; replies = lines; after = y })) (sym state) turn)
       (ap (λ (x : Member). x.wrote) met.now ∙ omega (arith, sees_same.many))
       (ap (λ (x : Member). x.refused) met.now ∙ line_counts old.refused e lines line)
+      (ap (λ (x : Member). x.turns) met.now ∙ line_turns old.turns e lines line)

@@ -38,7 +38,7 @@ use Rattle.dv_view.specs.Taken.{HasTaken}
 use Rattle.dv_keeper.specs.Sessions.{HasJoined, IsAtNewest}
 use Rattle.dv_keeper.specs.Turns.{HasAnswered, HasSeen, HasTold, IsAsBeforeBut, LeavesReader}
 use Rattle.dv_keeper.proofs.Committed.{answered_of, low_seen, low_told}
-use Rattle.dv_keeper.proofs.Turning.{done_turn, read_allowed, tells_more, unread_turn}
+use Rattle.dv_keeper.proofs.Turning.{answer_marked, counts_turn, done_turn, read_allowed, tells_more, unread_turn}
 
 -- a write has no data lines
 pub write_data : (mail : ℕ → Mail) (c : Command) (v : View) (m : Mailbox) → is_write c ≡ true → data_of mail c v m ≡ []
@@ -117,9 +117,11 @@ module _ {S C : Type 0} (start : Log) (count : ℕ) (c : Command) (old new : Mem
       let reads = mails_read c mails in
       let turn = done_turn start notes notes store store stands stands old.number x c (low_told start count old notes session fresh begins) (prefix_self notes) count new.follower.state (read_allowed log (length notes) x c m reads own)
       (inr (refl, reads_nothing c x.view m log.guid reads)) answered.1 in
-      let none : unavailable_count (a.replies ∷ []) ≡ 0 = counts_none a.replies (answer_available log.mail x c m (length notes) m (mark_of log (length notes))) in (
+      let none : unavailable_count (a.replies ∷ []) ≡ 0 = counts_none a.replies (answer_available log.mail x c m (length notes) m (mark_of log (length notes))) in
+      let marked = answer_marked log.mail x c m (length notes) m (mark_of log (length notes)) in (
         answered.0,
-        answered_of start count c old new notes notes ok.0 (low_seen start count old notes session begins) a.replies turn (ap (λ (s : Member). s.wrote) ok.1.now ∙ omega (arith, ok.0.many)) (ap (λ (s : Member). s.refused) ok.1.now ∙ omega (arith, none)),
+        answered_of start count c old new notes notes ok.0 (low_seen start count old notes session begins) a.replies turn (ap (λ (s : Member). s.wrote) ok.1.now ∙ omega (arith, ok.0.many)) (ap (λ (s : Member). s.refused) ok.1.now ∙ omega (arith, none))
+            (ap (λ (s : Member). s.turns) ok.1.now ∙ counts_turn a.replies old.turns marked),
       )
 
 -- the disk failed it
@@ -161,6 +163,7 @@ unread_answered start count c old new (fault.Disk faults) with said said_now ses
         turn = unread_turn start (notes_of old) session.start_is.fresh old.number old.follower.state c count old.seen faults old.live (omega (arith, session.seen)) lives.told lives.live (mails_read c mails) mails own more;
         wrote = omega arith;
         refused = refl;
+        turns = refl;
       }),
     )
 unread_answered start count c old new fault.NoMemory with said said_now session fresh mails own is failure refused before now few cause line = absurd line.1

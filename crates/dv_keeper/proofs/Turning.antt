@@ -1,22 +1,27 @@
 -- The turn of a write that was committed, over what its session has seen then.
-use Rattle.std.proofs.Common.{◌≡◌, ◌∙◌, inl, inr, ℕ, ◌+◌, ◌<◌, ◌≤◌, Bool, true, false, List, [], ◌∷◌, None, Option, Some, Result, Ok, Err, ap, append-nil, arith, length, refl, subst, sym}
-use Rattle.std.specs.Prelude.{IfOk, OnOk, ◌||◌, cond}
+use Rattle.std.proofs.Common.{◌≡◌, ◌∙◌, inl, inr, ℕ, ◌+◌, ◌<◌, ◌≤◌, Bool, true, false, List, [], ◌∷◌, ◌++◌, None, Option, Some, Result, Ok, Err, ap, append-nil, arith, length, refl, subst, sym}
+use Rattle.std.specs.Prelude.{IfOk, OnOk, ◌||◌, cond, if◌then◌else◌}
+use Rattle.std.specs.List.{list_any}
 use Rattle.std.specs.Option.{option_or}
 use Rattle.std.proofs.lemmas.List.{length_push}
+use Rattle.std.proofs.lemmas.List.Folds.{list_any-append}
 use mathlib.Core.List.{IsPrefix}
 use Rattle.dv_model.specs.declared.types.Command.{Command}
 use Rattle.dv_model.specs.declared.types.Mailbox.{Mailbox}
+use Rattle.dv_model.specs.declared.types.Mark.{Mark}
 use Rattle.dv_model.specs.declared.types.Record.{Record}
 use Rattle.dv_model.specs.declared.types.Reply.{Reply}
 use Rattle.dv_model.specs.declared.types.Reply.TheVariants as reply
 use Rattle.dv_model.specs.Counts.{Rose, RoseBy}
-use Rattle.dv_model.specs.Journals.{Log, at, mark_of}
-use Rattle.dv_model.specs.Sessions.{Answer, State, answer, group_of, is_write, limit_of, reads_mail}
+use Rattle.dv_model.specs.Journals.{Log, Mail, at, mark_of}
+use Rattle.dv_model.specs.Sessions.{Answer, State, answer, damaged_uid, data_of, ending_of, gone_uid, group_of, is_write, limit_of, reads_mail, step_of, told_of, view_before}
 use Rattle.dv_model.specs.Transcripts.{Answered, HasLeft, HasWritten, IsTurn, Wrote, refused_at, unavailable_count}
+use Rattle.dv_model.specs.Views.{View, moved}
 use Rattle.dv_validity.proofs.Logs.{Extends}
 use Rattle.dv_answer.proofs.Limits.{refusal_goes_on}
 use Rattle.dv_answer.specs.Refusing.{own_refusal}
 use Rattle.dv_front.specs.declared.notes.Note.{Note}
+use Rattle.dv_member.specs.Calls.{counted}
 use Rattle.dv_notes.specs.Logs.{AreNotesOf, log_of}
 use Rattle.dv_notes.proofs.Logs.{logs_extend}
 use Rattle.dv_plans.specs.declared.fault.StoreFault.{StoreFault}
@@ -31,6 +36,7 @@ use Rattle.dv_store.specs.States.{State as StoreState}
 use Rattle.dv_shared.specs.declared.written.Written.{Written}
 use Rattle.dv_shared.specs.Writing.{HasOutcome, refused_behind}
 use Rattle.dv_shared.proofs.Outcomes.{many_entries}
+use Rattle.dv_keeper.specs.Turns.{has_mark, is_marked}
 
 -- ---- what took replies
 
@@ -66,6 +72,10 @@ module _ {S C : Type 0} (start : Log) (notes : List Note) (store : StoreState S 
 
   pub there : at (log_of start notes) (length notes) ≡ Some store.chain.live.mailbox
   there = subst (λ (k : ℕ). at (log_of start notes) k ≡ Some store.chain.live.mailbox) many stands.mailbox
+
+or_true : (b : Bool) → (b || true) ≡ true
+or_true true = refl
+or_true false = refl
 
 -- nothing refuses a command that writes nothing, where its session doesn't
 pub read_allowed : (log : Log) (k : ℕ) (x : State) (c : Command) (m : Mailbox) → is_write c ≡ false → own_refusal x c ≡ None → refused_at log k x c m ≡ None
@@ -211,10 +221,6 @@ unread_turn start notes fresh author x c base k faults m le told is reads mails 
     stays = refl;
   });
 }
-  where
-    or_true : (b : Bool) → (b || true) ≡ true
-    or_true true = refl
-    or_true false = refl
 
 one_none : (n : ℕ) → n ≡ n + 0
 one_none n = omega arith
@@ -225,3 +231,35 @@ line_counts refused (fault.Disk faults) lines is = ap (λ (l : List Reply). refu
 line_counts refused fault.UidsUsedUp lines is = one_none refused ∙ ap (λ (l : List Reply). refused + unavailable_count (l ∷ [])) (sym is)
 line_counts refused (fault.TooLong bytes) lines is = one_none refused ∙ ap (λ (l : List Reply). refused + unavailable_count (l ∷ [])) (sym is)
 line_counts refused fault.NoMemory lines is = absurd is
+
+-- ---- lines with a mark
+
+ending_marked : (mail : ℕ → Mail) (c : Command) (view : View) (met m : Mailbox) (mark : Mark) → is_marked (ending_of mail c view met m mark ∷ []) ≡ true
+ending_marked mail c view met m mark = by (gone_uid c view m) refl (damaged_uid mail c view m) refl
+  where
+    by : (gone : Option ℕ) → gone_uid c view m ≡ gone → (damaged : Option ℕ) → damaged_uid mail c view m ≡ damaged → is_marked (ending_of mail c view met m mark ∷ []) ≡ true
+    by (Some uid) e damaged f = rw e refl
+    by None e (Some uid) f = rw (e, f) refl
+    by None e None f = rw (e, f) refl
+
+-- an answer ends with one
+pub answer_marked : (mail : ℕ → Mail) (x : State) (c : Command) (met : Mailbox) (q : ℕ) (m : Mailbox) (mark : Mark) → is_marked (answer mail x c met q m mark).replies ≡ true
+answer_marked mail x c met q m mark =
+    let old = view_before c x.view in
+    let new = moved (step_of c) old m in
+    let lines = data_of mail c old m ++ told_of c m old new in
+    let last = ending_of mail c old met m mark in
+    list_any-append has_mark lines (last ∷ [])
+    ∙ ap (λ (b : Bool). list_any has_mark lines || b) (ending_marked mail c old met m mark)
+    ∙ or_true (list_any has_mark lines)
+
+-- so it is a turn
+pub counts_turn : (lines : List Reply) (turns : ℕ) → is_marked lines ≡ true → counted turns ≡ (if is_marked lines then counted turns else turns)
+counts_turn lines turns marked = ap (λ (b : Bool). if b then counted turns else turns) (sym marked)
+
+-- the one line of a limit, or of the disk's failure, has none
+pub line_turns : (turns : ℕ) (e : StoreFault) (lines : List Reply) → IsFaultLine e lines → turns ≡ (if is_marked lines then counted turns else turns)
+line_turns turns (fault.Disk faults) lines is = ap (λ (l : List Reply). if is_marked l then counted turns else turns) (sym is)
+line_turns turns fault.UidsUsedUp lines is = ap (λ (l : List Reply). if is_marked l then counted turns else turns) (sym is)
+line_turns turns (fault.TooLong bytes) lines is = ap (λ (l : List Reply). if is_marked l then counted turns else turns) (sym is)
+line_turns turns fault.NoMemory lines is = absurd is

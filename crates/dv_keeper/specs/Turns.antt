@@ -1,8 +1,10 @@
 -- What a command leaves that is served under the lock: the turn of its session, and what becomes of
 -- the session, by what came of it and by what the call answers.
-use Rattle.std.specs.Prelude.{◌≡◌, ◌≤◌, ◌<◌, ◌+◌, ◌-◌, ℕ, true, false, List, [], ◌∷◌, length, Result, Ok, Err, OnOk, ⊤}
+use Rattle.std.specs.Prelude.{◌≡◌, ◌≤◌, ◌<◌, ◌+◌, ◌-◌, ℕ, Bool, true, false, List, [], ◌∷◌, length, Result, Ok, Err, OnOk, ⊤, if◌then◌else◌}
+use Rattle.std.specs.List.{list_any}
 use Rattle.dv_model.specs.declared.types.Command.{Command}
 use Rattle.dv_model.specs.declared.types.Reply.{Reply}
+use Rattle.dv_model.specs.declared.types.Reply.TheVariants as reply
 use Rattle.dv_model.specs.Journals.{Log}
 use Rattle.dv_model.specs.Transcripts.{HasLeft, IsTurn, Turn, unavailable_count}
 use Rattle.dv_plans.specs.declared.fault.StoreFault.{StoreFault}
@@ -31,9 +33,20 @@ turn_between c met lines old new = record {
   after = new.follower.state;
 }
 
+-- a line with a mark, which ends an answer
+abbrev pub has_mark : Reply → Bool
+has_mark (reply.Done word mark appended modified) = true
+has_mark (reply.Gone uid mark modified) = true
+has_mark (reply.Damaged uid mark) = true
+has_mark r = false
+
+-- the lines of an answer have a mark; those of a refusal or of the disk's failure have none
+abbrev pub is_marked : List Reply → Bool
+is_marked lines = list_any has_mark lines
+
 -- It was answered so by the session rules, over what its session has seen then. It met no fewer
 -- entries than the session had seen. What the session wrote is counted, and so is a failure of the
--- disk.
+-- disk; an answer with a mark is a turn.
 pub record HasAnswered (start : Log) (count : ℕ) (c : Command) (lines : List Reply)
     (old new : Member) : Type 0 where
   pub met : ℕ
@@ -41,6 +54,7 @@ pub record HasAnswered (start : Log) (count : ℕ) (c : Command) (lines : List R
   pub turn : IsTurn (log_seen start new) count old.number (turn_between c met lines old new)
   pub wrote : new.wrote ≡ old.wrote + (new.seen - met)
   pub refused : new.refused ≡ old.refused + unavailable_count (lines ∷ [])
+  pub turns : new.turns ≡ (if is_marked lines then counted old.turns else old.turns)
 
 -- ---- what becomes of a session
 

@@ -1,0 +1,4 @@
+pub mod Stepping
+pub mod Loading
+pub mod Telling
+pub mod Writing

@@ -1,0 +1,4 @@
+pub mod Worlds
+pub mod Loads
+pub mod Answers
+pub mod Writes
