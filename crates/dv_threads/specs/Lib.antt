@@ -1,0 +1,6 @@
+pub mod Transcripts
+pub mod Scripts
+pub mod Sessions
+pub mod Beginnings
+pub mod Serves
+pub mod Jobs
