@@ -23,7 +23,9 @@ pub fn put_greeting(text: &mut Bytes) -> Result<(), NoMemory>
     put_ok(text)
 }
 
-fn put_held(text: &mut Bytes, row: Listed, message: &[u8]) -> Result<(), NoMemory>
+/// Adds the answer to RETR of a message whose bytes are there. They are copied once. `NoMemory` is
+/// the only error; some of the answer may have been added then.
+pub fn put_held(text: &mut Bytes, row: Listed, message: &[u8]) -> Result<(), NoMemory>
     ensures ok { OnOk result (text.new ≡ text.old ++ found_answer row (Held message.now)) }
     ensures err { OnErr result (Extends text.old text.new) }
 {

@@ -15,7 +15,7 @@ mod script;
 mod tests;
 mod types;
 
-pub use answering::{put_found, put_greeting};
+pub use answering::{put_found, put_greeting, put_held};
 pub use laws::{messages_are_heard, rows_stay};
 pub use maildrop::Maildrop;
 pub use message::put_message;

@@ -1,0 +1,9 @@
+pub mod Retrieving
+pub mod Naming
+pub mod Finding
+pub mod Later
+pub mod Keeping
+pub mod Retrieved
+pub mod Removals
+pub mod Removed
+pub mod Asking

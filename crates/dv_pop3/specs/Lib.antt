@@ -1,0 +1,3 @@
+pub mod Retrievals
+pub mod Findings
+pub mod Clients
