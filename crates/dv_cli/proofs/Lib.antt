@@ -7,6 +7,8 @@ mod Timed
 mod Served
 mod Folders
 mod Parsed
+mod ScriptRuns
+mod StorageRuns
 mod WholeRuns
 mod ClientRuns
 mod Watched

@@ -2,7 +2,6 @@
 use Rattle.std.proofs.Common.{◌≡◌, ℕ, List, Result, Ok, Err, sym, ◌∙◌, subst}
 use Rattle.std.specs.Prelude.{IsSome, None, Option, Some}
 use Rattle.dv_model.specs.Counts.{Rose}
-use Rattle.dv_model.specs.declared.types.Key.{Key}
 use Rattle.dv_model.specs.declared.types.OpenFault.{OpenFault}
 use Rattle.dv_model.specs.declared.types.OpenFault.TheVariants as fault
 use Rattle.dv_shelf.specs.Folders.{Folder}
@@ -12,10 +11,12 @@ use Rattle.dv_script.specs.Sources.{ScriptFails}
 use Rattle.dv_script.specs.declared.types.ScriptEnd.{ScriptEnd}
 use Rattle.dv_script.specs.declared.types.ScriptEnd.TheVariants as script
 use Rattle.dv_cli.specs.Tasks.{EndsBy, HasAnswers, HasScript, Opens, script_task}
+use Rattle.dv_cli.specs.declared.scripts.Reader.{Reader}
+use Rattle.dv_cli.specs.declared.scripts.Reader.TheVariants as reader
 use Rattle.dv_cli.specs.declared.words.Task.{Task}
 use Rattle.dv_cli.specs.declared.ending.End.{End}
 use Rattle.dv_cli.specs.declared.ending.End.TheVariants as end
-use Rattle.dv_cli.specs.Causes.{ComesFrom, EndsRefused, FolderCause, IsReadEnd, ScriptEnds, TakesByEnd, TakesForRun, TellsFaults, TellsScript, counts_of}
+use Rattle.dv_cli.specs.Causes.{ComesFrom, EndsRefused, FolderCause, IsReadEnd, ScriptEnds, TakesByEnd, TakesForCalls, TakesForRun, TellsFaults, TellsScript, counts_of}
 use Rattle.dv_cli.specs.Wholes.{EndsReading}
 
 -- ---- lines that are served over a folder
@@ -67,6 +68,17 @@ folder_takes shelf shelf_now out out_now lines old new end.NoMemory cause takes 
 folder_takes shelf shelf_now out out_now lines old new (end.Script s) cause takes = absurd cause
 folder_takes shelf shelf_now out out_now lines old new (end.Source n) cause takes = absurd cause
 folder_takes shelf shelf_now out out_now lines old new end.Sink cause takes = tt
+
+pub calls_take : (shelf shelf_now out out_now : ℕ) (old new : ℕ → ℕ) (e : End)
+    → FolderCause shelf shelf_now out out_now e → TakesForCalls old new e → TakesByEnd old new e
+calls_take shelf shelf_now out out_now old new (end.Answered mark groups loaded) cause takes = tt
+calls_take shelf shelf_now out out_now old new (end.Rebuilt kept skipped) cause takes = absurd cause
+calls_take shelf shelf_now out out_now old new end.Usage cause takes = absurd cause
+calls_take shelf shelf_now out out_now old new (end.Unopened f) cause takes = takes
+calls_take shelf shelf_now out out_now old new end.NoMemory cause takes = tt
+calls_take shelf shelf_now out out_now old new (end.Script s) cause takes = absurd cause
+calls_take shelf shelf_now out out_now old new (end.Source n) cause takes = absurd cause
+calls_take shelf shelf_now out out_now old new end.Sink cause takes = tt
 
 -- ---- a script that isn't served
 
@@ -191,16 +203,19 @@ read_ends t before now (end.Script s) has is = has
 read_ends t before now (end.Source faults) has is = has
 read_ends t before now end.Sink has is = absurd is
 
--- ---- the task that reads a script, beside a search or none
+-- ---- the task that reads a script
 
-pub script_opens : (beside : Option Key) → Opens (Some (script_task beside))
-script_opens None = tt
-script_opens (Some key) = tt
+pub script_opens : (by : Reader) → Opens (Some (script_task by))
+script_opens (reader.Sessions None) = tt
+script_opens (reader.Sessions (Some key)) = tt
+script_opens reader.Storage = tt
 
-pub script_answers : (beside : Option Key) → HasAnswers (Some (script_task beside))
-script_answers None = tt
-script_answers (Some key) = tt
+pub script_answers : (by : Reader) → HasAnswers (Some (script_task by))
+script_answers (reader.Sessions None) = tt
+script_answers (reader.Sessions (Some key)) = tt
+script_answers reader.Storage = tt
 
-pub script_reads : (beside : Option Key) → HasScript (Some (script_task beside))
-script_reads None = tt
-script_reads (Some key) = tt
+pub script_reads : (by : Reader) → HasScript (Some (script_task by))
+script_reads (reader.Sessions None) = tt
+script_reads (reader.Sessions (Some key)) = tt
+script_reads reader.Storage = tt

@@ -41,7 +41,7 @@ use Rattle.dv_cli.specs.declared.words.Load.{Load}
 use Rattle.dv_cli.specs.declared.ending.Loaded.{Loaded}
 use Rattle.dv_cli.specs.Behind.{end_behind, loaded_by}
 use Rattle.dv_cli.specs.Causes.{EndCause, EndsServing}
-use Rattle.dv_cli.specs.Runs.{ClientsKnow, EndsAt, IsAnswered, NoneFailed, OpensFirst, RunsOver, ServesLines, WritesLines}
+use Rattle.dv_cli.specs.Runs.{ClientsKnow, EndsAt, IsAnswered, NoneFailed, OpensFirst, ServesLines, UnlessUnopened, WritesLines}
 use Rattle.dv_beginning.specs.Leaving.{MayLeave}
 use Rattle.dv_cli.specs.Spans.{Times, times_with}
 use Rattle.dv_serving.specs.Faults.{Faults}
@@ -105,7 +105,7 @@ clients_know log base faults lines replies serial = record {
 -- ---- where no count rose
 
 -- none failed
-no_failures : (base faults : ℕ) (ns : List ℕ) → RiseFrom base ns faults → Stayed base faults → ns ≡ []
+pub no_failures : (base faults : ℕ) (ns : List ℕ) → RiseFrom base ns faults → Stayed base faults → ns ≡ []
 no_failures base faults [] rise stayed = refl
 no_failures base faults (n ∷ ns) rise stayed = absurd (stayed (rose_over base faults n ns rise))
 
@@ -372,9 +372,8 @@ module _ {S C : Type 0} (sees : SeesFolder S) (ticks : SeesTime C) (clock : ℕ 
 
 -- ---- a run over a folder
 
-module _ {S : Type 0} (sees : SeesFolder S) (times : Times) (faults : Faults) (load : Option Load) (lines : List NamedLine) (output : Output) (old new : S) where
-  pub runs_serving : (e : End) → EndsServing e → ServesLines sees times faults load lines e output old new
-      → RunsOver sees times faults load lines e output old new
+module _ {S : Type 0} (sees : SeesFolder S) (times : Times) (Serves : End → Type 0) (output : Output) (old new : S) where
+  pub runs_serving : (e : End) → EndsServing e → Serves e → UnlessUnopened sees times Serves e output old new
   runs_serving (end.Answered mark groups loaded) serving serves = serves
   runs_serving (end.Rebuilt kept skipped) serving serves = absurd serving
   runs_serving end.Usage serving serves = absurd serving

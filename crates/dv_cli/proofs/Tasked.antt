@@ -7,7 +7,9 @@ use Rattle.dv_formats.specs.Scripts.{NamedLine}
 use Rattle.dv_qresync.specs.declared.types.Old.{Old}
 use Rattle.dv_cli.specs.declared.words.Task.{Task}
 use Rattle.dv_cli.specs.declared.words.Task.TheVariants as task
-use Rattle.dv_cli.specs.Tasks.{Answers, HasScript, Reaches, parsed_for}
+use Rattle.dv_cli.specs.declared.scripts.Reader.{Reader}
+use Rattle.dv_cli.specs.declared.scripts.Reader.TheVariants as reader
+use Rattle.dv_cli.specs.Tasks.{Answers, HasScript, Reaches, parsed_for, reader_of, script_task}
 use Rattle.dv_cli.specs.Words.{IsResync, IsWatch, task_of}
 use Rattle.dv_cli.specs.WrongWords.{EndsUsage}
 use Rattle.dv_cli.specs.declared.ending.End.TheVariants as end
@@ -27,6 +29,7 @@ answers_reach (Some (task.Watch key)) told read lines answers = (answers.0, line
 answers_reach (Some (task.Generate load)) told read lines answers = tt
 answers_reach (Some task.Rebuild) told read lines answers = absurd answers
 answers_reach (Some (task.Resync client)) told read lines answers = absurd answers
+answers_reach (Some task.Storage) told read lines answers = absurd answers
 answers_reach None told read lines answers = absurd answers
 
 -- ---- that of a client
@@ -38,26 +41,24 @@ client_in (Some task.Run) other = other
 client_in (Some task.Rebuild) other = other
 client_in (Some (task.Generate load)) other = other
 client_in (Some (task.Watch key)) other = other
+client_in (Some task.Storage) other = other
 client_in None other = other
 
 pub client_one : (t : Option Task) (one other : Old) → t ≡ Some (task.Resync one)
     → t ≡ Some (task.Resync other) → one ≡ other
 client_one t one other is also = ap (λ (x : Option Task). client_in x one) (sym is ∙ also)
 
--- ---- that of a kept search
+-- ---- that of a script
 
--- it is of one key
-abbrev key_of : Option Task → Key → Key
-key_of (Some (task.Watch key)) other = key
-key_of (Some (task.Resync client)) other = other
-key_of (Some task.Run) other = other
-key_of (Some task.Rebuild) other = other
-key_of (Some (task.Generate load)) other = other
-key_of None other = other
+-- it is of one reader
+reader_same : (by : Reader) → reader_of (Some (script_task by)) ≡ by
+reader_same (reader.Sessions None) = refl
+reader_same (reader.Sessions (Some key)) = refl
+reader_same reader.Storage = refl
 
-pub key_one : (t : Option Task) (one other : Key) → t ≡ Some (task.Watch one)
-    → t ≡ Some (task.Watch other) → one ≡ other
-key_one t one other is also = ap (λ (x : Option Task). key_of x one) (sym is ∙ also)
+pub reader_one : (t : Option Task) (one other : Reader) → t ≡ Some (script_task one)
+    → t ≡ Some (script_task other) → one ≡ other
+reader_one t one other is also = sym (reader_same one) ∙ ap reader_of (sym is ∙ also) ∙ reader_same other
 
 -- ---- words that take memory
 
@@ -89,6 +90,7 @@ Lacks (Some (task.Resync client)) = Unit {0}
 Lacks (Some task.Run) = ⊥
 Lacks (Some task.Rebuild) = ⊥
 Lacks (Some (task.Generate load)) = ⊥
+Lacks (Some task.Storage) = ⊥
 
 resync_lacks : (t : Option Task) → IsResync t → Lacks t
 resync_lacks (Some (task.Resync client)) is = tt
@@ -96,6 +98,7 @@ resync_lacks (Some (task.Watch key)) is = tt
 resync_lacks (Some task.Run) is = absurd is
 resync_lacks (Some task.Rebuild) is = absurd is
 resync_lacks (Some (task.Generate load)) is = absurd is
+resync_lacks (Some task.Storage) is = absurd is
 resync_lacks None is = tt
 
 pub lacks : (words : List (List ℕ)) → MayLack words → Lacks (task_of words)
@@ -112,6 +115,7 @@ lacks_script (Some (task.Resync client)) told read lines lack answers = absurd a
 lacks_script (Some task.Run) told read lines lack answers = tt
 lacks_script (Some task.Rebuild) told read lines lack answers = absurd lack
 lacks_script (Some (task.Generate load)) told read lines lack answers = absurd lack
+lacks_script (Some task.Storage) told read lines lack answers = tt
 
 -- where they ask for nothing, one of them may have been a key
 pub lacks_usage : (words : List (List ℕ)) → MayLack words → task_of words ≡ None

@@ -34,7 +34,6 @@ use Rattle.dv_watching.specs.Watching.{Watches, Writes, unsaid}
 use Rattle.dv_cli.specs.declared.ending.End.{End}
 use Rattle.dv_cli.specs.declared.ending.End.TheVariants as end
 use Rattle.dv_cli.specs.Behind.{end_behind}
-use Rattle.dv_cli.specs.Causes.{EndsServing}
 use Rattle.dv_cli.specs.Runs.{RunsOver, ServesLines}
 use Rattle.dv_cli.specs.Spans.{Times, times_with}
 use Rattle.dv_cli.specs.Watching.{IsFoundBehind, RunsBeside, ServesBeside, WritesBeside}
@@ -78,16 +77,6 @@ module _ {S : Type 0} (sees : SeesFolder S) (times : Times) (faults : Faults) (k
   }
 
   -- ---- a run over a folder
-
-  pub beside_serving : (e : End) → EndsServing e → ServesBeside sees times faults key lines e out old new → RunsBeside sees times faults key lines e out old new
-  beside_serving (end.Answered mark groups loaded) serving serves = serves
-  beside_serving (end.Rebuilt kept skipped) serving serves = absurd serving
-  beside_serving end.Usage serving serves = absurd serving
-  beside_serving (end.Unopened f) serving serves = absurd serving
-  beside_serving end.NoMemory serving serves = serves
-  beside_serving (end.Script fault) serving serves = absurd serving
-  beside_serving (end.Source faulted) serving serves = absurd serving
-  beside_serving end.Sink serving serves = serves
 
   -- but for what is written it is a run over the lines
   pub beside_runs : (e : End) → RunsBeside sees times faults key lines e out old new → RunsOver sees times faults None lines e (unsaid out) old new

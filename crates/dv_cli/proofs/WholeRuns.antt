@@ -16,6 +16,7 @@ use Rattle.dv_shelf.specs.Streams.{Appends}
 use Rattle.dv_formats.specs.Parsing.{ScriptFault, parsed}
 use Rattle.dv_formats.specs.Scripts.{NamedLine}
 use Rattle.dv_script.specs.Beside.{parsed_beside}
+use Rattle.dv_mdbox_lines.specs.Scripts as storage
 use Rattle.dv_script.specs.Sources.{ScriptFails}
 use Rattle.dv_script.specs.declared.types.ScriptEnd.{ScriptEnd}
 use Rattle.dv_script.specs.declared.types.ScriptEnd.TheVariants as script
@@ -41,7 +42,7 @@ use Rattle.dv_rebuild.specs.declared.rebuilding.Rebuilt.{Rebuilt}
 use Rattle.dv_rebuild.specs.Rebuilding.{LeavesRebuilt}
 use Rattle.dv_cli.specs.Rebuilding.{RebuildsFolder, rebuilt_end}
 use Rattle.dv_notices.specs.declared.telling.Told.{Told}
-use Rattle.dv_cli.specs.Outputs.{IsOutputBy, IsOutputOf, IsOutputOver, IsOutputTo, IsRebuiltOutput, IsWatchOutput, all_served, last_over, output_over, replies_over, script_fault_text, served}
+use Rattle.dv_cli.specs.Outputs.{IsOutputBy, IsOutputOf, IsOutputOver, IsOutputTo, IsRebuiltOutput, IsStorageOutput, IsWatchOutput, all_served, last_over, output_over, replies_over, script_fault_text, served}
 use Rattle.dv_cli.specs.Running.{answered_text, fault_text, rebuilt_text, usage_text}
 use Rattle.dv_cli.specs.Runs.{RunsOver, ServesLines, WritesLines}
 use Rattle.dv_beginning.specs.Leaving.{LeavesUnopened}
@@ -98,6 +99,7 @@ reads_good (Some (task.Watch key)) told read has reaches = reaches
 reads_good (Some task.Rebuild) told read has reaches = absurd has
 reads_good (Some (task.Generate load)) told read has reaches = absurd has
 reads_good (Some (task.Resync client)) told read has reaches = absurd has
+reads_good (Some task.Storage) told read has reaches = reaches
 reads_good None told read has reaches = absurd has
 
 -- a script that is refused is that of such a task
@@ -310,6 +312,7 @@ module _ {S : Type 0} (sees : SeesFolder S) (timed : Type 0) (clock clock_now : 
     written (Some task.Rebuild) load opens is replies silent tells last = absurd opens
     written (Some (task.Resync client)) load opens is replies silent tells last = absurd opens
     written (Some (task.Watch key)) load opens is replies silent tells last = absurd opens
+    written (Some task.Storage) load opens is replies silent tells last = absurd opens
     written None load opens is replies silent tells last = absurd opens
 
     -- of lines that were all answered the output has all replies
@@ -356,6 +359,7 @@ module _ {S : Type 0} (sees : SeesFolder S) (timed : Type 0) (clock clock_now : 
   nothing_before (Some task.Rebuild) opens replies silent tells = absurd opens
   nothing_before (Some (task.Resync client)) opens replies silent tells = absurd opens
   nothing_before (Some (task.Watch key)) opens replies silent tells = absurd opens
+  nothing_before (Some task.Storage) opens replies silent tells = absurd opens
   nothing_before None opens replies silent tells = absurd opens
 
   module _ (tells : told) (opens : HasReplies t) (silent : (HasScript t → ⊥) → between ≡ taken) where
@@ -444,10 +448,12 @@ pub task_output : (t : Option Task) (b : List ℕ) (clock : ℕ → ℕ) (folder
     → Writes old new (IsOutputTo client clock folder))
     → ((key : Key) → t ≡ Some (task.Watch key)
     → Writes old new (IsWatchOutput key (parsed_beside b) clock folder))
+    → (t ≡ Some task.Storage → Writes old new (IsStorageOutput (storage.parsed b) folder))
     → Writes old new (IsOutputOf t b clock folder)
-task_output None b clock folder old new nothing script rebuild load resync watch = nothing refl
-task_output (Some task.Run) b clock folder old new nothing script rebuild load resync watch = script refl
-task_output (Some task.Rebuild) b clock folder old new nothing script rebuild load resync watch = rebuild refl
-task_output (Some (task.Generate l)) b clock folder old new nothing script rebuild load resync watch = load l refl
-task_output (Some (task.Resync client)) b clock folder old new nothing script rebuild load resync watch = resync client refl
-task_output (Some (task.Watch key)) b clock folder old new nothing script rebuild load resync watch = watch key refl
+task_output None b clock folder old new nothing script rebuild load resync watch calls = nothing refl
+task_output (Some task.Run) b clock folder old new nothing script rebuild load resync watch calls = script refl
+task_output (Some task.Rebuild) b clock folder old new nothing script rebuild load resync watch calls = rebuild refl
+task_output (Some (task.Generate l)) b clock folder old new nothing script rebuild load resync watch calls = load l refl
+task_output (Some (task.Resync client)) b clock folder old new nothing script rebuild load resync watch calls = resync client refl
+task_output (Some (task.Watch key)) b clock folder old new nothing script rebuild load resync watch calls = watch key refl
+task_output (Some task.Storage) b clock folder old new nothing script rebuild load resync watch calls = calls refl

@@ -30,6 +30,11 @@ abbrev pub TakesForRun : ℕ → (ℕ → ℕ) → (ℕ → ℕ) → End → Typ
 TakesForRun lines old new (end.Unopened f) = TakesForOpening old new {A = Unit {0}} (Err f)
 TakesForRun lines old new e = TakesUpTo (most_readings lines) old new
 
+-- so often over a storage folder: once for a storage that is made, and by its calls
+abbrev pub TakesForCalls : (ℕ → ℕ) → (ℕ → ℕ) → End → Type 0
+TakesForCalls old new (end.Unopened f) = TakesForOpening old new {A = Unit {0}} (Err f)
+TakesForCalls old new e = ⊤
+
 -- ---- the ends
 
 -- lines that are served end so

@@ -12,6 +12,9 @@ pub mod Rebuilding
 pub mod Resyncing
 pub mod Wholes
 pub mod Watching
+pub mod Beside
+pub mod Storing
+pub mod Scripts
 pub mod WrongWords
 pub mod Told
 pub mod Obeying

@@ -1,7 +1,8 @@
 -- What a run writes, where nothing fails and memory suffices: it depends on the words, the folder,
 -- the script and the clock alone.
-use Rattle.std.specs.Prelude.{◌≡◌, ◌++◌, ℕ, List, length, map, Option, Some, None, Result, Ok, Err}
+use Rattle.std.specs.Prelude.{◌≡◌, ◌⊎◌, ◌++◌, ℕ, All, List, [], length, map, Option, Some, None, Result, Ok, Err, ⊤}
 use Rattle.dv_model.specs.declared.types.Key.{Key}
+use Rattle.dv_model.specs.declared.types.Mark.{Mark}
 use Rattle.dv_model.specs.declared.types.OpenFault.{OpenFault}
 use Rattle.dv_model.specs.Journals.{Log}
 use Rattle.dv_model.specs.Transcripts as transcripts
@@ -21,12 +22,20 @@ use Rattle.dv_qresync.specs.declared.types.Old.{Old}
 use Rattle.dv_qresync.specs.Answers.{resynced}
 use Rattle.dv_qresync.specs.Texts.{answers_text}
 use Rattle.dv_watching.specs.Texts.{lines_text}
+use Rattle.dv_maps.specs.Storages.{Storage}
+use Rattle.dv_mdbox_lines.specs.Playing.{MayGo, Tried}
+use Rattle.dv_mdbox_lines.specs.Scripts as storage
+use Rattle.dv_mdbox_lines.specs.Scripts.{Call}
+use Rattle.dv_mdbox_lines.specs.Texts.{tried_texts}
+use Rattle.dv_mdbox_serving.specs.Following.{HaveGroups, failures_of}
+use Rattle.dv_mdbox_serving.specs.Places.{StartsFrom}
+use Rattle.dv_mdbox_serving.specs.Runs.{IsAnswered, calls_of}
 use Rattle.dv_cli.specs.declared.words.Load.{Load}
 use Rattle.dv_cli.specs.declared.words.Task.{Task}
 use Rattle.dv_cli.specs.declared.words.Task.TheVariants as task
 use Rattle.dv_cli.specs.Behind.{loaded_by}
-use Rattle.dv_beginning.specs.Causes.{IsFault}
-use Rattle.dv_cli.specs.Running.{answered_text, fault_text, rebuilt_text, script_text, usage_text}
+use Rattle.dv_beginning.specs.Causes.{HasFault, IsFault}
+use Rattle.dv_cli.specs.Running.{answered_text, end_text, fault_text, rebuilt_text, script_text, usage_text}
 use Rattle.dv_beginning.specs.Starts.{Starts}
 use Rattle.dv_cli.specs.Tasks.{generated_by}
 
@@ -110,6 +119,33 @@ IsOutputTo client clock folder text =
     × ((f : OpenFault) → IsFault f → (IsNew folder → ⊥) → FaultFound f (IsFound folder)
     → text ≡ fault_text f)
 
+-- All calls on a storage were answered by its rules, and none was failed by the disk.
+pub record AreAnswers (start : Storage) (calls : List Call) (text : List ℕ) : Type 0 where
+  pub tried : List Tried
+  pub of : calls ≡ calls_of tried
+  pub may : MayGo start tried
+  pub each : All IsAnswered tried
+  pub failures : failures_of tried ≡ []
+  pub mark : Mark
+  pub groups : ℕ
+  pub written : HaveGroups tried groups
+  pub is : text ≡ tried_texts tried ++ end_text mark groups
+
+-- The answers to a script's calls in the storage that the folder gives, or in a new one; else it is
+-- the fault of the folder, or of the script.
+abbrev pub IsStorageOutput : Result (List Call) ScriptFault → Folder → List ℕ → Type 0
+IsStorageOutput (Ok calls) folder text =
+    ((start : Storage) → StartsFrom folder start → AreAnswers start calls text)
+    × ((f : OpenFault) → IsFault f → (IsNew folder → ⊥) → FaultFound f (IsFound folder)
+    → text ≡ fault_text f)
+IsStorageOutput (Err fault) folder text = text ≡ script_fault_text fault
+
+-- the calls on a storage are of a folder that gives one, or has none, or a fault
+abbrev pub IsFolderOf : Option Task → Folder → Type 0
+IsFolderOf (Some task.Storage) folder =
+    HasFault folder ⊎ ((start : Storage) × StartsFrom folder start)
+IsFolderOf t folder = ⊤
+
 -- by the task, or that there is none
 abbrev pub IsOutputOf : Option Task → List ℕ → (ℕ → ℕ) → Folder → List ℕ → Type 0
 IsOutputOf None b clock folder text = text ≡ usage_text
@@ -121,3 +157,4 @@ IsOutputOf (Some (task.Resync client)) b clock folder text =
     IsOutputTo client clock folder text
 IsOutputOf (Some (task.Watch key)) b clock folder text =
     IsWatchOutput key (parsed_beside b) clock folder text
+IsOutputOf (Some task.Storage) b clock folder text = IsStorageOutput (storage.parsed b) folder text

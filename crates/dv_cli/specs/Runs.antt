@@ -144,10 +144,16 @@ pub record ServesLines {S : Type 0} (sees : SeesFolder S) (times : Times) (fault
 
 -- ---- both
 
+-- this holds of a run over a folder, unless that isn't opened, and nothing is written then
+abbrev pub UnlessUnopened : {S : Type 0} → SeesFolder S → Times → (End → Type 0) → End → Output
+    → S → S → Type 0
+UnlessUnopened sees times Holds (end.Unopened f) out old new =
+    (out.told → out.taken_now ≡ out.taken) × LeavesUnopened sees times.clock f old new
+UnlessUnopened sees times Holds e out old new = Holds e
+
 -- the lines of a script are answered, or the folder isn't opened
 abbrev pub RunsOver : {S : Type 0} → SeesFolder S → Times → Faults → Option Load → List NamedLine
     → End → Output → S → S → Type 0
-RunsOver sees times faults load lines (end.Unopened f) out old new =
-    (out.told → out.taken_now ≡ out.taken) × LeavesUnopened sees times.clock f old new
 RunsOver sees times faults load lines e out old new =
-    ServesLines sees times faults load lines e out old new
+    UnlessUnopened sees times (λ how. ServesLines sees times faults load lines how out old new) e
+    out old new

@@ -1,11 +1,15 @@
 -- Which lines a task answers, and which ends it may come to.
-use Rattle.std.specs.Prelude.{◌≡◌, ℕ, List, Option, Some, None, IsSome, Result, Ok, ⊤}
+use Rattle.std.specs.Prelude.{◌≡◌, ℕ, List, [], Option, Some, None, IsSome, Result, Ok, Err, ⊤}
 use Rattle.dv_model.specs.declared.types.Key.{Key}
 use Rattle.dv_formats.specs.Generators.{generated}
 use Rattle.dv_formats.specs.Parsing.{ScriptFault, parsed}
 use Rattle.dv_formats.specs.Scripts.{NamedLine}
 use Rattle.dv_script.specs.Beside.{parsed_beside}
+use Rattle.dv_mdbox_lines.specs.Scripts as storage
+use Rattle.dv_mdbox_lines.specs.Scripts.{Call}
 use Rattle.dv_serving.specs.Outputs.{Output}
+use Rattle.dv_cli.specs.declared.scripts.Reader.{Reader}
+use Rattle.dv_cli.specs.declared.scripts.Reader.TheVariants as reader
 use Rattle.dv_cli.specs.declared.words.Load.{Load}
 use Rattle.dv_cli.specs.declared.words.Task.{Task}
 use Rattle.dv_cli.specs.declared.words.Task.TheVariants as task
@@ -19,10 +23,11 @@ generated_by load = generated load.seed load.count load.sessions
 
 -- ---- the script
 
--- the search that a task keeps
-abbrev pub key_in : Option Task → Option Key
-key_in (Some (task.Watch key)) = Some key
-key_in other = None
+-- who answers a script of a task
+abbrev pub reader_of : Option Task → Reader
+reader_of (Some (task.Watch key)) = reader.Sessions (Some key)
+reader_of (Some task.Storage) = reader.Storage
+reader_of other = reader.Sessions None
 
 -- what a script says, where a search of such a key is kept beside its sessions, or none is: beside
 -- one it names one session fewer at most
@@ -30,14 +35,25 @@ abbrev pub parsed_with : Option Key → List ℕ → Result (List NamedLine) Scr
 parsed_with None script = parsed script
 parsed_with (Some key) script = parsed_beside script
 
--- what it says to a task
-abbrev pub parsed_for : Option Task → List ℕ → Result (List NamedLine) ScriptFault
-parsed_for t script = parsed_with (key_in t) script
+-- a storage's script has calls, and no lines of sessions
+abbrev pub without_lines : Result (List Call) ScriptFault → Result (List NamedLine) ScriptFault
+without_lines (Ok calls) = Ok []
+without_lines (Err fault) = Err fault
 
--- the task that reads a script, beside such a search or none
-abbrev pub script_task : Option Key → Task
-script_task None = task.Run
-script_task (Some key) = task.Watch key
+-- the lines of sessions that a script has, or its fault
+abbrev pub parsed_by : Reader → List ℕ → Result (List NamedLine) ScriptFault
+parsed_by (reader.Sessions search) script = parsed_with search script
+parsed_by reader.Storage script = without_lines (storage.parsed script)
+
+-- the same for a task
+abbrev pub parsed_for : Option Task → List ℕ → Result (List NamedLine) ScriptFault
+parsed_for t script = parsed_by (reader_of t) script
+
+-- the task that reads a script for it
+abbrev pub script_task : Reader → Task
+script_task (reader.Sessions None) = task.Run
+script_task (reader.Sessions (Some key)) = task.Watch key
+script_task reader.Storage = task.Storage
 
 -- ---- lines
 
@@ -57,6 +73,7 @@ Reaches (Some task.Run) told read = told × (lines : List NamedLine) × (read �
 Reaches (Some (task.Watch key)) told read = told × (lines : List NamedLine) × (read ≡ Ok lines)
 Reaches (Some (task.Generate load)) told read = ⊤
 Reaches (Some (task.Resync client)) told read = ⊤
+Reaches (Some task.Storage) told read = told × (lines : List NamedLine) × (read ≡ Ok lines)
 Reaches other told read = ⊥
 
 -- the load that a task generates
@@ -64,10 +81,12 @@ abbrev pub load_in : Option Task → Option Load
 load_in (Some (task.Generate load)) = Some load
 load_in other = None
 
--- a script is read, and its replies are written, with what a search finds or without
+-- a script is read, and its replies are written, with what a search finds or without, or the answers
+-- of a storage
 abbrev pub HasScript : Option Task → Type 0
 HasScript (Some task.Run) = ⊤
 HasScript (Some (task.Watch key)) = ⊤
+HasScript (Some task.Storage) = ⊤
 HasScript other = ⊥
 
 -- what an output that tells has of the replies alone: those to a script, where no search is kept
@@ -85,19 +104,23 @@ HasReplies (Some task.Run) = ⊤
 HasReplies (Some (task.Generate load)) = ⊤
 HasReplies other = ⊥
 
--- a mailbox is opened or made where lines are answered, or a client with an older state
+-- a mailbox is opened or made where lines are answered, or a client with an older state, and a
+-- storage where its calls are
 abbrev pub Opens : Option Task → Type 0
 Opens (Some task.Run) = ⊤
 Opens (Some (task.Watch key)) = ⊤
 Opens (Some (task.Generate load)) = ⊤
 Opens (Some (task.Resync client)) = ⊤
+Opens (Some task.Storage) = ⊤
 Opens other = ⊥
 
--- something is written before the last line: replies to a script, or what a client hears
+-- something is written before the last line: replies to a script, the answers of a storage, or what
+-- a client hears
 abbrev pub HasAnswers : Option Task → Type 0
 HasAnswers (Some task.Run) = ⊤
 HasAnswers (Some (task.Watch key)) = ⊤
 HasAnswers (Some (task.Resync client)) = ⊤
+HasAnswers (Some task.Storage) = ⊤
 HasAnswers other = ⊥
 
 -- Each end is of its tasks: the words ask for nothing only where there is none, a rebuild finds no

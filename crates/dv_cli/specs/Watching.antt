@@ -1,5 +1,5 @@
 -- A run that answers a script beside a kept search. The records take what a shelf shows.
-use Rattle.std.specs.Prelude.{◌≡◌, ◌⊎◌, ◌++◌, ℕ, List, drop, length, Option, Some, None}
+use Rattle.std.specs.Prelude.{◌≡◌, ◌⊎◌, ◌++◌, ℕ, List, drop, length, Some, None}
 use Rattle.dv_model.specs.declared.types.Key.{Key}
 use Rattle.dv_model.specs.Journals.{Log, at}
 use Rattle.dv_shelf.specs.Clocks.{behind}
@@ -10,7 +10,6 @@ use Rattle.dv_playing.specs.Playing.{Attempt, begin}
 use Rattle.dv_serving.specs.Faults.{Faults}
 use Rattle.dv_serving.specs.Outputs.{Output}
 use Rattle.dv_serial.specs.Places.{play_of}
-use Rattle.dv_beginning.specs.Leaving.{LeavesUnopened}
 use Rattle.dv_live.specs.Laws.{IsSearched}
 use Rattle.dv_watching.specs.Texts.{found_in, lines_text}
 use Rattle.dv_watching.specs.Watching.{IsTried, unsaid}
@@ -18,15 +17,9 @@ use Rattle.dv_cli.specs.declared.ending.End.{End}
 use Rattle.dv_cli.specs.declared.ending.End.TheVariants as end
 use Rattle.dv_cli.specs.Causes.{ComesFrom, Counts}
 use Rattle.dv_cli.specs.Endings.{Concludes, IsStatus}
-use Rattle.dv_cli.specs.Runs.{RunsOver, ServesLines}
+use Rattle.dv_cli.specs.Runs.{ServesLines, UnlessUnopened}
 use Rattle.dv_cli.specs.Spans.{Times}
 use Rattle.dv_cli.specs.Wholes.{IsUnread, shelf_faults}
-use Rattle.dv_cli.specs.Words.{IsKept}
-
--- a search with the key, where there is one, can be kept
-abbrev pub MayKeep : Option Key → Type 0
-MayKeep None = Unit {0}
-MayKeep (Some key) = IsKept key
 
 -- ---- lines that were answered
 
@@ -66,18 +59,9 @@ pub record ServesBeside {S : Type 0} (sees : SeesFolder S) (times : Times) (faul
 -- the lines of a script are answered beside such a search, or the folder isn't opened
 abbrev pub RunsBeside : {S : Type 0} → SeesFolder S → Times → Faults → Key → List NamedLine → End
     → Output → S → S → Type 0
-RunsBeside sees times faults key lines (end.Unopened f) out old new =
-    (out.told → out.taken_now ≡ out.taken) × LeavesUnopened sees times.clock f old new
 RunsBeside sees times faults key lines e out old new =
-    ServesBeside sees times faults key lines e out old new
-
--- so, where there is a key, and without a search where there is none
-abbrev pub RunsWith : {S : Type 0} → Option Key → SeesFolder S → Times → Faults → List NamedLine
-    → End → Output → S → S → Type 0
-RunsWith None sees times faults lines e out old new =
-    RunsOver sees times faults None lines e out old new
-RunsWith (Some key) sees times faults lines e out old new =
-    RunsBeside sees times faults key lines e out old new
+    UnlessUnopened sees times (λ how. ServesBeside sees times faults key lines how out old new) e
+    out old new
 
 -- ---- with the last line
 

@@ -9,6 +9,8 @@ use Rattle.dv_live.specs.Steadiness.{steady}
 use Rattle.dv_watching.specs.Keys.{steady_key}
 use Rattle.dv_disk.specs.declared.files.Missing.{Missing}
 use Rattle.dv_disk.specs.declared.files.Missing.TheVariants as missing
+use Rattle.dv_folder.specs.declared.names.Layout.{Layout}
+use Rattle.dv_folder.specs.declared.names.Layout.TheVariants as layout
 use Rattle.dv_cli.specs.declared.words.Load.{Load}
 use Rattle.dv_cli.specs.declared.words.Task.{Task}
 use Rattle.dv_cli.specs.declared.words.Task.TheVariants as task
@@ -56,13 +58,15 @@ IsTask task.Rebuild = ⊤
 IsTask (task.Generate load) = IsLoad load
 IsTask (task.Resync client) = ⊤
 IsTask (task.Watch key) = IsKept key
+IsTask task.Storage = ⊤
 
--- the words behind the folder: `run`, `rebuild`, `watch` with the key of a search that can be kept,
--- `gen` with a load, or `resync` with what a client knows
+-- the words behind the folder: `run`, `rebuild`, `mdbox`, `watch` with the key of a search that can
+-- be kept, `gen` with a load, or `resync` with what a client knows
 abbrev pub task_of : List (List ℕ) → Option Task
 task_of (word ∷ []) =
     if bytes_eq word (codes "run") then Some task.Run
-    else (if bytes_eq word (codes "rebuild") then Some task.Rebuild else None)
+    else (if bytes_eq word (codes "rebuild") then Some task.Rebuild
+    else (if bytes_eq word (codes "mdbox") then Some task.Storage else None))
 task_of (word ∷ key ∷ []) =
     if bytes_eq word (codes "watch") then option_map task.Watch (steady_key key) else None
 task_of (word ∷ first ∷ second ∷ third ∷ []) =
@@ -85,6 +89,11 @@ IsWatch words = ⊥
 abbrev pub missing_for : Option Task → Missing
 missing_for (Some task.Rebuild) = missing.Refuse
 missing_for other = missing.Make
+
+-- a storage's files have names of their own
+abbrev pub layout_for : Option Task → Layout
+layout_for (Some task.Storage) = layout.Storage
+layout_for other = layout.Mailbox
 
 -- ---- what is printed
 

@@ -1,7 +1,8 @@
 //! A mailbox folder served to the sessions of a script or to a client that catches up, or rebuilt,
-//! as the program's words ask.
+//! or a storage folder served to the calls of a script, as the program's words ask.
 #![tactic(auto)]
 
+mod beside;
 mod ending;
 mod errors;
 mod loading;
@@ -11,6 +12,8 @@ mod rebuilding;
 mod restarts;
 mod resyncing;
 mod running;
+mod scripts;
+mod storing;
 #[cfg(test)]
 mod tests;
 mod top_call;

@@ -14,7 +14,8 @@ ghost use Rattle.dv_cli.specs.Words.{IsLoad};
 ghost use Rattle.dv_notices.specs.declared.telling.Told.TheVariants as telling;
 ghost use Rattle.dv_cli.specs.declared.words.Task.TheVariants as task;
 
-use crate::running::{Outcome, run_folder};
+use crate::beside::{Beside, run_folder};
+use crate::running::Outcome;
 use crate::words::Load;
 use dv_gen::generated_lines;
 use dv_serial::NullSink;
@@ -53,7 +54,7 @@ pub fn run_load<S: Shelf, C: Clock, G: Gate>(
     let mut none = NullSink;
     run_folder(
         alloc,
-        Some(load),
+        Beside::Load(load),
         &mut lines,
         load.sessions,
         shelf,

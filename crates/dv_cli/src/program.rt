@@ -5,7 +5,7 @@ ghost use Rattle.dv_model.specs.Counts.{Rose};
 ghost use Rattle.dv_cli.specs.Obeying.{IsMemory, Obeys, SaysOf, Tells, TellsErrors};
 ghost use Rattle.dv_notices.specs.declared.telling.Told.TheVariants as telling;
 ghost use Rattle.dv_cli.specs.Running.{memory_text, usage_text};
-ghost use Rattle.dv_cli.specs.Words.{Prints, asks_for, folder_word, missing_for, run_words, task_of};
+ghost use Rattle.dv_cli.specs.Words.{Prints, asks_for, folder_word, layout_for, missing_for, run_words, task_of};
 ghost use Rattle.dv_folder.specs.Paths.{layout_of, missing_of, path_of};
 ghost use Rattle.dv_folder.specs.Ways.{folder_path};
 
@@ -32,6 +32,7 @@ const USAGE: &[u8] = b"usage: sdbox FOLDER run < SCRIPT
        sdbox FOLDER rebuild
        sdbox FOLDER gen SEED COUNT SESSIONS
        sdbox FOLDER resync VALIDITY MODSEQ SET
+       sdbox FOLDER mdbox < SCRIPT
 ";
 
 const HELP: &[u8] = b"usage: sdbox FOLDER run < SCRIPT
@@ -39,6 +40,7 @@ const HELP: &[u8] = b"usage: sdbox FOLDER run < SCRIPT
        sdbox FOLDER rebuild
        sdbox FOLDER gen SEED COUNT SESSIONS
        sdbox FOLDER resync VALIDITY MODSEQ SET
+       sdbox FOLDER mdbox < SCRIPT
 
 run keeps a mailbox in FOLDER and answers the commands of the script. Where FOLDER has no mailbox
 one is made. A line of the script is a session's name, of 1 to 16 small letters and digits, a space
@@ -76,12 +78,22 @@ SEED, and prints no replies. It is for measuring: never use it on a folder with 
 resync tells what a client hears that knows an older state of FOLDER's mailbox: its UIDVALIDITY, its
 highest modification sequence, and the UIDs of its messages as a SET. It changes no message.
 
+mdbox keeps messages many to a file in FOLDER, each with a count of its references, and answers the
+lines of the script. Where FOLDER has no such storage one is made. It isn't for a folder of run, nor
+for one that a Dovecot server made.
+
+  SAVE {N}                   saves a message, of N bytes, which follow the line: OK and its id
+  COPY ID                    adds a reference to a message
+  DROP ID                    drops one
+  GET ID                     gives the message: OK {N}, and its bytes
+  PURGE                      removes the messages without a reference, and says how many
+
 The last line of the output says how the run ended, and the exit status says it too:
 
-  0  every command was answered, or the client, or the folder was rebuilt
+  0  every line was answered, or the client, or the folder was rebuilt
   1  the words are none of these
   2  the folder couldn't be opened, made, rebuilt or locked
-  3  the folder's mailbox is damaged, or isn't of this program
+  3  the folder's mailbox or storage is damaged, or isn't of this program
   4  memory ran out
   5  the script is no script
   6  the script couldn't be read
@@ -138,11 +150,24 @@ fn missing_for(words: &[String]) -> Missing
     }
 }
 
-/// The mailbox folder that the first word names, which is made where it is missing, or not.
+/// How the files of the folder are named, by the words behind it.
+fn layout_for(words: &[String]) -> Layout
+    ensures { result ≡ layout_for (task_of (map string_bytes words.now)) }
+{
+    match words {
+        [word] if word.as_str() == "mdbox" => Layout::Storage,
+        _ => Layout::Mailbox,
+    }
+}
+
+/// The folder that the first word names, of a mailbox or of a storage, which is made where it is
+/// missing, or not.
 fn folder_named(rt: HostRuntime, words: &[String]) -> Result<Folder, NoMemory>
     ensures path { IfOk result (λ shelf. path_of shelf
-        ≡ folder_path Layout.Mailbox (folder_word (map string_bytes words.now))) }
-    ensures layout { IfOk result (λ shelf. layout_of shelf ≡ Layout.Mailbox) }
+        ≡ folder_path (layout_for (task_of (run_words (map string_bytes words.now))))
+        (folder_word (map string_bytes words.now))) }
+    ensures layout { IfOk result (λ shelf. layout_of shelf
+        ≡ layout_for (task_of (run_words (map string_bytes words.now)))) }
     ensures missing { IfOk result (λ shelf. missing_of shelf
         ≡ missing_for (task_of (run_words (map string_bytes words.now)))) }
 {
@@ -150,8 +175,14 @@ fn folder_named(rt: HostRuntime, words: &[String]) -> Result<Folder, NoMemory>
         [path, ..] => path.as_str(),
         [] => "",
     };
-    let missing = missing_for(words_behind(words));
-    Folder::new(rt.alloc(), rt, path, Layout::Mailbox, missing)
+    let behind = words_behind(words);
+    Folder::new(
+        rt.alloc(),
+        rt,
+        path,
+        layout_for(behind),
+        missing_for(behind),
+    )
 }
 
 /// The words behind the folder's.

@@ -1,24 +1,20 @@
-//! The lines of a script over a mailbox folder.
+//! The lines of a script in a mailbox that was opened.
 
 ghost use Rattle.std.specs.Prelude.{◌≡◌, ◌≤◌, ◌*◌, ◌^◌, ℕ, All, length};
 ghost use Rattle.dv_cli.specs.declared.ending.End.TheVariants as how;
 ghost use Rattle.dv_notices.specs.declared.telling.Told.TheVariants as telling;
-ghost use Rattle.dv_shelf.specs.Crashes.{IsSettled};
 ghost use Rattle.dv_formats.specs.Scripts.{NamedLine, sessions_of};
-ghost use Rattle.dv_serving.specs.NextRuns.{IsTrueFolder};
 ghost use Rattle.dv_serving.specs.Outputs.{output_of};
 ghost use Rattle.dv_serving.specs.Readings.{AreReadings, AtReadings, TakesUpTo};
 ghost use Rattle.dv_serving.specs.Servable.{IsServable};
 ghost use Rattle.dv_beginning.specs.Begins.{IsBegun};
 ghost use Rattle.dv_cli.specs.Behind.{end_behind, loaded_by};
-ghost use Rattle.dv_cli.specs.Causes.{EndCause, EndsServing, TakesForRun, TellsFaults};
-ghost use Rattle.dv_cli.specs.Runs.{RunsOver, ServesLines};
+ghost use Rattle.dv_cli.specs.Causes.{EndCause, EndsServing};
+ghost use Rattle.dv_cli.specs.Runs.{ServesLines};
 ghost use Rattle.dv_cli.specs.Spans.{times_from};
-ghost use Rattle.dv_serving.specs.Faults.{faults_of};
 
 use crate::ending::{End, Loaded};
 use crate::words::Load;
-use dv_beginning::open_folder;
 use dv_model::Mark;
 use dv_notices::Told;
 use dv_script::Lines;
@@ -102,7 +98,7 @@ fn unserved<S, C>(store: Store<S, C>) -> Outcome<S, C>
 
 /// Answers the lines of a script in a mailbox that was opened, to as many sessions.
 /// Where they are of a generated load, it is told at the end.
-fn serve_lines<S: Shelf, C: Clock, L: Lines, O: Sink, G: Gate>(
+pub fn serve_lines<S: Shelf, C: Clock, L: Lines, O: Sink, G: Gate>(
     alloc: Global,
     store: Store<S, C>,
     load: Option<Load>,
@@ -142,47 +138,5 @@ fn serve_lines<S: Shelf, C: Clock, L: Lines, O: Sink, G: Gate>(
         told: Told::Nothing,
         shelf,
         clock,
-    }
-}
-
-/// Opens or makes the mailbox, and answers the lines in it, which may be of a generated load.
-pub fn run_folder<S: Shelf, C: Clock, L: Lines, O: Sink, G: Gate>(
-    alloc: Global,
-    load: Option<Load>,
-    lines: &mut L,
-    sessions: u32,
-    shelf: S,
-    clock: C,
-    out: &mut O,
-    gate: &G,
-) -> Outcome<S, C>
-    requires servable { All (λ (line : NamedLine). IsServable line.1) (L.left lines.old) }
-    requires few { length (L.left lines.old) ≤ 2 ^ 26 }
-    requires sessions { sessions ≡ length (sessions_of (L.left lines.old)) }
-    // Of a settled folder with a true cache: what is answered, written and left, at any moment too.
-    ensures runs { S.sees.tells → IsSettled S.sees shelf → IsTrueFolder (S.sees.files shelf) →
-        AtReadings C.sees.tells (C.sees.upcoming clock) (λ readings.
-        RunsOver S.sees (times_from C.sees readings result.clock)
-        (faults_of S.sees shelf result.shelf) load (L.left lines.old) result.end
-        (output_of O.sees out.old out.new) shelf result.shelf) }
-    // A fault that is found is told, and only where there is none all lines are answered; nothing
-    // is told beside it.
-    ensures found { S.sees.tells → TellsFaults (S.sees.files shelf) result.end }
-    ensures quiet { result.told ≡ telling.Nothing }
-    // Each end has its cause, and the clock is read so often.
-    ensures cause { EndCause (S.sees.fault_count shelf) (S.sees.fault_count result.shelf)
-        (O.sees.fault_count out.old) (O.sees.fault_count out.new) result.end }
-    ensures readings { C.sees.tells →
-        TakesForRun (length (L.left lines.old)) (C.sees.upcoming clock)
-        (C.sees.upcoming result.clock) result.end }
-{
-    match open_folder(alloc, shelf, clock) {
-        Ok(store) => serve_lines(alloc, store, load, lines, sessions, out, gate),
-        Err((shelf, clock, fault)) => Outcome {
-            end: End::Unopened(fault),
-            told: Told::Nothing,
-            shelf,
-            clock,
-        },
     }
 }

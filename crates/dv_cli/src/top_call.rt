@@ -10,7 +10,7 @@ ghost use Rattle.dv_serving.specs.Outputs.{output_of};
 ghost use Rattle.dv_serving.specs.Readings.{AtReadings, TakesUpTo};
 ghost use Rattle.dv_cli.specs.Causes.{AnyRose, EndsRefused, HasCauses, HasRunCause, IsByFolder, IsRead, IsReadEnd, IsTimed, IsUntouched, ScriptEnds, TakesByEnd, TellsFaults, TellsScript, counts_of, most_readings};
 ghost use Rattle.dv_beginning.specs.Causes.{HasFault};
-ghost use Rattle.dv_cli.specs.Outputs.{IsOutputOf};
+ghost use Rattle.dv_cli.specs.Outputs.{IsFolderOf, IsOutputOf};
 ghost use Rattle.dv_cli.specs.Readings.{TakesFront, read_limit};
 ghost use Rattle.dv_cli.specs.Rebuilding.{RebuildsFolder};
 ghost use Rattle.dv_cli.specs.Resyncing.{IsClientRun, RunsClient};
@@ -19,10 +19,15 @@ ghost use Rattle.dv_model.specs.declared.types.Key.{Key};
 ghost use Rattle.dv_cli.specs.Spans.{times_from, times_of};
 ghost use Rattle.dv_serving.specs.Faults.{faults_of};
 ghost use Rattle.dv_script.specs.Beside.{parsed_beside};
-ghost use Rattle.dv_cli.specs.Tasks.{Answers, EndsBy, HasScript, Reaches, parsed_for, parsed_with, script_task};
+ghost use Rattle.dv_cli.specs.Tasks.{Answers, EndsBy, HasScript, Reaches, parsed_by, parsed_for, parsed_with, script_task};
 ghost use Rattle.dv_cli.specs.Told.{IsToldAt, IsToldBy, TellsEnd, TellsFault};
 ghost use Rattle.dv_cli.specs.Wholes.{IsRebuildRun, IsRefused, IsRun, IsUnread, RunsTask};
-ghost use Rattle.dv_cli.specs.Watching.{IsWatchRun, MayKeep, RunsWatch, RunsWith};
+ghost use Rattle.dv_cli.specs.Scripts.{AreAlike, MayBeginBy, MayRead, RunsScript, TakesForScript};
+ghost use Rattle.dv_cli.specs.Storing.{IsStorageRun};
+ghost use Rattle.dv_cli.specs.declared.scripts.Reader.{Reader};
+ghost use Rattle.dv_mdbox_lines.specs.Scripts as storage;
+ghost use Rattle.dv_mdbox_lines.specs.Scripts.{Call};
+ghost use Rattle.dv_cli.specs.Watching.{IsWatchRun};
 ghost use Rattle.dv_cli.specs.Words.{task_of};
 ghost use Rattle.dv_cli.specs.WrongWords.{EndsUsage, IsUsageStatus, PrintsUsage};
 ghost use Rattle.dv_cli.specs.declared.ending.End.TheVariants as how;
@@ -34,11 +39,11 @@ use crate::reading::{ReadEnd, read_script};
 use crate::rebuilding::run_rebuild;
 use crate::resyncing::run_resync;
 use crate::running::{Outcome, untouched};
-use crate::watching::{open_with, run_with};
+use crate::scripts::{Reader, open_for, run_opened};
 use crate::words::{Task, task_of};
-use dv_model::{Bytes, Key};
+use dv_model::Bytes;
 use dv_notices::{Told, told_line};
-use dv_script::{Script, ScriptEnd};
+use dv_script::ScriptEnd;
 use dv_serving::commands_are_servable;
 use dv_shelf::{Clock, Gate, Shelf, Sink, Source};
 use std::alloc::Global;
@@ -53,8 +58,7 @@ pub struct Ran<S, C> {
 
 /// The script's text, or how a run without it ends.
 fn script_text<I: Source>(alloc: Global, script: &mut I) -> Result<Bytes, End>
-    ensures text { I.sees.tells → IfOk result (λ text. (beside : Option Key) →
-        parsed_with beside text ≡ parsed_with beside (I.sees.left script.old)) }
+    ensures text { I.sees.tells → IfOk result (λ text. AreAlike text (I.sees.left script.old)) }
     ensures front { I.sees.tells →
         IfOk result (λ text. text ≡ take read_limit (I.sees.left script.old)) }
     ensures unread { IfErr result (λ e. (read : Result (List NamedLine) ScriptFault) →
@@ -87,38 +91,34 @@ fn told_of(alloc: Global, text: &[u8], end: ScriptEnd) -> Told
     }
 }
 
-/// Reads the script, and answers its lines in the folder; where there is a key, beside a search
-/// with it that is kept.
+/// Reads the script, and has it answered in the folder.
 fn run_script<S: Shelf, I: Source, O: Sink, C: Clock, G: Gate>(
     alloc: Global,
-    beside: Option<Key>,
+    reader: Reader,
     shelf: S,
     script: &mut I,
     out: &mut O,
     clock: C,
     gate: &G,
 ) -> Outcome<S, C>
-    requires kept { MayKeep beside }
-    // The lines of a good script are answered, unless it couldn't be read.
+    requires kept { MayRead reader }
+    // A good script is answered, unless it couldn't be read.
     ensures runs { S.sees.tells → I.sees.tells → IsSettled S.sees shelf →
-        IsTrueFolder (S.sees.files shelf) → (lines : List NamedLine) →
-        parsed_with beside (I.sees.left script.old) ≡ Ok lines →
+        MayBeginBy reader (S.sees.files shelf) →
         AtReadings C.sees.tells (C.sees.upcoming clock) (λ readings.
-        IsUnread result.end (O.sees.taken out.old) (O.sees.taken out.new) shelf result.shelf
-        ⊎ RunsWith beside S.sees (times_from C.sees readings result.clock)
-        (faults_of S.sees shelf result.shelf) lines result.end
-        (output_of O.sees out.old out.new) shelf result.shelf) }
+        RunsScript reader (I.sees.left script.old) S.sees (times_from C.sees readings result.clock)
+        (faults_of S.sees shelf result.shelf) result.end (output_of O.sees out.old out.new) shelf
+        result.shelf) }
     // One that is refused leaves everything but its source untouched.
     ensures refused { I.sees.tells → (fault : ScriptFault) →
-        parsed_with beside (I.sees.left script.old) ≡ Err fault →
+        parsed_by reader (I.sees.left script.old) ≡ Err fault →
         IsUntouched shelf result.shelf clock result.clock
         × EndsRefused fault result.end × (out.new ≡ out.old) }
     // What the script and the folder hold is told, and each end has its cause.
-    ensures script { I.sees.tells →
-        TellsScript (parsed_with beside (I.sees.left script.old)) result.end
-        × TellsEnd (take read_limit (I.sees.left script.old)) result.end result.told }
-    ensures found { S.sees.tells → TellsFaults (S.sees.files shelf) result.end }
-    ensures ends { EndsBy (Some (script_task beside)) result.end × IsToldAt result.end result.told }
+    ensures found { (S.sees.tells → TellsFaults (S.sees.files shelf) result.end)
+        × (I.sees.tells → TellsScript (parsed_by reader (I.sees.left script.old)) result.end
+        × TellsEnd (take read_limit (I.sees.left script.old)) result.end result.told) }
+    ensures ends { EndsBy (Some (script_task reader)) result.end × IsToldAt result.end result.told }
     ensures cause { HasRunCause
         (counts_of (S.sees.fault_count shelf) (I.sees.fault_count script.old)
         (O.sees.fault_count out.old))
@@ -127,26 +127,18 @@ fn run_script<S: Shelf, I: Source, O: Sink, C: Clock, G: Gate>(
         result.end }
     ensures bound { I.sees.tells → TakesFront (I.sees.left script.old) (I.sees.left script.new) }
     // How often the clock is read.
-    ensures readings { C.sees.tells → I.sees.tells → (lines : List NamedLine) →
-        parsed_with beside (I.sees.left script.old) ≡ Ok lines →
-        TakesUpTo (most_readings (length lines)) (C.sees.upcoming clock)
-        (C.sees.upcoming result.clock) }
-    ensures unread { C.sees.tells →
-        TakesByEnd (C.sees.upcoming clock) (C.sees.upcoming result.clock) result.end }
+    ensures readings { C.sees.tells →
+        TakesByEnd (C.sees.upcoming clock) (C.sees.upcoming result.clock) result.end
+        × (I.sees.tells → TakesForScript reader (I.sees.left script.old) (C.sees.upcoming clock)
+        (C.sees.upcoming result.clock)) }
 {
     let text = match script_text(alloc, script) {
         Ok(text) => text,
         Err(end) => return untouched(shelf, clock, end, Told::Nothing),
     };
     commands_are_servable();
-    match open_with(alloc, &beside, text.as_slice()) {
-        Ok(opened) => {
-            let Script {
-                mut lines,
-                sessions,
-            } = opened;
-            run_with(alloc, beside, &mut lines, sessions, shelf, clock, out, gate)
-        }
+    match open_for(alloc, reader, text.as_slice()) {
+        Ok(opened) => run_opened(alloc, opened, shelf, clock, out, gate),
         Err(end) => {
             let told = told_of(alloc, text.as_slice(), end);
             untouched(shelf, clock, End::Script(end), told)
@@ -165,7 +157,7 @@ fn perform<S: Shelf, I: Source, O: Sink, C: Clock, G: Gate>(
     gate: &G,
 ) -> Outcome<S, C>
     // The lines of a script, or generated ones, are answered; a folder is rebuilt; a client with an
-    // older state is answered; and what is written beside a kept search.
+    // older state is answered; and a script is, beside a kept search too, or by a storage.
     ensures runs { S.sees.tells → IsSettled S.sees shelf →
         IsTrueFolder (S.sees.files shelf) → (lines : List NamedLine) →
         Answers (task_of (map string_bytes words.now)) I.sees.tells
@@ -184,13 +176,13 @@ fn perform<S: Shelf, I: Source, O: Sink, C: Clock, G: Gate>(
         AtReadings C.sees.tells (C.sees.upcoming clock) (λ readings.
         RunsClient S.sees (times_from C.sees readings result.clock) client result.end
         (output_of O.sees out.old out.new) shelf result.shelf) }
-    ensures watches { (key : Key) → task_of (map string_bytes words.now) ≡ Some (task.Watch key) →
-        S.sees.tells → I.sees.tells → IsSettled S.sees shelf → IsTrueFolder (S.sees.files shelf) →
-        (lines : List NamedLine) → parsed_beside (I.sees.left script.old) ≡ Ok lines →
+    ensures scripts { (reader : Reader) →
+        task_of (map string_bytes words.now) ≡ Some (script_task reader) → S.sees.tells →
+        I.sees.tells → IsSettled S.sees shelf → MayBeginBy reader (S.sees.files shelf) →
         AtReadings C.sees.tells (C.sees.upcoming clock) (λ readings.
-        RunsWatch S.sees (times_from C.sees readings result.clock)
-        (faults_of S.sees shelf result.shelf) key lines result.end
-        (output_of O.sees out.old out.new) shelf result.shelf) }
+        RunsScript reader (I.sees.left script.old) S.sees (times_from C.sees readings result.clock)
+        (faults_of S.sees shelf result.shelf) result.end (output_of O.sees out.old out.new) shelf
+        result.shelf) }
     // What is left untouched where they ask for nothing, or the script is refused.
     ensures usage { task_of (map string_bytes words.now) ≡ None → (out.new ≡ out.old)
         × EndsUsage (map string_bytes words.now) result.end
@@ -226,8 +218,15 @@ fn perform<S: Shelf, I: Source, O: Sink, C: Clock, G: Gate>(
         return untouched(shelf, clock, End::Usage, Told::Nothing);
     };
     match task {
-        Task::Run => run_script(alloc, None, shelf, script, out, clock, gate),
-        Task::Watch(key) => run_script(alloc, Some(key), shelf, script, out, clock, gate),
+        Task::Run => {
+            let reader = Reader::Sessions(None);
+            run_script(alloc, reader, shelf, script, out, clock, gate)
+        }
+        Task::Watch(key) => {
+            let reader = Reader::Sessions(Some(key));
+            run_script(alloc, reader, shelf, script, out, clock, gate)
+        }
+        Task::Storage => run_script(alloc, Reader::Storage, shelf, script, out, clock, gate),
         Task::Rebuild => run_rebuild(alloc, shelf, clock),
         Task::Generate(load) => run_load(alloc, load, shelf, clock, gate),
         Task::Resync(client) => run_resync(alloc, &client, shelf, clock, out),
@@ -239,7 +238,8 @@ fn perform<S: Shelf, I: Source, O: Sink, C: Clock, G: Gate>(
 /// each line, and writes the replies. `gen` does so with a generated script, and writes no reply.
 /// `rebuild` gives a damaged folder a new log. `resync` tells what a client with an older state of
 /// the mailbox hears. `watch` serves a script as `run` does, and writes behind the replies to each
-/// command that wrote a group what a search finds then.
+/// command that wrote a group what a search finds then. `mdbox` serves a storage folder to the calls
+/// of a script: it opens its storage, or makes one, answers each call, and writes the answers.
 pub fn run<S: Shelf + Send, I: Source, O: Sink, C: Clock + Send, G: Gate + Sync>(
     alloc: Global,
     words: &[String],
@@ -308,6 +308,19 @@ pub fn run<S: Shelf + Send, I: Source, O: Sink, C: Clock + Send, G: Gate + Sync>
         (O.sees.fault_count out.new))
         key lines result.status (output_of O.sees out.old out.new) shelf result.shelf) }
 
+    // The calls of a script are answered by the storage that was found, or made. Each answer is one
+    // that may come of its call behind those before, and the answers are written, and nothing else.
+    // What is left gives the storage behind them, and a crash at any moment the one before a call or
+    // behind it, with each message that has a reference.
+    ensures stores { task_of (map string_bytes words.now) ≡ Some task.Storage → S.sees.tells →
+        I.sees.tells → IsSettled S.sees shelf → (calls : List Call) →
+        storage.parsed (I.sees.left script.old) ≡ Ok calls → IsStorageRun S.sees
+        (counts_of (S.sees.fault_count shelf) (I.sees.fault_count script.old)
+        (O.sees.fault_count out.old))
+        (counts_of (S.sees.fault_count result.shelf) (I.sees.fault_count script.new)
+        (O.sees.fault_count out.new))
+        calls result.status (output_of O.sees out.old out.new) shelf result.shelf }
+
     // Words that ask for nothing leave everything untouched, and a script that is refused leaves
     // folder and clock so; what is written then. Of such a script its first bad line is told. Of
     // what may be a key it may be that memory runs out before it is seen to be none.
@@ -347,9 +360,10 @@ pub fn run<S: Shelf + Send, I: Source, O: Sink, C: Clock + Send, G: Gate + Sync>
         (O.sees.fault_count out.new)) }
 
     // Without want of memory and with nothing failed the output is a function of the words, the
-    // folder, the script and the clock.
+    // folder, the script and the clock; of a storage it is the answers by its rules.
     ensures output { S.sees.tells → C.sees.tells → I.sees.tells → O.sees.tells →
         IsSettled S.sees shelf → IsTrueFolder (S.sees.files shelf) →
+        IsFolderOf (task_of (map string_bytes words.now)) (S.sees.files shelf) →
         result.status ≢ 4 → (AnyRose
         (counts_of (S.sees.fault_count shelf) (I.sees.fault_count script.old)
         (O.sees.fault_count out.old))
@@ -359,10 +373,10 @@ pub fn run<S: Shelf + Send, I: Source, O: Sink, C: Clock + Send, G: Gate + Sync>
         × IsOutputOf (task_of (map string_bytes words.now)) (I.sees.left script.old)
         (C.sees.upcoming clock) (S.sees.files shelf) text }
 
-    // The script is read for `run` and `watch` alone, and at most one byte more than the longest
-    // script is. The clock is read once at most for a mailbox that is made, and twice at most for
-    // each line; not at all where the words, the script or the folder are refused, and once at most
-    // where the disk fails before the first line.
+    // The script is read for `run`, `watch` and `mdbox` alone, and at most one byte more than the
+    // longest script is. The clock is read once at most for a mailbox that is made, and twice at
+    // most for each line; not at all where the words, the script or the folder are refused, and once
+    // at most where the disk fails before the first line.
     ensures bound { (I.sees.tells → TakesFront (I.sees.left script.old) (I.sees.left script.new))
         × ((HasScript (task_of (map string_bytes words.now)) → ⊥) → script.new ≡ script.old) }
     ensures readings { C.sees.tells → IsTimed (task_of (map string_bytes words.now)) I.sees.tells

@@ -1,25 +1,21 @@
-//! The lines of a script over a mailbox folder, beside a search that is kept of it.
+//! The lines of a script in a mailbox that was opened, beside a search that is kept of it.
 
 ghost use Rattle.std.specs.Prelude.{◌≡◌, ◌≤◌, ◌*◌, ◌^◌, ℕ, All, IfOk, length};
-ghost use Rattle.dv_shelf.specs.Crashes.{IsSettled};
 ghost use Rattle.dv_formats.specs.Scripts.{IsScript, NamedLine, sessions_of};
 ghost use Rattle.dv_script.specs.Opened.{OpensAs, lines_left};
-ghost use Rattle.dv_serving.specs.Faults.{faults_of};
-ghost use Rattle.dv_serving.specs.NextRuns.{IsTrueFolder};
 ghost use Rattle.dv_serving.specs.Outputs.{output_of};
 ghost use Rattle.dv_serving.specs.Readings.{AreReadings, AtReadings, TakesUpTo};
 ghost use Rattle.dv_serving.specs.Servable.{IsServable};
 ghost use Rattle.dv_beginning.specs.Begins.{IsBegun};
-ghost use Rattle.dv_cli.specs.Causes.{EndCause, EndsServing, TakesForRun, TellsFaults};
+ghost use Rattle.dv_cli.specs.Causes.{EndCause, EndsServing};
 ghost use Rattle.dv_cli.specs.Spans.{times_from};
 ghost use Rattle.dv_cli.specs.Tasks.{parsed_with};
-ghost use Rattle.dv_cli.specs.Watching.{MayKeep, RunsBeside, RunsWith, ServesBeside};
+ghost use Rattle.dv_cli.specs.Watching.{ServesBeside};
 ghost use Rattle.dv_cli.specs.Words.{IsKept};
 ghost use Rattle.dv_notices.specs.declared.telling.Told.TheVariants as telling;
 
 use crate::ending::End;
-use crate::running::{Outcome, end_behind, run_folder};
-use dv_beginning::open_folder;
+use crate::running::{Outcome, end_behind};
 use dv_model::Key;
 use dv_notices::Told;
 use dv_script::{Lines, Script, ScriptEnd, open_script, open_script_beside};
@@ -48,7 +44,7 @@ pub fn open_with<'a>(
 
 /// Answers the lines of a script in a mailbox that was opened, to as many sessions, and keeps a
 /// search beside them.
-fn serve_beside<S: Shelf, C: Clock, L: Lines, O: Sink, G: Gate>(
+pub fn serve_beside<S: Shelf, C: Clock, L: Lines, O: Sink, G: Gate>(
     alloc: Global,
     store: Store<S, C>,
     key: Key,
@@ -95,81 +91,5 @@ fn serve_beside<S: Shelf, C: Clock, L: Lines, O: Sink, G: Gate>(
             shelf,
             clock,
         },
-    }
-}
-
-/// Opens or makes the mailbox, and answers the lines in it, beside a search that is kept.
-fn run_beside<S: Shelf, C: Clock, L: Lines, O: Sink, G: Gate>(
-    alloc: Global,
-    key: Key,
-    lines: &mut L,
-    sessions: u32,
-    shelf: S,
-    clock: C,
-    out: &mut O,
-    gate: &G,
-) -> Outcome<S, C>
-    requires kept { IsKept key }
-    requires servable { All (λ (line : NamedLine). IsServable line.1) (L.left lines.old) }
-    requires few { length (L.left lines.old) ≤ 2 ^ 26 }
-    requires sessions { sessions ≡ length (sessions_of (L.left lines.old)) }
-    // Of a settled folder with a true cache: what is answered, written and left, at any moment too.
-    ensures runs { S.sees.tells → IsSettled S.sees shelf → IsTrueFolder (S.sees.files shelf) →
-        AtReadings C.sees.tells (C.sees.upcoming clock) (λ readings.
-        RunsBeside S.sees (times_from C.sees readings result.clock)
-        (faults_of S.sees shelf result.shelf) key (L.left lines.old) result.end
-        (output_of O.sees out.old out.new) shelf result.shelf) }
-    // A fault that is found is told, and only where there is none all lines are answered; nothing
-    // is told beside it.
-    ensures found { S.sees.tells → TellsFaults (S.sees.files shelf) result.end }
-    ensures quiet { result.told ≡ telling.Nothing }
-    // Each end has its cause, and the clock is read so often.
-    ensures cause { EndCause (S.sees.fault_count shelf) (S.sees.fault_count result.shelf)
-        (O.sees.fault_count out.old) (O.sees.fault_count out.new) result.end }
-    ensures readings { C.sees.tells → TakesForRun (length (L.left lines.old))
-        (C.sees.upcoming clock) (C.sees.upcoming result.clock) result.end }
-{
-    match open_folder(alloc, shelf, clock) {
-        Ok(store) => serve_beside(alloc, store, key, lines, sessions, out, gate),
-        Err((shelf, clock, fault)) => Outcome {
-            end: End::Unopened(fault),
-            told: Told::Nothing,
-            shelf,
-            clock,
-        },
-    }
-}
-
-/// Opens or makes the mailbox, and answers the lines in it; where there is a key, beside a search
-/// with it that is kept.
-pub fn run_with<S: Shelf, C: Clock, L: Lines, O: Sink, G: Gate>(
-    alloc: Global,
-    beside: Option<Key>,
-    lines: &mut L,
-    sessions: u32,
-    shelf: S,
-    clock: C,
-    out: &mut O,
-    gate: &G,
-) -> Outcome<S, C>
-    requires kept { MayKeep beside }
-    requires servable { All (λ (line : NamedLine). IsServable line.1) (L.left lines.old) }
-    requires few { length (L.left lines.old) ≤ 2 ^ 26 }
-    requires sessions { sessions ≡ length (sessions_of (L.left lines.old)) }
-    ensures runs { S.sees.tells → IsSettled S.sees shelf → IsTrueFolder (S.sees.files shelf) →
-        AtReadings C.sees.tells (C.sees.upcoming clock) (λ readings.
-        RunsWith beside S.sees (times_from C.sees readings result.clock)
-        (faults_of S.sees shelf result.shelf) (L.left lines.old) result.end
-        (output_of O.sees out.old out.new) shelf result.shelf) }
-    ensures found { S.sees.tells → TellsFaults (S.sees.files shelf) result.end }
-    ensures quiet { result.told ≡ telling.Nothing }
-    ensures cause { EndCause (S.sees.fault_count shelf) (S.sees.fault_count result.shelf)
-        (O.sees.fault_count out.old) (O.sees.fault_count out.new) result.end }
-    ensures readings { C.sees.tells → TakesForRun (length (L.left lines.old))
-        (C.sees.upcoming clock) (C.sees.upcoming result.clock) result.end }
-{
-    match beside {
-        Some(key) => run_beside(alloc, key, lines, sessions, shelf, clock, out, gate),
-        None => run_folder(alloc, None, lines, sessions, shelf, clock, out, gate),
     }
 }

@@ -38,6 +38,8 @@ pub enum Task {
     Resync(Old),
     /// The script is answered over the folder, beside a search with this key.
     Watch(Key),
+    /// The calls of a script are answered by the storage of the folder.
+    Storage,
 }
 
 /// A number of 64 bits is one.
@@ -145,6 +147,7 @@ pub fn task_of(alloc: Global, words: &[String]) -> Result<Option<Task>, NoMemory
     match words {
         [word] if word.as_str() == "run" => Ok(Some(Task::Run)),
         [word] if word.as_str() == "rebuild" => Ok(Some(Task::Rebuild)),
+        [word] if word.as_str() == "mdbox" => Ok(Some(Task::Storage)),
         [word, key] => task_beside(alloc, word.as_str(), key.as_bytes()),
         [word, first, second, third] => task_with(
             alloc,

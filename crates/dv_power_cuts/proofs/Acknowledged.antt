@@ -38,6 +38,7 @@ told_of (Some task.Rebuild) told is = absurd is
 told_of (Some (task.Generate load)) told is = absurd is
 told_of (Some (task.Resync client)) told is = absurd is
 told_of (Some (task.Watch key)) told is = absurd is
+told_of (Some task.Storage) told is = absurd is
 
 -- no line is left, or the first of the rest
 left_of : (load : Option Load) (e : End) (clock : ℕ → ℕ) (base : ℕ) (start : Log) (answered left : List Attempt) (rest : List Line) → EndsAt load e clock base start answered left rest

@@ -1,4 +1,4 @@
-use super::{bytes_of, ends, given, play_in, rows, strings};
+use super::{Setting, bytes_of, ends, given, play_in, rows, strings};
 use crate::program::obey_read;
 use dv_folder::{Folder as RealFolder, Layout, Missing};
 use dv_model::{List, NoMemory};
@@ -15,6 +15,10 @@ fn path_of(rt: HostRuntime, name: &str) -> Result<String, Fail> {
 
 fn real_folder(alloc: Global, rt: HostRuntime, path: &str) -> Result<RealFolder, NoMemory> {
     RealFolder::new(alloc, rt, path, Layout::Mailbox, Missing::Make)
+}
+
+fn real_storage(alloc: Global, rt: HostRuntime, path: &str) -> Result<RealFolder, NoMemory> {
+    RealFolder::new(alloc, rt, path, Layout::Storage, Missing::Make)
 }
 
 const FIRST: &[u8] = b"a SELECT\na APPEND () {5}\nhello\na STORE 1 +FLAGS (\\Seen)\n";
@@ -64,6 +68,67 @@ fn a_real_folder_keeps_mail_until_the_next_run(rt: HostRuntime) -> Result<(), Fa
     drop(second);
     fs::remove_dir_all(&rt, path.as_str())?;
     Ok(())
+}
+
+fn calls(script: &[u8]) -> Setting {
+    Setting {
+        words: &["mdbox"],
+        ..given(script)
+    }
+}
+
+#[test]
+fn a_real_storage_keeps_messages_until_the_next_run(rt: HostRuntime) -> Result<(), Fail> {
+    let alloc = rt.alloc();
+    let path = path_of(rt, "stores")?;
+    let saves = calls(b"SAVE {1}\na\nSAVE {2}\nbc\nDROP 1\n");
+    let shelf = real_storage(alloc, rt, path.as_str())?;
+    let first = play_in(alloc, shelf, &OpenGate, saves)?;
+    ends(
+        &rt,
+        &first,
+        0,
+        "OK 1\nOK 2\nOK 1\nEND 0 MARK 1:344 GROUPS 3\n",
+    );
+    drop(first);
+    let shelf = real_storage(alloc, rt, path.as_str())?;
+    let second = play_in(alloc, shelf, &OpenGate, calls(b"PURGE\nGET 2\n"))?;
+    ends(
+        &rt,
+        &second,
+        0,
+        "OK PURGED 1\nOK {2}\nbc\nEND 0 MARK 1:416 GROUPS 1\n",
+    );
+    drop(second);
+    for (name, is_there) in [
+        ("m.1", false),
+        ("m.2", true),
+        ("dovecot.map.index.log", true),
+    ] {
+        let found = fs::metadata(&rt, format!(in alloc; "{path}/storage/{name}")?);
+        assert_eq!(rt; found.is_ok(), is_there, "{name}");
+    }
+    fs::remove_dir_all(&rt, path.as_str())?;
+    Ok(())
+}
+
+/// Fails unless the folder that the first word made is refused by the other.
+fn is_refused_by(rt: HostRuntime, word: &'static str, other: &'static str) -> Result<(), Fail> {
+    let path = path_of(rt, word)?;
+    let (status, out, _errors) = obeyed(rt, &[path.as_str(), word])?;
+    assert_eq!(rt; status, 0);
+    assert!(rt; out.taken() == b"END 0 MARK 1:56 GROUPS 0\n".as_slice());
+    let (status, out, _errors) = obeyed(rt, &[path.as_str(), other])?;
+    assert_eq!(rt; status, 2);
+    assert!(rt; out.taken() == b"FAULT 2 DISK 1\n".as_slice());
+    fs::remove_dir_all(&rt, path.as_str())?;
+    Ok(())
+}
+
+#[test]
+fn neither_word_takes_a_folder_of_the_other(rt: HostRuntime) -> Result<(), Fail> {
+    is_refused_by(rt, "run", "mdbox")?;
+    is_refused_by(rt, "mdbox", "run")
 }
 
 #[test]
@@ -121,7 +186,7 @@ fn the_named_folder_is_made_by_the_real_clock(rt: HostRuntime) -> Result<(), Fai
 const USAGE: &str =
     "usage: sdbox FOLDER run < SCRIPT\n       sdbox FOLDER watch KEY < SCRIPT\n       \
     sdbox FOLDER rebuild\n       sdbox FOLDER gen SEED COUNT SESSIONS\n       \
-    sdbox FOLDER resync VALIDITY MODSEQ SET\n";
+    sdbox FOLDER resync VALIDITY MODSEQ SET\n       sdbox FOLDER mdbox < SCRIPT\n";
 
 #[test]
 fn wrong_words_are_told_on_both_outputs(rt: HostRuntime) -> Result<(), Fail> {
@@ -153,6 +218,11 @@ fn help_names_each_command(rt: HostRuntime) -> Result<(), Fail> {
         "STORE",
         "SEARCH",
         "UID REMOVE",
+        "SAVE",
+        "COPY",
+        "DROP",
+        "GET",
+        "PURGE",
     ] {
         assert!(rt; super::count_of(out.taken(), word.as_bytes()) > 0, "{word}");
     }

@@ -1,5 +1,5 @@
 use Rattle.std.proofs.Common.{◌≡◌, inl, inr, ap, sym, subst, refl, List, ℕ, map}
-use Rattle.std.specs.Prelude.{Err, Option, string_bytes}
+use Rattle.std.specs.Prelude.{Err, Option, Some, string_bytes}
 use Rattle.dv_model.specs.Counts.{Rose}
 use Rattle.dv_shelf.specs.Folders.{Folder}
 use Rattle.dv_formats.specs.Parsing.{ScriptFault, parsed}
@@ -10,13 +10,16 @@ use Rattle.dv_cli.specs.declared.ending.End.{End}
 use Rattle.dv_cli.specs.declared.words.Task.{Task}
 use Rattle.dv_cli.specs.Causes.{ComesFrom, Counts, counts_of}
 use Rattle.dv_cli.specs.Endings.{Concludes}
-use Rattle.dv_cli.specs.Outputs.{IsOutputBy, IsOutputOver}
-use Rattle.dv_cli.specs.Tasks.{Answers, HasReplies, HasScript, Reaches, generated_by, load_in, parsed_for}
+use Rattle.dv_cli.specs.Outputs.{IsFolderOf, IsOutputBy, IsOutputOver}
+use Rattle.dv_mdbox_lines.specs.Scripts as storage
+use Rattle.dv_cli.specs.declared.scripts.Reader.TheVariants as reader
+use Rattle.dv_cli.specs.Tasks.{Answers, HasReplies, HasScript, Reaches, generated_by, load_in, parsed_for, without_lines}
 use Rattle.dv_cli.specs.Words.{task_of}
 use Rattle.dv_cli.proofs.Statuses.{causes_of, comes_later, sink_cause}
 use Rattle.dv_cli.proofs.Takes.{status_takes}
 use Rattle.dv_cli.proofs.ClientRuns.{client_output}
 use Rattle.dv_cli.proofs.Tasked.{answers_reach}
+use Rattle.dv_cli.proofs.StorageRuns.{storage_output, storage_script}
 use Rattle.dv_cli.proofs.WatchRuns.{watch_output, watched_script}
 use Rattle.dv_cli.proofs.WholeRuns.{WellOr, Writes, ends_well, fault_is_told, lines_output, rebuilt_output, refused_output, script_output, start_is_served, task_output}
 use Rattle.dv_cli.proofs.WrongWords.{usage_ends, usage_output, usage_told}
@@ -92,14 +95,24 @@ returns-clause-resyncs g c = λ client is tells settled true_folder.
 
 pub returns-clause-watches : goal.returns-clause-watches
 returns-clause-watches g c = λ key is tells script_tells settled true_folder lines good.
-    readings_give (c.perform-end.ensures.watches key is tells script_tells settled true_folder lines good) (λ clock small known runs. record {
+    readings_give (c.perform-end.ensures.scripts (reader.Sessions (Some key)) is tells script_tells settled true_folder) (λ clock small known runs. record {
       how = c.perform-end.result.end;
       between = g.O.Sink.sees.taken c.perform-end.new.out;
-      runs = runs;
+      runs = runs lines good;
       cause = comes g c;
       ended = c.conclude-status.ensures.status;
       concludes = λ told. c.conclude-status.ensures.text told;
     })
+
+pub returns-clause-stores : goal.returns-clause-stores
+returns-clause-stores g c = λ is tells script_tells settled calls good. record {
+  how = c.perform-end.result.end;
+  between = g.O.Sink.sees.taken c.perform-end.new.out;
+  runs = (c.perform-end.ensures.scripts reader.Storage is tells script_tells settled tt).holds calls good;
+  cause = comes g c;
+  ended = c.conclude-status.ensures.status;
+  concludes = λ told. c.conclude-status.ensures.text told;
+}
 
 pub returns-clause-usage : goal.returns-clause-usage
 returns-clause-usage g c = λ none.
@@ -212,7 +225,7 @@ module _ (g : given.Over) (c : goal.After-conclude-status g) (out_tells : g.O.Si
       refused_output fault (before g c) (now g c) status e clock folder old new refused.0 (comes g c) not-four not-seven still (only refused.2)
 
 pub returns-clause-output : goal.returns-clause-output
-returns-clause-output g c = λ tells clock_tells script_tells out_tells settled true_folder not-four still.
+returns-clause-output g c = λ tells clock_tells script_tells out_tells settled true_folder of_folder not-four still.
     let S = g.S.Shelf in
     let script = g.I.Source.sees.left c.args.script.now in
     let clock = g.C.Clock.sees.upcoming c.args.clock in
@@ -252,7 +265,7 @@ returns-clause-output g c = λ tells clock_tells script_tells out_tells settled 
     (λ key is.
     watched_script key (parsed_beside script) clock folder old new
     (λ lines good.
-    let runs = told_readings (c.perform-end.ensures.watches key is tells script_tells settled true_folder lines good) clock_tells in
+    let runs = told_readings (c.perform-end.ensures.scripts (reader.Sessions (Some key)) is tells script_tells settled true_folder) clock_tells lines good in
     watch_output S.sees g.C.Clock.sees.tells clock (g.C.Clock.sees.upcoming c.perform-end.result.clock) (S.sees.fault_count c.args.shelf) (S.sees.fault_count c.perform-end.result.shelf)
     key lines g.O.Sink.sees.tells old (mid g c out_tells not-four still) new c.args.shelf c.perform-end.result.shelf out_tells (λ rose. still (inl rose))
     c.perform-end.result.end c.conclude-status.result (before g c) (now g c)
@@ -261,3 +274,15 @@ returns-clause-output g c = λ tells clock_tells script_tells out_tells settled 
     (λ fault bad.
     script_refused g c out_tells not-four still script_tells clock folder fault (subst HasScript (sym is) tt)
     (subst (λ (x : Option Task). parsed_for x script ≡ Err fault) (sym is) bad)))
+    (λ is.
+    storage_script (storage.parsed script) folder old new
+    (λ calls good.
+    let runs = (c.perform-end.ensures.scripts reader.Storage is tells script_tells settled tt).holds calls good in
+    storage_output S.sees (S.sees.fault_count c.args.shelf) (S.sees.fault_count c.perform-end.result.shelf) calls g.O.Sink.sees.tells old (mid g c out_tells not-four still) new
+    c.args.shelf c.perform-end.result.shelf out_tells (λ rose. still (inl rose)) c.conclude-status.result (before g c) (now g c) still not-four
+    (subst (λ (x : Option Task). IsFolderOf x folder) is of_folder) c.perform-end.result.end (c.perform-end.ensures.found.0 tells)
+    (well g c (subst (λ (x : Option Task). Reaches x g.I.Source.sees.tells (parsed_for x script)) (sym is) (script_tells, Rattle.std.proofs.Common.[], ap without_lines good)))
+    runs (comes g c) (last g c out_tells not-four still) (not-seven g c out_tells not-four still))
+    (λ fault bad.
+    script_refused g c out_tells not-four still script_tells clock folder fault (subst HasScript (sym is) tt)
+    (subst (λ (x : Option Task). parsed_for x script ≡ Err fault) (sym is) (ap without_lines bad))))

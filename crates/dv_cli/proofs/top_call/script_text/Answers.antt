@@ -1,8 +1,9 @@
-use Rattle.std.proofs.Common.{◌∙◌, ap}
-use Rattle.dv_cli.specs.Tasks.{parsed_with}
-use Rattle.dv_cli.proofs.Parsed.{parsed_front}
+use Rattle.std.proofs.Common.{List, ℕ, sym, subst}
+use Rattle.dv_cli.specs.Scripts.{AreAlike}
+use Rattle.dv_cli.proofs.Parsed.{alike_front}
 use Rattle.dv_cli.proofs.top_call.script_text.Goals as goal
 
 pub returns-in-Ok-clause-text : goal.returns-in-Ok-clause-text
-returns-in-Ok-clause-text g c = λ tells beside.
-    ap (parsed_with beside) (c.in-Ok.ensures.text tells) ∙ parsed_front beside (g.I.Source.sees.left c.args.script.now)
+returns-in-Ok-clause-text g c = λ tells.
+    let script = g.I.Source.sees.left c.args.script.now in
+    subst (λ (text : List ℕ). AreAlike text script) (sym (c.in-Ok.ensures.text tells)) (alike_front script)
