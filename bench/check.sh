@@ -1,6 +1,7 @@
 #!/usr/bin/env bash
 # What is checked beside the test command: that the documents agree with the tree, and that the built
-# program keeps what it acknowledged where folders are spoilt, a disk is full or it is killed.
+# program keeps what it acknowledged where folders are spoilt, a disk is full or it is killed, and answers
+# random scripts by the rules of sessions.
 #
 # Usage: bench/check.sh [PROGRAM [DIRECTORY]]
 #
@@ -23,5 +24,6 @@ if [ $# -gt 0 ]; then
     check hostile.py "$program" "$@"
     check full.py "$program" "$@"
     check kill.py "$program" 20 "$@"
+    check rules.py "$program" 20 1 "$@"
 fi
 exit "$status"

@@ -3,7 +3,7 @@
 
 Usage: bench/documents.py
 
-Of docs/ARCHITECTURE.md: each crate of crates/ and no other is to stand in crates.txt, in the drawing, in the
+Of docs/ARCHITECTURE.md: each crate of crates/ and no other is to stand in crates.txt, in the drawing, there once, in the
 table of the crates and in that of the sizes. The layers of crates.txt, lowest first, are those of the drawing,
 and a crate stands on others of its own layer or of lower ones. The crates of tests in the drawing are those that are named so,
 with others on which they alone stand. A crate's last column of the first table names exactly what crates.txt
@@ -141,6 +141,11 @@ def name_differences(place, names, tree):
         yield f"{place}: there is no {name}"
 
 
+def twice(place, names):
+    for name in sorted({name for name in names if names.count(name) > 1}):
+        yield f"{place}: {name} stands there twice"
+
+
 def listed_layers():
     """The layers of crates.txt, lowest first: their names, each with its crates."""
     layers = {}
@@ -223,6 +228,7 @@ def architecture_differences():
     sizes = rows_of(text.partition("\n## Sizes and times\n")[2], 7)
     yield from name_differences("crates.txt", set(listed_crates()), tree)
     yield from name_differences("the drawing", set(CRATE.findall(drawn)), tree)
+    yield from twice("the drawing", CRATE.findall(drawn))
     yield from layer_differences(drawn)
     yield from test_differences(set(CRATE.findall(tests)), tree)
     yield from name_differences("the crates", set(table), tree)
