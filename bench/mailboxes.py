@@ -85,8 +85,9 @@ def script_of(commands, session=b"a"):
 # ---- what the program shows
 
 
-def run(program, folder, script, word="run", **how):
-    return subprocess.run([program, folder, word], input=script, capture_output=True, check=False, **how)
+def run(program, folder, script, *words, **how):
+    words = words or ("run",)
+    return subprocess.run([program, folder, *words], input=script, capture_output=True, check=False, **how)
 
 
 def replies_in(output, session=b"a"):

@@ -559,11 +559,11 @@ class Draw:
             return Remove(self.set(True))
         return Check() if kind < 95 else Select()
 
-    def script(self):
+    def script(self, most=400):
         """Lines of sessions by name, in an order that is mixed."""
         sessions = self.random.choice((2, 3, 4, 8, 16, 64))
         names = [b"s%d" % n for n in range(sessions)]
-        count = self.random.randint(20, 400)
+        count = self.random.randint(20, most)
         lines = [(name, Select()) for name in names if self.random.random() < 0.95]
         lines += [(self.random.choice(names), self.command()) for _ in range(count)]
         return lines
@@ -717,14 +717,19 @@ def script_text(lines):
     return b"".join(b"%s %s\n" % (name, command.text()) for name, command in lines)
 
 
+def try_script(log, lines, done):
+    """What a run answered to these lines over the folder that this log is of."""
+    if done.returncode != 0:
+        raise Differs(f"status {done.returncode}, {last_line(done.stdout)}")
+    log.groups = 0
+    check_output(log, lines, done.stdout)
+
+
 def try_once(program, seed, folder):
     draw, log = Draw(seed), Log(Mailbox(), (1, 56))
     for _ in range(2):
-        lines, log.groups = draw.script(), 0
-        done = run(program, folder, script_text(lines))
-        if done.returncode != 0:
-            raise Differs(f"status {done.returncode}, {last_line(done.stdout)}")
-        check_output(log, lines, done.stdout)
+        lines = draw.script()
+        try_script(log, lines, run(program, folder, script_text(lines)))
 
 
 def main():
