@@ -1,9 +1,10 @@
 -- A run begins over a mailbox that was found.
 use Rattle.std.proofs.Common.{◌≡◌, inl, inr, ℕ, ◌≤◌, [], None, Ok, Err, refl, sym, ◌∙◌, ap, subst}
 use Rattle.dv_model.specs.declared.types.Mailbox.{Mailbox}
+use Rattle.dv_model.specs.declared.types.Mark.{Mark}
 use Rattle.dv_model.specs.declared.types.OpenFault.{OpenFault}
 use Rattle.dv_model.specs.declared.types.OpenFault.TheVariants as fault
-use Rattle.dv_model.specs.Journals.{Log}
+use Rattle.dv_model.specs.Journals.{IsSound, Log}
 use Rattle.dv_shelf.specs.declared.shelf.Name.TheVariants as name
 use Rattle.dv_shelf.specs.Clocks.{behind}
 use Rattle.dv_shelf.specs.Folders.{Folder, IsNew}
@@ -22,7 +23,7 @@ use Rattle.dv_store.specs.States.{State}
 use Rattle.dv_openings.specs.Numbers.{IsNamed}
 use Rattle.dv_serving.specs.NextRuns.{IsTrueFolder}
 use Rattle.dv_serial.specs.Places.{MayGive}
-use Rattle.dv_beginning.specs.Begins.{IsBegun}
+use Rattle.dv_beginning.specs.Begins.{IsBegun, start_of}
 use Rattle.dv_beginning.specs.Leaving.{IsUnopened, LeavesUnopened, MayLeave}
 use Rattle.dv_beginning.specs.Starts.{log_from}
 use Rattle.dv_beginning.proofs.TrueFolders.{quiet_true}
@@ -48,6 +49,14 @@ fresh_owes {S} {C} store fresh = ap (λ (s : State S C). s.owed) fresh.is
 
 pub fresh_mark : {S C : Type 0} (store : State S C) → IsFresh store → store.mark ≡ place_of store.chain
 fresh_mark {S} {C} store fresh = ap (λ (s : State S C). s.mark) fresh.is
+
+-- what it starts from is sound
+pub sound_start : {S C : Type 0} (sees : SeesFolder S) (store : State S C) → IsFresh store → IsTyped store.chain → IsSound (start_of sees store)
+sound_start {S} {C} sees store fresh typed =
+    let chain = store.chain in
+    let m = chain.live.mailbox in
+    let files = sees.files store.shelf in
+    subst (λ (mark : Mark). IsSound (log_from chain.indexid m mark files)) (sym (fresh_mark store fresh)) (sound_from chain.indexid m (place_of chain) files typed.valid typed.resets typed.place typed.indexid)
 
 module _ {S C : Type 0} (sees : SeesFolder S) (ticks : SeesTime C) (clock : ℕ → ℕ) (old : S) where
   -- ---- a store

@@ -11,10 +11,16 @@ use Rattle.dv_rotation.specs.Texts.{place_of}
 use Rattle.dv_store.specs.Rest.{IsAtRest}
 use Rattle.dv_store.specs.States.{State}
 use Rattle.dv_beginning.specs.Leaving.{LeavesUnopened, MayLeave}
-use Rattle.dv_beginning.specs.Starts.{Starts}
+use Rattle.dv_beginning.specs.Starts.{Starts, log_from}
 use Rattle.dv_shelf.specs.Sees.{SeesFolder, SeesTime}
 
 module _ {S C : Type 0} where
+  -- the log that a store starts from which was opened or made just now: its mailbox and place, with
+  -- the messages of the folder's files
+  abbrev pub start_of : SeesFolder S → State S C → Log
+  start_of sees store = log_from store.chain.indexid store.chain.live.mailbox store.mark
+      (sees.files store.shelf)
+
   -- It is at rest with the log that the folder starts from, at its place, and owes nothing. The
   -- files but the log are as they were, and settled; and what a crash has left meanwhile.
   pub record IsBegun (sees : SeesFolder S) (ticks : SeesTime C) (clock : ℕ → ℕ) (old : S)

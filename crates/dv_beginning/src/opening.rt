@@ -1,12 +1,12 @@
 //! The mailbox of a folder is opened, or made where there is none.
 
 ghost use Rattle.std.specs.Prelude.{◌≡◌, All, IfErr, IfOk, MatchBool};
-ghost use Rattle.dv_model.specs.Journals.{HasResets, IsU32};
+ghost use Rattle.dv_model.specs.Journals.{HasResets, IsSound, IsU32};
 ghost use Rattle.dv_model.specs.Mailboxes.{IsValid};
 ghost use Rattle.dv_shelf.specs.Crashes.{IsSettled};
 ghost use Rattle.dv_chain.specs.Openings.{HasCause, IsOutside, OnlyLooks};
-ghost use Rattle.dv_store.specs.Opening.{answered, clock_behind, shelf_behind};
-ghost use Rattle.dv_beginning.specs.Begins.{Begins};
+ghost use Rattle.dv_store.specs.Opening.{IsFresh, answered, clock_behind, shelf_behind};
+ghost use Rattle.dv_beginning.specs.Begins.{Begins, start_of};
 ghost use Rattle.dv_beginning.specs.Causes.{TakesForOpening, TellsOpening};
 ghost use Rattle.dv_serving.specs.NextRuns.{IsTrueFolder};
 ghost use Rattle.dv_serving.specs.Readings.{AtReadings};
@@ -71,6 +71,8 @@ fn open_found<S: Shelf, C: Clock>(
         Begins S.sees C.sees readings shelf result) }
     ensures found { S.sees.tells → (IsNew (S.sees.files shelf) → ⊥) →
         TellsOpening (S.sees.files shelf) (answered result) }
+    ensures fresh { IfOk result IsFresh }
+    ensures sound { IfOk result (λ store. IsSound (start_of S.sees store)) }
     ensures clock { clock_behind result ≡ clock }
     ensures cause { HasCause (S.sees.fault_count shelf) (S.sees.fault_count (shelf_behind result))
         (answered result) }
@@ -95,6 +97,8 @@ fn make_new<S: Shelf, C: Clock>(
         Begins S.sees C.sees readings shelf result) }
     ensures found { S.sees.tells → IsNew (S.sees.files shelf) →
         TellsOpening (S.sees.files shelf) (answered result) }
+    ensures fresh { IfOk result IsFresh }
+    ensures sound { IfOk result (λ store. IsSound (start_of S.sees store)) }
     ensures clock { C.sees.tells →
         TakesForOpening (C.sees.upcoming clock) (C.sees.upcoming (clock_behind result))
         (answered result) }
@@ -124,6 +128,9 @@ pub fn open_folder<S: Shelf, C: Clock>(
         Begins S.sees C.sees readings shelf result) }
     // Of any folder: a fault that is found is told, and only where there is none it is opened.
     ensures found { S.sees.tells → TellsOpening (S.sees.files shelf) (answered result) }
+    // Over any folder: the store was opened just now, and what it starts from is sound.
+    ensures fresh { IfOk result IsFresh }
+    ensures sound { IfOk result (λ store. IsSound (start_of S.sees store)) }
     // The clock is read at most once, where a mailbox is made; a fault of the disk has its cause.
     ensures clock { C.sees.tells →
         TakesForOpening (C.sees.upcoming clock) (C.sees.upcoming (clock_behind result))

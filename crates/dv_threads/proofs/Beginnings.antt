@@ -17,13 +17,11 @@ use Rattle.dv_dbox.specs.Mails.{guid_in, mail_in}
 use Rattle.dv_mails.specs.Reading.{guid_at, mail_at}
 use Rattle.dv_store.specs.States.{State}
 use Rattle.dv_serving.specs.Places.{next_file}
-use Rattle.dv_beginning.specs.Begins.{IsBegun}
+use Rattle.dv_beginning.specs.Begins.{IsBegun, start_of}
 use Rattle.dv_beginning.specs.Starts.{log_from, new_log}
 use Rattle.dv_beginning.proofs.Starting.{IsBare, start_bare}
-use Rattle.dv_member.specs.Members.{IsStart}
 use Rattle.dv_tries.specs.Tries.{GivesLog, end_mark}
 use Rattle.dv_shared.specs.Beginning.{BeginsFolder}
-use Rattle.dv_threads.specs.Beginnings.{start_of}
 
 -- ---- a log without entries
 
@@ -67,9 +65,6 @@ module _ {S C : Type 0} (sees : SeesFolder S) (ticks : SeesTime C) (clock : ℕ 
 
   pub bare : IsBare start
   bare = start_bare clock (sees.files old) start begun.used begun.starts
-
-  pub is_start : IsStart start
-  is_start = record { sound = begun.sound; fresh = bare.entries; rotates = bare.rotates }
 
   -- ---- the log is that of the store and its files
 

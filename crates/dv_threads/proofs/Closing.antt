@@ -9,7 +9,7 @@ use Rattle.dv_model.specs.declared.types.Command.{Command}
 use Rattle.dv_model.specs.declared.types.Mark.{Mark}
 use Rattle.dv_model.specs.declared.types.Reply.{Reply}
 use Rattle.dv_model.specs.Counts.{RoseBy}
-use Rattle.dv_model.specs.Journals.{IsU32, Log}
+use Rattle.dv_model.specs.Journals.{IsSound, IsU32, Log}
 use Rattle.dv_model.specs.Sessions.{IsCommand}
 use Rattle.dv_model.specs.Transcripts.{Line, commands_of, unavailable_count}
 use Rattle.dv_stories.specs.Stories.{AreAll, Story, new_progress, total}
@@ -28,11 +28,12 @@ use Rattle.dv_serving.specs.Outputs.{Output}
 use Rattle.dv_serving.specs.Scripts.{numbered, numbered_by}
 use Rattle.dv_serving.specs.Servable.{IsServable}
 use Rattle.dv_serving.proofs.Counting.{rose_none}
+use Rattle.dv_beginning.specs.Begins.{start_of}
 use Rattle.dv_parts.specs.declared.parts.Part.{Part}
 use Rattle.dv_parts.specs.Interleaving.{commands_by_part}
 use Rattle.dv_parts.specs.Parts.{AreParts}
 use Rattle.dv_parts.specs.Texts.{transcripts_text}
-use Rattle.dv_member.specs.Members.{IsStart, Member}
+use Rattle.dv_member.specs.Members.{Member}
 use Rattle.dv_tries.specs.Tries.{GivesLast, Try}
 use Rattle.dv_tries.proofs.Durable.{last_is_durable}
 use Rattle.dv_tries.proofs.Keeping.{rest_gives_last}
@@ -42,7 +43,6 @@ use Rattle.dv_shared.specs.Holding.{Holds}
 use Rattle.dv_shared.specs.Kept.{Kept, notes_in}
 use Rattle.dv_keeper.specs.Closing.{Settles}
 use Rattle.dv_keeper.proofs.Settles.{rose_fewer}
-use Rattle.dv_threads.specs.Beginnings.{start_of}
 use Rattle.dv_threads.specs.declared.ending.ThreadsEnd.{ThreadsEnd}
 use Rattle.dv_threads.specs.declared.ending.ThreadsEnd.TheVariants as ending
 use Rattle.dv_threads.specs.Jobs.{AllAnsweredAs, AreShort, AreWhole, HasHanded, FailsSo, HandsIn, IsCaused, WritesText, end_of}
@@ -298,13 +298,13 @@ module _ {S C : Type 0} (sees : SeesFolder S) (tells : Type 0) (start : Log) (mo
 
 -- ---- a store that was opened or made just now
 
-module _ {S C : Type 0} (sees : SeesFolder S) (store : State S C) (fresh : IsFresh store) (start_is : IsStart (start_of sees store)) where
+module _ {S C : Type 0} (sees : SeesFolder S) (store : State S C) (fresh : IsFresh store) (sound : IsSound (start_of sees store)) where
   abbrev StartsFolder : Type 0
   StartsFolder = BeginsFolder sees (start_of sees store) (sees.moment store.shelf) (sees.left_since store.shelf) store
 
   pub fresh_begins : Begins sees (start_of sees store) (sees.moment store.shelf) (sees.left_since store.shelf) StartsFolder store
   fresh_begins = record {
-    start_is = start_is;
+    start_is = record { sound = sound; fresh = refl; rotates = refl };
     mailbox = refl;
     mark = refl;
     place = sym (ap (λ (s : State S C). s.mark) fresh.is);

@@ -1,6 +1,5 @@
 pub mod Transcripts
 pub mod Scripts
 pub mod Sessions
-pub mod Beginnings
 pub mod Serves
 pub mod Jobs

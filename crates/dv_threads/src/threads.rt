@@ -1,9 +1,9 @@
 //! A whole script served by sessions in threads.
 
 ghost use Rattle.std.specs.Prelude.{◌≤◌, ℕ, All, List, length};
-ghost use Rattle.dv_beginning.specs.Begins.{IsBegun};
+ghost use Rattle.dv_beginning.specs.Begins.{IsBegun, start_of};
 ghost use Rattle.dv_formats.specs.Scripts.{NamedLine, sessions_of};
-ghost use Rattle.dv_member.specs.Members.{IsStart};
+ghost use Rattle.dv_model.specs.Journals.{IsSound};
 ghost use Rattle.dv_parts.specs.declared.parts.Part.{Part as OnePart};
 ghost use Rattle.dv_parts.specs.Parts.{AreParts};
 ghost use Rattle.dv_serving.specs.Faults.{faults_between};
@@ -11,7 +11,6 @@ ghost use Rattle.dv_serving.specs.Outputs.{output_of};
 ghost use Rattle.dv_serving.specs.Servable.{IsServable};
 ghost use Rattle.dv_shared.specs.Beginning.{BeginsFolder};
 ghost use Rattle.dv_store.specs.Opening.{IsFresh};
-ghost use Rattle.dv_threads.specs.Beginnings.{start_of};
 ghost use Rattle.dv_threads.specs.Jobs.{IsCaused};
 ghost use Rattle.dv_threads.specs.Serves.{ServesSessions, ServesThreads};
 
@@ -51,7 +50,7 @@ pub fn serve_threads<
     out: &mut O,
 ) -> Served<S, C>
     requires fresh { IsFresh store }
-    requires start { IsStart (start_of S.sees store) }
+    requires sound { IsSound (start_of S.sees store) }
     requires servable { All (λ (line : NamedLine). IsServable line.1) (L.left lines.old) }
     requires sessions { length (sessions_of (L.left lines.old)) ≤ 64 }
     requires count { start_count ≤ S.sees.fault_count store.shelf }
@@ -85,7 +84,7 @@ fn serve_parts<S: Shelf + Send, C: Clock + Send, O: Sink, G: Gate + Sync, R: Thr
     out: &mut O,
 ) -> Served<S, C>
     requires fresh { IsFresh store }
-    requires start { IsStart (start_of S.sees store) }
+    requires sound { IsSound (start_of S.sees store) }
     requires few { length parts.items ≤ 64 }
     requires servable { All (λ (p : OnePart). All IsServable p.commands) parts.items }
     requires count { start_count ≤ S.sees.fault_count store.shelf }

@@ -3,6 +3,7 @@ use Rattle.dv_chain.specs.declared.chain.Chain.{Chain}
 use Rattle.dv_shelf.specs.Clocks.{behind}
 use Rattle.dv_serving.proofs.Readings.{first_reading}
 use Rattle.dv_beginning.proofs.Created.{begun_made, has_none, outside_none, unopened_made}
+use Rattle.dv_beginning.proofs.Opened.{sound_start}
 use Rattle.dv_beginning.proofs.Readings.{read_once}
 use Rattle.dv_beginning.proofs.opening.make_new.Goals as goal
 
@@ -39,6 +40,13 @@ pub returns-in-Err-clause-clock : goal.returns-in-Err-clause-clock
 returns-in-Err-clause-clock g c = λ timed.
     let C = g.C.Clock in
     read_once {A = Chain} (C.sees.upcoming c.args.clock) (C.sees.upcoming c.in-Err.e.1) (Err c.in-Err.e.2) (c.in-Err.ensures.clock timed) c.in-Err.ensures.err
+
+-- ---- what it starts from is sound
+
+pub returns-in-Ok-clause-sound : goal.returns-in-Ok-clause-sound
+returns-in-Ok-clause-sound g c =
+    let types = c.have_types.ensures in
+    sound_start g.S.Shelf.sees c.in-Ok.store c.in-Ok.ensures.fresh (record { valid = types.valid; resets = types.resets; place = types.place; indexid = types.indexid })
 
 -- ---- what is found is told
 

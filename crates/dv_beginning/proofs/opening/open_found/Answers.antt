@@ -1,7 +1,7 @@
 use Rattle.std.proofs.Common.{sym, ◌∙◌, ap}
 use Rattle.dv_serving.proofs.Readings.{any_readings}
 use Rattle.dv_beginning.proofs.FoundStarts.{found_told}
-use Rattle.dv_beginning.proofs.Opened.{begun_found, unopened_found}
+use Rattle.dv_beginning.proofs.Opened.{begun_found, sound_start, unopened_found}
 use Rattle.dv_beginning.proofs.opening.open_found.Goals as goal
 
 pub returns-in-Ok-clause-begins : goal.returns-in-Ok-clause-begins
@@ -22,6 +22,13 @@ returns-in-Err-clause-begins g c = λ tells settled is_true some.
     any_readings C.sees.tells (C.sees.upcoming c.args.clock) (g.met.C.Clock.readings_small c.args.clock) (λ clock same.
     unopened_found S.sees C.sees clock c.args.shelf c.in-Err.e (done.opens tells) (done.files tells) (done.quiet tells settled) some
     (λ t f le left. g.met.S.Shelf.counts_now c.in-Err.e.0 t f le left))
+
+-- ---- what it starts from is sound
+
+pub returns-in-Ok-clause-sound : goal.returns-in-Ok-clause-sound
+returns-in-Ok-clause-sound g c =
+    let types = c.have_types.ensures in
+    sound_start g.S.Shelf.sees c.in-Ok.store c.in-Ok.ensures.fresh (record { valid = types.valid; resets = types.resets; place = types.place; indexid = types.indexid })
 
 -- ---- what is found is told
 

@@ -11,7 +11,7 @@ returns-then-is_empty-clause-serves g c = λ folder lines are servable.
     let none : length c.args.parts.items ≡ 0 = search rules in
     let many = part_many lines c.args.parts.items are in
     rw (c.unserved.ensures, c.mark-mark.ensures)
-    (unserved_serves S.sees store c.requires.fresh c.requires.start g.C.Clock.sees.tells folder (λ tells. c.folder_laws.ensures.files store.shelf tells) c.args.start_count c.requires.count lines servable (omega (arith, many, none))
+    (unserved_serves S.sees store c.requires.fresh c.requires.sound g.C.Clock.sees.tells folder (λ tells. c.folder_laws.ensures.files store.shelf tells) c.args.start_count c.requires.count lines servable (omega (arith, many, none))
     (output_of g.O.Sink.sees c.args.out.now c.args.out.now) refl (ending.Answered store.mark 0) (has_none (omega (arith, many, none))))
 
 pub returns-in-Err-clause-serves : goal.returns-in-Err-clause-serves
@@ -19,5 +19,5 @@ returns-in-Err-clause-serves g c = λ folder lines are servable.
     let S = g.S.Shelf in
     let store = c.args.store in
     rw c.unserved-in-Err.ensures
-    (unserved_serves S.sees store c.requires.fresh c.requires.start g.C.Clock.sees.tells folder (λ tells. c.folder_laws.ensures.files store.shelf tells) c.args.start_count c.requires.count lines servable (omega (arith, part_many lines c.args.parts.items are, c.requires.few))
+    (unserved_serves S.sees store c.requires.fresh c.requires.sound g.C.Clock.sees.tells folder (λ tells. c.folder_laws.ensures.files store.shelf tells) c.args.start_count c.requires.count lines servable (omega (arith, part_many lines c.args.parts.items are, c.requires.few))
     (output_of g.O.Sink.sees c.args.out.now c.args.out.now) refl ending.NoMemory lacks_memory)

@@ -1,5 +1,5 @@
 use Rattle.dv_shared.specs.Beginning.{BeginsFolder}
-use Rattle.dv_threads.specs.Beginnings.{start_of}
+use Rattle.dv_beginning.specs.Begins.{start_of}
 use Rattle.dv_threads.proofs.threads.serve_parts.Given as goal
 
 -- the keeper of this run
