@@ -25,6 +25,7 @@ use Rattle.dv_mdbox.specs.declared.fault.StorageFault.TheVariants as fault
 use Rattle.dv_mdbox.specs.declared.looking.Reference.{Reference}
 use Rattle.dv_mdbox.specs.Answers.{ChangesCount, FindsRoom, HasRoom, IsFailure, IsReferenced, OnRefused}
 use Rattle.dv_mdbox.specs.Looks.{reference_of}
+use Rattle.dv_mdbox.specs.Readying.{IsGroupFor}
 use Rattle.dv_mdbox.specs.States.{IsAtRest, State}
 use Rattle.dv_mdbox.specs.Writes.{CountsQuietly, MayGiveCall, WritesGroup, WritesQuietly}
 use Rattle.dv_mdbox.proofs.Rows.{count_of_only, reference_is}
@@ -105,6 +106,17 @@ pub count_written : CountsAreWritten → (m : Mailbox) (id count : ℕ) (records
 count_written law m id count records is =
     let one = law m id count in
     subst (λ (rs : List Record). AreWritten m rs (length (flat_map written rs))) (sym is) (record { spelled = one.spelled; applies = one.applies; bytes = refl })
+
+pub count_group : (chain : Chain) (id count : ℕ) → CountsAreWritten → (records : List Record) → records ≡ count_records id count → HasRoom chain 48 → IsGroupFor chain records
+count_group chain id count law records is room =
+    let m = chain.live.mailbox in
+    let size = count_size law m id count records is in
+    record {
+      some = count_some id count records is;
+      are = count_written law m id count records is;
+      short = omega (arith, size);
+      fits = subst (HasRoom chain) (sym size) room;
+    }
 
 pub group_counted : {S C : Type 0} (id count : ℕ) (records : List Record) → records ≡ count_records id count → (old new : State S C) (clock : C) {T E : Type 0} (result : Result T E) → WritesGroup records (record old { clock = clock }) new result → WritesGroup (count_records id count) old new result
 group_counted id count records is old new clock result writes = subst (λ (rs : List Record). WritesGroup rs old new result) is (group_clocked records old new clock result writes)

@@ -1,5 +1,6 @@
 pub mod Equal
 pub mod Readied
+pub mod Marked
 pub mod Written
 pub mod Rows
 pub mod Counted

@@ -36,6 +36,8 @@ use Rattle.dv_maps.specs.Texts.{KeepsTexts, Messages, text_at, text_in, with_mes
 use Rattle.dv_maps.proofs.Saving.{message_else}
 use Rattle.dv_mdbox.specs.declared.fault.StorageFault.{StorageFault}
 use Rattle.dv_mdbox.specs.declared.tails.Target.{Target}
+use Rattle.dv_mdbox.specs.Answers.{HasRoom}
+use Rattle.dv_mdbox.specs.Readying.{IsGroupFor}
 use Rattle.dv_mdbox.specs.States.{IsAtRest, State}
 use Rattle.dv_mdbox.specs.Tails.{IsFreeFrom, end_of}
 use Rattle.dv_mdbox.specs.Writes.{SavesAt, SavesQuietly, WritesGroup, WritesQuietly}
@@ -134,6 +136,17 @@ module _ (law : SavesAreWritten) (m : Mailbox) (place : Place) (uid : IsUid m.ne
   save_written =
       let one = law m place uid in
       subst (λ (rs : List Record). AreWritten m rs (length (flat_map written rs))) (sym is) (record { spelled = one.spelled; applies = one.applies; bytes = refl })
+
+pub save_group : (chain : Chain) (place : Place) → SavesAreWritten → IsUid chain.live.mailbox.next_uid → (records : List Record) → records ≡ save_records chain.live.mailbox.next_uid place → HasRoom chain 120 → IsGroupFor chain records
+save_group chain place law uid records is room =
+    let m = chain.live.mailbox in
+    let size = save_size law m place uid records is in
+    record {
+      some = save_some m.next_uid place records is;
+      are = save_written law m place uid records is;
+      short = omega (arith, size);
+      fits = subst (HasRoom chain) (sym size) room;
+    }
 
 pub group_saved : {S C : Type 0} (id : ℕ) (place : Place) (records : List Record) → records ≡ save_records id place → (old new : State S C) {T E : Type 0} (result : Result T E) → WritesGroup records old new result → WritesGroup (save_records id place) old new result
 group_saved id place records is old new result writes = subst (λ (rs : List Record). WritesGroup rs old new result) is writes

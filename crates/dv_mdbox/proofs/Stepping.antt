@@ -2,16 +2,14 @@
 use Rattle.std.proofs.Common.{◌≡◌, ◌⊎◌, inl, inr, ⊎_elim, ℕ, ◌+◌, List, [], ◌∷◌, ◌++◌, map, Result, Ok, Err, refl, sym, ◌∙◌, ap, subst, append_assoc}
 use Rattle.std.proofs.lemmas.List.{append-nil, map-append}
 use Rattle.dv_model.specs.declared.types.Mailbox.{Mailbox}
+use Rattle.dv_model.specs.declared.types.Mark.{Mark}
 use Rattle.dv_model.specs.declared.types.Record.{Record}
 use Rattle.dv_chain.specs.declared.chain.Chain.{Chain}
 use Rattle.dv_maps.specs.Purges.{all_mapped, file_records}
 use Rattle.dv_mdbox.specs.Purging.{IsNextGone, IsRewritten, PurgesFiles, PurgesTo, TakesFile}
-use Rattle.dv_mdbox.specs.States.{IsLookedAt, State}
+use Rattle.dv_mdbox.specs.States.{IsLookedAt, State, mark_from}
 use Rattle.dv_mdbox.specs.Writes.{WritesGroup, entry_of}
-
-none_behind : {X : Type 0} (a b : List X) → a ++ b ≡ [] → (a ≡ []) × (b ≡ [])
-none_behind [] b is = (refl, is)
-none_behind (x ∷ a) b is = absurd cc
+use Rattle.dv_mdbox.proofs.Marked.{marks_both}
 
 -- some files and then others
 purges_both : (files more : List ℕ) (from mid to : ℕ) (m n after : Mailbox) (one two : List (List Record)) → PurgesFiles from m files one mid n → PurgesFiles mid n more two to after → PurgesFiles from m (files ++ more) (one ++ two) to after
@@ -31,7 +29,7 @@ module _ {S C : Type 0} where
     groups = [];
     goes = (refl, refl, on);
     entries = entries ∙ sym (append-nil old.entries);
-    mark = λ none. mark;
+    mark = mark;
     start = start;
     indexid = id;
   }
@@ -45,9 +43,7 @@ module _ {S C : Type 0} where
     groups = one.groups ++ two.groups;
     goes = purges_both files more from between to old.chain.live.mailbox mid.chain.live.mailbox new.chain.live.mailbox one.groups two.groups one.goes two.goes;
     entries = two.entries ∙ ap (λ es. es ++ map entry_of two.groups) one.entries ∙ append_assoc old.entries (map entry_of one.groups) (map entry_of two.groups) ∙ ap (λ es. old.entries ++ es) (sym (map-append entry_of one.groups two.groups));
-    mark = λ none.
-        let both = none_behind one.groups two.groups none in
-        two.mark both.1 ∙ one.mark both.0;
+    mark = two.mark ∙ ap (λ (m : Mark). mark_from m (map entry_of two.groups)) one.mark ∙ marks_both old.mark (map entry_of one.groups) (map entry_of two.groups) ∙ ap (mark_from old.mark) (sym (map-append entry_of one.groups two.groups));
     start = two.start ∙ one.start;
     indexid = two.indexid ∙ one.indexid;
   }
@@ -62,7 +58,7 @@ module _ {S C : Type 0} where
     groups = [];
     goes = (next, inl (refl, refl, λ i. (is.chain i).live.mailbox));
     entries = is.entries ∙ sym (append-nil old.entries);
-    mark = λ none. is.mark;
+    mark = is.mark;
     start = is.start;
     indexid = λ i. (is.chain i).indexid;
   }
@@ -74,7 +70,7 @@ module _ {S C : Type 0} where
     groups = file_records file new_file (all_mapped old.chain.live.mailbox) ∷ [];
     goes = (next, inr (new_file, new.chain.live.mailbox, [], is, refl, (refl, refl, refl)));
     entries = writes.entries;
-    mark = λ none. absurd cc;
+    mark = writes.mark.1;
     start = writes.start;
     indexid = writes.indexid;
   }

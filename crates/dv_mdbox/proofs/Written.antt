@@ -1,5 +1,5 @@
 -- What the write of a group does to a storage.
-use Rattle.std.proofs.Common.{◌≡◌, inl, inr, ⊎_elim, ◌||◌, Bool, true, false, ℕ, ◌+◌, ◌-◌, List, [], ◌∷◌, ◌++◌, length, Option, Some, None, is_some, Result, Ok, Err, refl, sym, ◌∙◌, ap, subst, arith}
+use Rattle.std.proofs.Common.{◌≡◌, ◌⊎◌, inl, inr, ⊎_elim, ◌||◌, Bool, true, false, ℕ, ◌+◌, ◌-◌, List, [], ◌∷◌, ◌++◌, length, Option, Some, None, is_some, Result, Ok, Err, refl, sym, ◌∙◌, ap, subst, arith}
 use Rattle.std.specs.Prelude.{IfSome, IsSome, flat_map}
 use Rattle.dv_model.specs.declared.types.Entry.{Entry}
 use Rattle.dv_model.specs.declared.types.Mailbox.{Mailbox}
@@ -21,7 +21,7 @@ use Rattle.dv_rotation.specs.declared.texts.Turn.{Turn}
 use Rattle.dv_rotation.specs.Texts.{ClosesLog, place_of}
 use Rattle.dv_writing.specs.declared.committing.Committed.{Committed}
 use Rattle.dv_writing.specs.Opening.{AreEqual, mark_behind}
-use Rattle.dv_writing.specs.Ways.{held, ready}
+use Rattle.dv_writing.specs.Ways.{StopsOnWay, held, ready}
 use Rattle.dv_filing.specs.declared.steps.Files.{Files}
 use Rattle.dv_filing.specs.declared.steps.Steps.{Steps}
 use Rattle.dv_filing.specs.Files.{IsNamed}
@@ -30,13 +30,35 @@ use Rattle.dv_filing.specs.Writes.{CarriesOut, IsWriteOf, KeepsThrough, KeepsUnn
 use Rattle.dv_filing.proofs.Resting.{rests_give}
 use Rattle.dv_maps.specs.Texts.{Messages}
 use Rattle.dv_mdbox.specs.Readying.{IsReadyFor}
-use Rattle.dv_mdbox.specs.States.{State}
-use Rattle.dv_mdbox.specs.Writes.{KeepsMails, MayGiveCall, WritesGroup, WritesQuietly, entry_of, mark_after}
+use Rattle.dv_mdbox.specs.States.{StandsAt, State}
+use Rattle.dv_mdbox.specs.Writes.{KeepsMails, MayGiveCall, WritesGroup, WritesQuietly, begin_of, entry_of, mark_after}
 use Rattle.dv_mdbox.proofs.Equal.{equal_path, roomy}
+use Rattle.dv_mdbox.proofs.Marked.{behind_group, begun_at, begins_at, stops_at}
 
 some_of : {A : Type 0} (o : Option A) → IsSome o → (n : A) × (o ≡ Some n)
 some_of (Some n) is = (n, refl)
 some_of None is = absurd cc
+
+-- ---- the place behind a group
+
+behind_is : (text : List ℕ) (size : ℕ) (chain : Chain) → length text ≡ size + 4 → mark_behind text chain ≡ mark_after (place_of chain) size
+behind_is text size chain long =
+    let offset : chain.log.end + length text - 4 ≡ chain.log.end + size = omega (arith, long) in
+    λ i. record { file_seq = chain.log.file_seq; offset = offset i }
+
+place_behind : (records : List Record) (owed : Option Turn) (chain : Chain) (files : Files) (text : List ℕ) (steps : Steps) → IsReadyFor owed chain records files text steps → mark_behind text (ready owed steps.turn chain) ≡ mark_after (begin_of owed chain) (length (flat_map written records))
+place_behind records owed chain files text steps is =
+    let size = length (flat_map written records) in
+    behind_is text size (ready owed steps.turn chain) is.size
+    ∙ ap (λ (mark : Mark). mark_after mark size) (ready_place owed steps.turn chain is.made.due)
+    ∙ ap (λ b. mark_after (beginning (is_some owed || b) chain) size) is.due
+
+place_equal : (chain old : Chain) → AreEqual chain old → place_of chain ≡ place_of old
+place_equal chain old same = λ i. record { file_seq = (same.log i).file_seq; offset = (same.log i).end }
+
+-- spare rows say nothing of it
+pub marked_equal : (mark : Mark) (chain old : Chain) (owed : Option Turn) → AreEqual chain old → StandsAt mark (place_of old) owed → StandsAt mark (place_of chain) owed
+marked_equal mark chain old owed same stands = subst (λ (p : Mark). StandsAt mark p owed) (sym (place_equal chain old same)) stands
 
 -- ---- the map, the entries and the mark
 
@@ -54,15 +76,16 @@ module _ {S C : Type 0} (records : List Record) (old : State S C) (chain : Chain
 
   module _ (files : Files) (text : List ℕ) (steps : Steps) (is : IsReadyFor old.owed chain records files text steps) (applies : IsSome (applied old.chain.live.mailbox records)) (left : Option Turn) (next : Chain) (shelf : S) where
     -- the group was written
-    pub group_written : {E F : Type 0} (done : Committed) (entries : List Entry) → entries ≡ old.entries ++ entry_of records ∷ [] → CarriesOut old.owed left text steps chain next {E = E} (Ok done)
+    pub group_written : {E F : Type 0} (done : Committed) (entries : List Entry) → StandsAt old.mark (place_of old.chain) old.owed → entries ≡ old.entries ++ entry_of records ∷ [] → CarriesOut old.owed left text steps chain next {E = E} (Ok done)
         → WritesGroup records old (record old { shelf = shelf; chain = next; owed = left; mark = done.mark; entries = entries }) {T = Unit {0}} {E = F} (Ok tt)
-    group_written done entries added value =
+    group_written done entries stands added value =
+        let here = marked_equal old.mark chain old.chain old.owed same stands in
         let one = some_of (applied old.chain.live.mailbox records) applies in
-        let here : applied chain.live.mailbox records ≡ Some one.0 = ap (λ (m : Mailbox). applied m records) same.mailbox ∙ one.1 in
+        let gives : applied chain.live.mailbox records ≡ Some one.0 = ap (λ (m : Mailbox). applied m records) same.mailbox ∙ one.1 in
         record {
-          map = one.1 ∙ ap (λ (m : Mailbox). Some m) (sym (value.mailbox one.0 (is.pending one.0 here)));
+          map = one.1 ∙ ap (λ (m : Mailbox). Some m) (sym (value.mailbox one.0 (is.pending one.0 gives)));
           entries = added;
-          mark = value.mark.1;
+          mark = (value.mark.1, value.mark.0 ∙ place_behind records old.owed chain files text steps is ∙ behind_group old.mark old.owed chain records here);
           kept = tt;
           start = refl;
           indexid = value.indexid ∙ same.indexid;
@@ -78,6 +101,15 @@ module _ {S C : Type 0} (records : List Record) (old : State S C) (chain : Chain
       start = refl;
       indexid = value.indexid ∙ same.indexid;
     }
+
+-- the log ends at the mark behind an error, too
+pub failed_at : (mark : Mark) (owed left : Option Turn) (chain next : Chain) (records : List Record) (files : Files) (text : List ℕ) (steps : Steps) → IsReadyFor owed chain records files text steps → StandsAt mark (place_of chain) owed
+    → StopsOnWay owed left steps.turn chain next ⊎ ((place_of next ≡ place_of (ready owed steps.turn chain)) × (left ≡ None)) → StandsAt mark (place_of next) left
+failed_at mark owed left chain next records files text steps is stands =
+    ⊎_elim (stops_at mark owed left steps.turn chain next stands is.made.due is.due)
+    (λ there.
+    begun_at mark (place_of next) left
+    (there.0 ∙ ready_place owed steps.turn chain is.made.due ∙ ap (λ b. beginning (is_some owed || b) chain) is.due ∙ begins_at mark owed chain stands) there.1)
 
 -- nothing was written, and only the clock was read
 pub group_kept : {S C : Type 0} (records : List Record) (old new : State S C) {T E : Type 0} (e : E) → new.chain ≡ old.chain → new.entries ≡ old.entries → new.mark ≡ old.mark → new.start ≡ old.start → WritesGroup records old new {T = T} {E = E} (Err e)
@@ -113,12 +145,6 @@ write_of sees messages next after records owed old chain same shelf mid looks fi
   closes = subst (λ (f : Folder). IfSome steps.turn (λ turn. ClosesLog chain turn f)) (sym looks.same) closes;
   keeps = subst (λ (f : Files). KeepsThrough messages next chain.live.mailbox after f) (sym is.file) (subst (λ (m : Mailbox). KeepsThrough messages next m after files) (sym same.mailbox) keeps);
 }
-
--- the place behind a group
-behind_is : (text : List ℕ) (size : ℕ) (chain : Chain) → length text ≡ size + 4 → mark_behind text chain ≡ mark_after (place_of chain) size
-behind_is text size chain long =
-    let offset : chain.log.end + length text - 4 ≡ chain.log.end + size = omega (arith, long) in
-    λ i. record { file_seq = chain.log.file_seq; offset = offset i }
 
 module _ {S C : Type 0} (sees : SeesFolder S) (messages next : Messages) (debt : Owed) (after : Mailbox) (records : List Record) (old : State S C) (chain : Chain) (same : AreEqual chain old.chain) where
   abbrev size : ℕ
@@ -165,8 +191,7 @@ module _ {S C : Type 0} (sees : SeesFolder S) (messages next : Messages) (debt :
       write_gives c =
           ⊎_elim (λ way. ⊎_elim (λ gives. inl gives) (λ turned. inr (inl turned.1)) way)
           (λ gives.
-          let place = behind_is text size (ready old.owed steps.turn chain) is.size ∙ ap (λ (mark : Mark). mark_after mark size) (ready_place old.owed steps.turn chain is.made.due)
-          ∙ ap (λ b. mark_after (beginning (is_some old.owed || b) chain) size) is.due in
+          let place = place_behind records old.owed chain files text steps is in
           inr (inr (subst (λ (mark : Mark). Gives next chain.indexid after mark c) place gives)))
 
       since_write : {T E : Type 0} (result : Result T E) → WritesStorage sees messages next debt after text steps (held mid chain old.owed) (held shelf new_chain left) result → LeavesOnly sees old.shelf shelf May

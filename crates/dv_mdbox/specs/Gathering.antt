@@ -34,8 +34,8 @@ GathersFrom bytes place (Some text) =
 abbrev pub size_of : List Mapped → ℕ
 size_of rows = sum_by (λ r. r.place.size) rows
 
--- The texts of some rows in a file, one behind another; none where one is damaged, or where they are
--- too long together.
+-- The texts of some rows in a file, one behind another; none where one is damaged, or where they
+-- are too long together.
 abbrev pub Gathers : Option (List ℕ) → List Mapped → Option (List ℕ) → Type 0
 Gathers file rows None =
     ((r : Mapped) × Contains rows r × (text_in file r.place ≡ Damaged)) ⊎ (2 ^ 32 ≤ size_of rows)

@@ -34,8 +34,8 @@ pub record OpensChain {S : Type 0} (sees : SeesFolder S) (old new : S)
 abbrev pub IsNewOrOpened : {S : Type 0} → SeesFolder S → S → S → Result Chain OpenFault → Type 0
 IsNewOrOpened sees old new result = IsNew (sees.files old) ⊎ OpensChain sees old new result
 
--- A map is made at this reading of the clock: a new one of that number. A crash at any moment leaves
--- the folder as it was, or with the new log.
+-- A map is made at this reading of the clock: a new one of that number. A crash at any moment
+-- leaves the folder as it was, or with the new log.
 pub record MakesChain {S : Type 0} (sees : SeesFolder S) (old new : S)
     (result : Result Chain OpenFault) (now : ℕ) : Type 0 where
   pub first : IfOk result (λ chain. IsFirst (stamp_of now) chain × IsMap chain.live.mailbox)

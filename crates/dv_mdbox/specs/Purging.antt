@@ -1,5 +1,5 @@
--- What a purge does to a storage: to the map, file by file, and to the folder. The records take what
--- a shelf shows.
+-- What a purge does to a storage: to the map, file by file, and to the folder. The records take
+-- what a shelf shows.
 use Rattle.std.specs.Prelude.{◌≡◌, ◌≢◌, ◌⊎◌, ℕ, ◌+◌, ◌^◌, ◌<◌, ◌≤◌, List, [], ◌∷◌, ◌++◌, All, Contains, IsSome, Option, Some, None, Result, Ok, Err, OnErr, OnOk, filter, length, map, ⊤}
 use Rattle.dv_model.specs.declared.types.Mailbox.{Mailbox}
 use Rattle.dv_model.specs.declared.types.Mark.{Mark}
@@ -29,7 +29,7 @@ use Rattle.dv_mdbox.specs.declared.fault.StorageFault.{StorageFault}
 use Rattle.dv_mdbox.specs.declared.fault.StorageFault.TheVariants as fault
 use Rattle.dv_mdbox.specs.declared.tails.Tail.{Tail}
 use Rattle.dv_mdbox.specs.Answers.{IsFull}
-use Rattle.dv_mdbox.specs.States.{IsAtRest, State}
+use Rattle.dv_mdbox.specs.States.{IsAtRest, State, mark_from}
 use Rattle.dv_mdbox.specs.Tails.{IsTailOf, number_behind, tail_file}
 use Rattle.dv_mdbox.specs.Writes.{WritesBeside, entry_of}
 
@@ -92,8 +92,8 @@ PurgesFiles from m (file ∷ files) groups to after =
     × (groups ≡ file_records file new (all_mapped m) ∷ more)
     × PurgesFiles (file + 1) next files more to after))
 
--- what a crash leaves gives the map from before, or that with what was owed, or one without some ids
--- that have no reference
+-- what a crash leaves gives the map from before, or that with what was owed, or one without some
+-- ids that have no reference
 abbrev pub MayGivePurge : Messages → Owed → Chain → Folder → Type 0
 MayGivePurge messages debt chain c =
     MayGive messages debt chain c
@@ -102,12 +102,12 @@ MayGivePurge messages debt chain c =
     × Gives messages chain.indexid m mark c)
 
 module _ {S C : Type 0} where
-  -- The groups of these files are the last entries. The mark stays where there are none.
+  -- The groups of these files are the last entries, and the mark is the place behind them.
   pub record PurgesTo (from : ℕ) (files : List ℕ) (to : ℕ) (old new : State S C) : Type 0 where
     pub groups : List (List Record)
     pub goes : PurgesFiles from old.chain.live.mailbox files groups to new.chain.live.mailbox
     pub entries : new.entries ≡ old.entries ++ map entry_of groups
-    pub mark : groups ≡ [] → new.mark ≡ old.mark
+    pub mark : new.mark ≡ mark_from old.mark (map entry_of groups)
     pub start : new.start ≡ old.start
     pub indexid : new.chain.indexid ≡ old.chain.indexid
 
@@ -127,9 +127,9 @@ module _ {S C : Type 0} where
   -- ---- the folder
 
   -- From rest to rest: the storage is without some ids that have no reference. Behind Ok nothing is
-  -- owed; behind an error what was, where no id went, or the group of a further file. A crash at any
-  -- moment leaves the storage from before, or without some such ids; every
-  -- message with a reference is there.
+  -- owed; behind an error what was, where no id went, or the group of a further file. A crash at
+  -- any moment leaves the storage from before, or without some such ids; every message with a
+  -- reference is there.
   pub record PurgesQuietly (sees : SeesFolder S) (messages : Messages) (debt : Owed)
       (old new : State S C) {T E : Type 0} (result : Result T E) : Type 0 where
     pub thins : IsThinned (storage_of messages old.chain.live.mailbox)
@@ -154,7 +154,8 @@ module _ {S C : Type 0} where
 
 -- ---- the file of a rewritten one's texts
 
--- the kept texts of a file, as they stand in it, are written into the new file, where there are some
+-- the kept texts of a file, as they stand in it, are written into the new file, where there are
+-- some
 abbrev pub WritesKept : Messages → Mailbox → ℕ → ℕ → List ℕ → Files → Type 0
 WritesKept messages m file new bytes kind.Nothing = kept_rows m file ≡ []
 WritesKept messages m file new bytes (kind.Text n at text) = ⊥
@@ -212,8 +213,8 @@ NumbersFile m (Err fault.Files) =
     (tail : Option Tail) × IsTailOf m m.rows tail × (tail_file tail ≡ Some 4294967295)
 NumbersFile m (Err other) = ⊥
 
--- Files comes only where no number is left for a new file, and TooLong only where a group has no room;
--- the disk may fail, and memory may run out.
+-- Files comes only where no number is left for a new file, and TooLong only where a group has no
+-- room; the disk may fail, and memory may run out.
 abbrev pub AnswersPurge : Chain → {A : Type 0} → Result A StorageFault → Type 0
 AnswersPurge chain (Ok n) = ⊤
 AnswersPurge chain (Err fault.Files) =

@@ -1,8 +1,9 @@
 -- A group that is made ready, before anything is written.
-use Rattle.std.specs.Prelude.{◌≡◌, ◌+◌, ℕ, List, Option, Some, flat_map, is_some, length}
+use Rattle.std.specs.Prelude.{◌≡◌, ◌≤◌, ◌+◌, ℕ, List, Option, Some, flat_map, is_some, length}
 use Rattle.dv_model.specs.declared.types.Mailbox.{Mailbox}
 use Rattle.dv_model.specs.declared.types.Record.{Record}
 use Rattle.dv_model.specs.Effects.{applied}
+use Rattle.dv_model.specs.Sessions.{group_limit}
 use Rattle.dv_model.specs.Spelling.{written}
 use Rattle.dv_chain.specs.declared.chain.Chain.{Chain}
 use Rattle.dv_chain.specs.Rest.{IsPending}
@@ -12,6 +13,16 @@ use Rattle.dv_writing.specs.Ways.{ready}
 use Rattle.dv_filing.specs.declared.steps.Files.{Files}
 use Rattle.dv_filing.specs.declared.steps.Steps.{Steps}
 use Rattle.dv_filing.specs.Writes.{AreSteps}
+use Rattle.dv_maps.specs.Laws.{AreWritten}
+use Rattle.dv_mdbox.specs.Answers.{HasRoom}
+
+-- One or more records have spellings and apply to the chain's map. They are no longer than a group
+-- may be, and the log has room for them.
+pub record IsGroupFor (chain : Chain) (records : List Record) : Type 0 where
+  pub some : 1 ≤ length records
+  pub are : AreWritten chain.live.mailbox records (length (flat_map written records))
+  pub short : length (flat_map written records) ≤ group_limit
+  pub fits : HasRoom chain (length (flat_map written records))
 
 -- the steps are made for the chain, with this file and the rotation that is due, and the text is
 -- that of these records

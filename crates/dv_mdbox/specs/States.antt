@@ -1,8 +1,9 @@
 -- What contracts see of a storage.
-use Rattle.std.specs.Prelude.{◌≡◌, List, [], Option, None, refl}
+use Rattle.std.specs.Prelude.{◌≡◌, ◌⊎◌, ◌+◌, List, [], fold, Option, None, IsSome, true, refl}
 use Rattle.std.specs.Coded.{Coded, code_by, coded×}
 use Rattle.dv_model.specs.declared.types.Entry.{Entry}
 use Rattle.dv_model.specs.declared.types.Mark.{Mark}
+use Rattle.dv_model.specs.Journals.{header_size, is_rotation_due, mark_behind}
 use Rattle.dv_chain.specs.declared.chain.Chain.{Chain}
 use Rattle.dv_chain.specs.Rest.{Owed}
 use Rattle.dv_rotation.specs.declared.texts.Turn.{Turn}
@@ -12,8 +13,8 @@ use Rattle.dv_filing.specs.Standing.{Fits, Stands}
 use Rattle.dv_maps.specs.Laws.{IsMap}
 use Rattle.dv_maps.specs.Texts.{Messages}
 
--- the folder, the clock, the map at the end of its log, the turn of a rotation whose last replace is
--- owed, the place where the log ended at first, the groups since then, and the place behind them
+-- the folder, the clock, the map at the end of its log, the turn of a rotation whose last replace
+-- is owed, the place where the log ended at first, the groups since then, and the place behind them
 pub record State (S C : Type 0) : Type 0 where
   pub shelf : S
   pub clock : C
@@ -22,6 +23,26 @@ pub record State (S C : Type 0) : Type 0 where
   pub start : Mark
   pub entries : List Entry
   pub mark : Mark
+
+-- ---- the place behind the groups
+
+-- behind groups that are written from a place on
+abbrev pub mark_from : Mark → List Entry → Mark
+mark_from start entries = fold (λ mark entry. mark_behind true mark entry.group) start entries
+
+-- the first place of the file behind that of a mark
+abbrev pub next_file : Mark → Mark
+next_file mark = record { file_seq = mark.file_seq + 1; offset = header_size }
+
+-- The log ends at this mark, and no turn is owed; or a rotation was begun there that no group has
+-- followed: its last replace is owed, or the log ends at the first place of the new file.
+abbrev pub StandsAt : Mark → Mark → Option Turn → Type 0
+StandsAt mark place owed =
+    ((place ≡ mark) × (owed ≡ None))
+    ⊎ ((is_rotation_due true mark ≡ true)
+    × (((place ≡ mark) × IsSome owed) ⊎ ((place ≡ next_file mark) × (owed ≡ None))))
+
+-- ---- at first
 
 -- just opened: no turn is owed, and no group came since the log's end
 abbrev pub fresh_state : {S C : Type 0} → S → C → Chain → State S C

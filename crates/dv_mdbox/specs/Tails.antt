@@ -1,5 +1,5 @@
 -- Where the text of the next message goes (own, after Dovecot's mdbox_rotate_size).
-use Rattle.std.specs.Prelude.{◌≡◌, ◌⊎◌, ℕ, ◌+◌, ◌<◌, ◌≤◌, max, List, [], All, Contains, Option, Some, None, IfSome, option_map, Result, Ok, Err, ⊤}
+use Rattle.std.specs.Prelude.{◌≡◌, ◌⊎◌, ℕ, ◌+◌, ◌^◌, ◌<◌, ◌≤◌, max, List, [], All, Contains, Option, Some, None, IfSome, option_map, Result, Ok, Err, ⊤}
 use Rattle.dv_model.specs.declared.types.Mailbox.{Mailbox}
 use Rattle.dv_model.specs.declared.types.Row.{Row}
 use Rattle.dv_shelf.specs.declared.shelf.Name.{Name}
@@ -80,6 +80,13 @@ abbrev pub IsFreeFrom : Mailbox → Target → Type 0
 IsFreeFrom m target =
     All (λ row. (row_place m row).file ≡ target.file → end_of (row_place m row) ≤ target.offset)
     m.rows
+
+-- a text of so many bytes may stand at the place: none of the map's stands there or behind, and its
+-- numbers have 32 bits
+pub record IsPlaceFor (m : Mailbox) (long : ℕ) (place : Place) : Type 0 where
+  pub free : IsFreeFrom m (record { file = place.file; offset = place.offset })
+  pub size : place.size ≡ long
+  pub end : place.offset + place.size < 2 ^ 32
 
 -- ---- what is found
 

@@ -1,10 +1,11 @@
 -- What the write of a group does to a storage. The records take what a shelf shows.
-use Rattle.std.specs.Prelude.{◌≡◌, ◌⊎◌, ◌||◌, ℕ, ◌+◌, List, [], ◌∷◌, ◌++◌, Option, Some, is_some, Result, Ok, Err, OnErr, OnOk}
+use Rattle.std.specs.Prelude.{◌≡◌, ◌⊎◌, ◌||◌, ℕ, ◌+◌, true, List, [], ◌∷◌, ◌++◌, Option, Some, is_some, Result, Ok, Err, OnErr, OnOk}
 use Rattle.dv_model.specs.declared.types.Entry.{Entry}
 use Rattle.dv_model.specs.declared.types.Mailbox.{Mailbox}
 use Rattle.dv_model.specs.declared.types.Mark.{Mark}
 use Rattle.dv_model.specs.declared.types.Record.{Record}
 use Rattle.dv_model.specs.Effects.{applied}
+use Rattle.dv_model.specs.Journals.{mark_behind}
 use Rattle.dv_shelf.specs.declared.shelf.Name.TheVariants as name
 use Rattle.dv_shelf.specs.Crashes.{LeavesOnly}
 use Rattle.dv_shelf.specs.Folders.{Folder}
@@ -59,14 +60,16 @@ module _ {S C : Type 0} where
       (result : Result T E) : Type 0 where
     pub map : OnOk result (applied old.chain.live.mailbox records ≡ Some new.chain.live.mailbox)
     pub entries : OnOk result (new.entries ≡ old.entries ++ entry_of records ∷ [])
-    pub mark : OnOk result (new.mark ≡ place_of new.chain)
+    pub mark : OnOk result ((new.mark ≡ place_of new.chain)
+        × (new.mark ≡ mark_behind true old.mark (record { records = records })))
     pub kept : OnErr result ((new.chain.live.mailbox ≡ old.chain.live.mailbox)
         × (new.entries ≡ old.entries) × (new.mark ≡ old.mark))
     pub start : new.start ≡ old.start
     pub indexid : new.chain.indexid ≡ old.chain.indexid
 
-  -- From rest to rest: behind Ok with the group, and nothing is owed; behind an error as before, with
-  -- what is owed then. A crash at any moment leaves the map from before or with the group, whole.
+  -- From rest to rest: behind Ok with the group, and nothing is owed; behind an error as before,
+  -- with what is owed then. A crash at any moment leaves the map from before or with the group,
+  -- whole.
   pub record WritesQuietly (sees : SeesFolder S) (messages next : Messages) (debt : Owed)
       (after : Mailbox) (size : ℕ) (old new : State S C) {T E : Type 0} (result : Result T E)
       : Type 0 where
@@ -88,9 +91,9 @@ module _ {S C : Type 0} where
 
   -- ---- the count of an id
 
-  -- From rest to rest: behind Ok the storage has the new count, and nothing is owed; behind an error
-  -- it is as before. A crash at any moment leaves the storage from before, or that with the new
-  -- count.
+  -- From rest to rest: behind Ok the storage has the new count, and nothing is owed; behind an
+  -- error it is as before. A crash at any moment leaves the storage from before, or that with the
+  -- new count.
   pub record CountsQuietly (sees : SeesFolder S) (messages : Messages) (debt : Owed) (id : ℕ)
       (change : ℕ → ℕ) (old new : State S C) {T E : Type 0} (result : Result T E) : Type 0 where
     pub after : Mailbox
@@ -104,15 +107,16 @@ module _ {S C : Type 0} where
 
   -- ---- a message that is saved
 
-  -- behind Ok the map has the records of a save, at some place; an error keeps map, entries and mark
+  -- behind Ok the map has the records of a save, at some place; an error keeps map, entries and
+  -- mark
   abbrev pub SavesGroup : State S C → State S C → {T E : Type 0} → Result T E → Type 0
   SavesGroup old new result =
       (place : Place)
       × WritesGroup (save_records old.chain.live.mailbox.next_uid place) old new result
 
   -- From rest to rest: behind Ok the storage has the message, with one reference, and nothing is
-  -- owed; behind an error it is as before, and what is owed may be its group, with its text. A crash
-  -- at any moment leaves the storage from before, or that with the message.
+  -- owed; behind an error it is as before, and what is owed may be its group, with its text. A
+  -- crash at any moment leaves the storage from before, or that with the message.
   pub record SavesAt (sees : SeesFolder S) (messages : Messages) (debt : Owed) (message : List ℕ)
       (place : Place) (old new : State S C) {T E : Type 0} (result : Result T E) : Type 0 where
     pub after : Mailbox

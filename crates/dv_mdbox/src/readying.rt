@@ -2,18 +2,17 @@
 
 ghost use Rattle.std.specs.Prelude.{◌≡◌, ◌<◌, ◌≤◌, All, IfOk, IfSome, IsSome, IsSomeAnd, false, is_some, length, true};
 ghost use Rattle.dv_model.specs.Effects.{applied};
-ghost use Rattle.dv_model.specs.Sessions.{group_limit, is_log_full};
-ghost use Rattle.dv_model.specs.Spelling.{IsRecord, group_text};
+ghost use Rattle.dv_model.specs.Spelling.{IsRecord};
 ghost use Rattle.dv_chain.specs.Openings.{OnlyLooks};
 ghost use Rattle.dv_apply.specs.Preparing.{Makes};
 ghost use Rattle.dv_plans.specs.Begins.{turns};
 ghost use Rattle.dv_rotation.specs.Leavings.{HasFaultCause};
-ghost use Rattle.dv_rotation.specs.Texts.{ClosesLog, IsTurnOf, place_of};
+ghost use Rattle.dv_rotation.specs.Texts.{ClosesLog, IsTurnOf};
 ghost use Rattle.dv_writing.specs.Opening.{AreEqual};
 ghost use Rattle.dv_writing.specs.Repairing.{IsOwing};
 ghost use Rattle.dv_filing.specs.Files.{HasRoom};
 ghost use Rattle.dv_mdbox.specs.Answers.{HasStorageCause, IsFailure};
-ghost use Rattle.dv_mdbox.specs.Readying.{IsReadyFor};
+ghost use Rattle.dv_mdbox.specs.Readying.{IsGroupFor, IsReadyFor};
 ghost use Rattle.std.specs.Prelude.{IfErr};
 
 use crate::StorageFault;
@@ -86,12 +85,9 @@ pub(crate) fn make_ready<S: Shelf>(
     files: Files,
     time: Option<u32>,
 ) -> Result<Ready, StorageFault>
-    requires group { (1 ≤ length group.now.records) × All IsRecord group.now.records }
-    requires applies { IsSome (applied chain.old.live.mailbox group.now.records) }
+    requires group { IsGroupFor chain.old group.now.records }
     requires owing { IsOwing chain.old owed.now }
     requires time { is_some time ≡ turns owed.now chain.old }
-    requires short { length (group_text group.now) ≤ group_limit }
-    requires fits { is_log_full true (place_of chain.old) (length (group_text group.now)) ≡ false }
     requires room { HasRoom files }
     // The chain stays, but for spare rows; the text and the steps, over any shelf.
     ensures chain { AreEqual chain.new chain.old }

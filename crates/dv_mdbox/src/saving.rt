@@ -12,7 +12,7 @@ ghost use Rattle.dv_maps.specs.Texts.{Messages};
 ghost use Rattle.dv_mdbox.specs.Answers.{AnswersSave, HasRoom, HasStorageCause, IsFailure, OnRefused};
 ghost use Rattle.dv_chain.specs.Openings.{OnlyLooks};
 ghost use Rattle.dv_mdbox.specs.States.{IsAtRest, IsLookedAt};
-ghost use Rattle.dv_mdbox.specs.Tails.{IsFreeFrom};
+ghost use Rattle.dv_mdbox.specs.Tails.{IsFreeFrom, IsPlaceFor};
 ghost use Rattle.dv_mdbox.specs.Writes.{SavesGroup, SavesQuietly, WritesGroup};
 
 use crate::records::save_records;
@@ -90,10 +90,7 @@ impl<S: Shelf, C: Clock> Storage<S, C> {
         place: Place,
         time: Option<u32>,
     ) -> Result<u32, StorageFault>
-        requires free { IsFreeFrom self.old.chain.live.mailbox
-            (record { file = place.file; offset = place.offset }) }
-        requires size { place.size ≡ length text }
-        requires end { place.offset + place.size < 2 ^ 32 }
+        requires place { IsPlaceFor self.old.chain.live.mailbox (length text) place }
         requires left { self.old.chain.live.mailbox.next_uid < end_of_uids }
         requires room { HasRoom self.old.chain 120 }
         requires time { is_some time ≡ turns self.old.owed self.old.chain }

@@ -3,7 +3,7 @@
 ghost use Rattle.std.specs.Prelude.{◌≡◌};
 ghost use Rattle.dv_chain.specs.Openings.{HasBounds};
 ghost use Rattle.dv_rotation.specs.Texts.{place_of};
-ghost use Rattle.dv_mdbox.specs.States.{fresh_state};
+ghost use Rattle.dv_mdbox.specs.States.{StandsAt, fresh_state};
 
 use dv_chain::Chain;
 use dv_model::{Entry, List, Mark};
@@ -32,8 +32,9 @@ impl<S, C> Model for Storage<S, C> {
     ghost use Rattle.dv_rotation.specs.contracts.texts.Turn as turn_type;
     ghost use Rattle.dv_model.specs.contracts.types.Entry as entry_type;
     ghost use Rattle.dv_model.specs.contracts.types.Mark as mark_type;
+    ghost use Rattle.dv_rotation.specs.Texts.{place_of};
     ghost use Rattle.dv_writing.specs.Repairing.{IsOwing};
-    ghost use Rattle.dv_mdbox.specs.States.{State, state_code};
+    ghost use Rattle.dv_mdbox.specs.States.{StandsAt, State, state_code};
 
     ghost Value = { State S C };
 
@@ -51,7 +52,7 @@ impl<S, C> Model for Storage<S, C> {
       mark = s.mark;
     } };
 
-    ghost invariant = { λ s. IsOwing s.chain s.owed };
+    ghost invariant = { λ s. IsOwing s.chain s.owed × StandsAt s.mark (place_of s.chain) s.owed };
 }
 
 /// Where the log of a chain ends.
@@ -86,7 +87,8 @@ impl<S, C> Storage<S, C> {
     /// The place behind the last group, or where the log ended at first: the file, and the place
     /// there, in bytes. A rotation that no group followed leaves it as it is. Takes no memory.
     pub fn mark(&self) -> Mark
-        ensures { result ≡ self.now.mark }
+        ensures is { result ≡ self.now.mark }
+        ensures stands { StandsAt result (place_of self.now.chain) self.now.owed }
     {
         self.mark
     }

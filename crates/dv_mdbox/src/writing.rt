@@ -4,7 +4,7 @@ ghost use Rattle.std.specs.Prelude.{◌≡◌, ◌≤◌, ◌+◌, ◌++◌, All
 ghost use Rattle.dv_model.specs.declared.types.Mailbox.{Mailbox};
 ghost use Rattle.dv_model.specs.Effects.{applied};
 ghost use Rattle.dv_model.specs.Mailboxes.{IsValid};
-ghost use Rattle.dv_model.specs.Sessions.{group_limit, is_log_full};
+ghost use Rattle.dv_model.specs.Sessions.{is_log_full};
 ghost use Rattle.dv_model.specs.Spelling.{IsRecord, written};
 ghost use Rattle.dv_logfile.specs.Settling.{StaysSettled};
 ghost use Rattle.dv_shelf.specs.Clocks.{behind};
@@ -14,9 +14,9 @@ ghost use Rattle.dv_rotation.specs.Texts.{place_of};
 ghost use Rattle.dv_filing.specs.Files.{HasRoom};
 ghost use Rattle.dv_filing.specs.Standing.{Fits, Stands};
 ghost use Rattle.dv_filing.specs.Writes.{KeepsThrough};
-ghost use Rattle.dv_maps.specs.Laws.{AreWritten};
 ghost use Rattle.dv_maps.specs.Texts.{Messages};
 ghost use Rattle.dv_mdbox.specs.Answers.{HasStorageCause, IsFailure};
+ghost use Rattle.dv_mdbox.specs.Readying.{IsGroupFor};
 ghost use Rattle.dv_mdbox.specs.Writes.{WritesBeside, WritesGroup};
 
 use crate::fault::disk;
@@ -76,13 +76,8 @@ impl<S: Shelf, C> Storage<S, C> {
         files: Files,
         time: Option<u32>,
     ) -> Result<(), StorageFault>
-        requires some { 1 ≤ length records }
-        requires written { AreWritten self.old.chain.live.mailbox records
-            (length (flat_map written records)) }
+        requires group { IsGroupFor self.old.chain records }
         requires time { is_some time ≡ turns self.old.owed self.old.chain }
-        requires short { length (flat_map written records) ≤ group_limit }
-        requires fits { is_log_full true (place_of self.old.chain)
-            (length (flat_map written records)) ≡ false }
         requires room { HasRoom files }
         // The map, the entries and the mark, over any shelf.
         ensures value { WritesGroup records self.old self.new result }

@@ -22,15 +22,15 @@ returns-in-Ok-clause-ready g c =
     let prepared = c.in_ok-prepared.prepared in
     let is = c.in_ok-text.ensures.text in
     let due = c.in-Ok.ensures.is.0 ∙ c.requires.time in
-    let room = room_left owed turn chain (length (group_text group)) due c.requires.short c.requires.fits in
+    let room = room_left owed turn chain (length (group_text group)) due c.requires.group.short c.requires.group.fits in
     record {
       made = record {
         due = due_of owed turn chain due c.in-Ok.ensures.is.1;
         room = c.requires.room;
-        group = ready_for owed turn chain group text prepared c.requires.group.1 c.requires.group.0 is room c.in_ok-prepared.ensures.ok;
+        group = ready_for owed turn chain group text prepared c.requires.group.are.spelled c.requires.group.some is room c.in_ok-prepared.ensures.ok;
       };
       file = refl;
-      pending = pending_for owed turn chain group text prepared c.requires.group.1 c.requires.group.0 is room;
+      pending = pending_for owed turn chain group text prepared c.requires.group.are.spelled c.requires.group.some is room;
       size = text_length group text is;
       due = due;
     }

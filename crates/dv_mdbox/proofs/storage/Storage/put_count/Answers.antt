@@ -1,28 +1,12 @@
 use Rattle.std.proofs.Common.{◌∙◌, Err, refl, sym, ap, subst, arith}
-use Rattle.std.specs.Prelude.{true}
 use Rattle.std.proofs.lemmas.Result.{err_from_is_err_and}
 use Rattle.dv_model.specs.Effects.{applied}
-use Rattle.dv_model.specs.Sessions.{is_log_full}
-use Rattle.dv_rotation.specs.Texts.{place_of}
 use Rattle.dv_mdbox.specs.Answers.{IsFailure}
-use Rattle.dv_mdbox.proofs.Counted.{count_size, count_some, count_written, counts_done, counts_stayed, failure_refused, finds_room, group_counted, is_counted, through_count}
+use Rattle.dv_mdbox.proofs.Counted.{count_group, counts_done, counts_stayed, failure_refused, finds_room, group_counted, is_counted, through_count}
 use Rattle.dv_mdbox.proofs.storage.Storage.put_count.Goals as goal
 
-pub write-requires-clause-some : goal.write-requires-clause-some
-write-requires-clause-some g c = count_some c.args.id c.args.count c.in_ok-records.records c.in_ok-records.ensures
-
-pub write-requires-clause-written : goal.write-requires-clause-written
-write-requires-clause-written g c = count_written c.records_are_written.ensures.counts c.self.inside.chain.live.mailbox c.args.id c.args.count c.in_ok-records.records c.in_ok-records.ensures
-
-pub write-requires-clause-short : goal.write-requires-clause-short
-write-requires-clause-short g c =
-    let size = count_size c.records_are_written.ensures.counts c.self.inside.chain.live.mailbox c.args.id c.args.count c.in_ok-records.records c.in_ok-records.ensures in
-    omega (arith, size)
-
-pub write-requires-clause-fits : goal.write-requires-clause-fits
-write-requires-clause-fits g c =
-    let size = count_size c.records_are_written.ensures.counts c.self.inside.chain.live.mailbox c.args.id c.args.count c.in_ok-records.records c.in_ok-records.ensures in
-    ap (is_log_full true (place_of c.self.inside.chain)) size ∙ sym c.is_full.ensures ∙ c.if-is_full.false
+pub write-requires-clause-group : goal.write-requires-clause-group
+write-requires-clause-group g c = count_group c.self.inside.chain c.args.id c.args.count c.records_are_written.ensures.counts c.in_ok-records.records c.in_ok-records.ensures (sym c.is_full.ensures ∙ c.if-is_full.false)
 
 -- ---- nothing was written
 

@@ -8,22 +8,18 @@ use Rattle.dv_mdbox.proofs.Thinning.{failure_answers, later_stays, takes_none}
 use Rattle.dv_mdbox.proofs.Written.{group_clocked, group_kept, quiet_clocked}
 use Rattle.dv_mdbox.proofs.storage.Storage.put_group.Goals as goal
 
-pub write-requires-clause-written : goal.write-requires-clause-written
-write-requires-clause-written g c =
+pub write-requires-clause-group : goal.write-requires-clause-group
+write-requires-clause-group g c =
     let spelled = rw (← c.self.view_is) at c.requires.spelled in
-    record { spelled = spelled.spelled; applies = spelled.applies; bytes = refl }
-
-pub write-requires-clause-short : goal.write-requires-clause-short
-write-requires-clause-short g c =
     let size = c.in_ok-size.ensures in
     let fits = MatchBool-at_false ((group_limit < c.in_ok-size.size) ⊎ IsFull c.self.inside.chain c.in_ok-size.size) ((c.in_ok-size.size ≤ group_limit) × HasRoom c.self.inside.chain c.in_ok-size.size) c.if-lacks_room.false c.lacks_room.ensures in
     let short = fits.0 in
-    omega (arith, size, short)
-
-pub write-requires-clause-fits : goal.write-requires-clause-fits
-write-requires-clause-fits g c =
-    let fits = MatchBool-at_false ((group_limit < c.in_ok-size.size) ⊎ IsFull c.self.inside.chain c.in_ok-size.size) ((c.in_ok-size.size ≤ group_limit) × HasRoom c.self.inside.chain c.in_ok-size.size) c.if-lacks_room.false c.lacks_room.ensures in
-    subst (HasRoom c.self.inside.chain) c.in_ok-size.ensures fits.1
+    record {
+      some = c.requires.some;
+      are = record { spelled = spelled.spelled; applies = spelled.applies; bytes = refl };
+      short = omega (arith, size, short);
+      fits = subst (HasRoom c.self.inside.chain) c.in_ok-size.ensures fits.1;
+    }
 
 -- ---- nothing was written
 

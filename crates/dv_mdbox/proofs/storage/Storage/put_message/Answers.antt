@@ -6,20 +6,17 @@ use Rattle.dv_mdbox.proofs.Saved.{saves_clocked, saves_stayed}
 use Rattle.dv_mdbox.proofs.Written.{group_clocked, group_kept}
 use Rattle.dv_mdbox.proofs.storage.Storage.put_message.Goals as goal
 
-pub put_text-requires-clause-free : goal.put_text-requires-clause-free
-put_text-requires-clause-free g c =
+pub put_text-requires-clause-place : goal.put_text-requires-clause-place
+put_text-requires-clause-place g c =
     let m = c.self.inside.chain.live.mailbox in
-    subst (λ (p : Place). IsFreeFrom m (record { file = p.file; offset = p.offset })) (sym c.in-Some.ensures.0) (rw (← c.self.view_is) at c.requires.free)
-
-pub put_text-requires-clause-size : goal.put_text-requires-clause-size
-put_text-requires-clause-size g c = ap (λ (p : Place). p.size) c.in-Some.ensures.0 ∙ c.len.ensures
-
-pub put_text-requires-clause-end : goal.put_text-requires-clause-end
-put_text-requires-clause-end g c =
     let offset = ap (λ (p : Place). p.offset) c.in-Some.ensures.0 in
     let size = ap (λ (p : Place). p.size) c.in-Some.ensures.0 in
     let small = c.in-Some.ensures.1 in
-    omega (arith, offset, size, small)
+    record {
+      free = subst (λ (p : Place). IsFreeFrom m (record { file = p.file; offset = p.offset })) (sym c.in-Some.ensures.0) (rw (← c.self.view_is) at c.requires.free);
+      size = size ∙ c.len.ensures;
+      end = omega (arith, offset, size, small);
+    }
 
 -- ---- nothing was written
 

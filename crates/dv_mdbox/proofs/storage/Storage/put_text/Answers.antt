@@ -1,36 +1,17 @@
-use Rattle.std.proofs.Common.{true, ◌∙◌, Ok, Err, ap, refl, inr, arith}
+use Rattle.std.proofs.Common.{◌∙◌, Ok, Err, ap, refl, inr}
 use Rattle.std.proofs.lemmas.Result.{err_from_is_err_and}
 use Rattle.dv_model.specs.Effects.{applied}
-use Rattle.dv_model.specs.Sessions.{is_log_full}
-use Rattle.dv_rotation.specs.Texts.{place_of}
 use Rattle.dv_maps.specs.Groups.{save_records}
 use Rattle.dv_maps.specs.Texts.{with_message}
-use Rattle.dv_mdbox.proofs.Saved.{group_err, group_ok, group_saved, is_saved, place_is, save_size, save_some, save_through, save_written, saves_done, saves_err, saves_ok, saves_stayed, small_place, uid_is}
+use Rattle.dv_mdbox.proofs.Saved.{group_err, group_ok, group_saved, is_saved, place_is, save_group, save_through, saves_done, saves_err, saves_ok, saves_stayed, small_place, uid_is}
 use Rattle.dv_mdbox.proofs.storage.Storage.put_text.Goals as goal
 
-pub write-requires-clause-some : goal.write-requires-clause-some
-write-requires-clause-some g c = save_some c.next_uid-id.result c.args.place c.in_ok-records.records c.in_ok-records.ensures
-
-pub write-requires-clause-written : goal.write-requires-clause-written
-write-requires-clause-written g c = rw (← c.self.view_is) (
-    let m = c.self.inside.chain.live.mailbox in
-    let left = rw (← c.self.view_is) at c.requires.left in
-    save_written c.records_are_written.ensures.saves m c.args.place (uid_is m c.is_valid.ensures left) c.in_ok-records.records (c.in_ok-records.ensures ∙ ap (λ id. save_records id c.args.place) c.next_uid-id.ensures.is))
-
-pub write-requires-clause-short : goal.write-requires-clause-short
-write-requires-clause-short g c =
-    let m = c.self.inside.chain.live.mailbox in
-    let left = rw (← c.self.view_is) at c.requires.left in
-    let size = save_size c.records_are_written.ensures.saves m c.args.place (uid_is m c.is_valid.ensures left) c.in_ok-records.records (c.in_ok-records.ensures ∙ ap (λ id. save_records id c.args.place) c.next_uid-id.ensures.is) in
-    omega (arith, size)
-
-pub write-requires-clause-fits : goal.write-requires-clause-fits
-write-requires-clause-fits g c =
+pub write-requires-clause-group : goal.write-requires-clause-group
+write-requires-clause-group g c = rw (← c.self.view_is) (
     let m = c.self.inside.chain.live.mailbox in
     let left = rw (← c.self.view_is) at c.requires.left in
     let room = rw (← c.self.view_is) at c.requires.room in
-    let size = save_size c.records_are_written.ensures.saves m c.args.place (uid_is m c.is_valid.ensures left) c.in_ok-records.records (c.in_ok-records.ensures ∙ ap (λ id. save_records id c.args.place) c.next_uid-id.ensures.is) in
-    rw (← c.self.view_is) (ap (is_log_full true (place_of c.self.inside.chain)) size ∙ room)
+    save_group c.self.inside.chain c.args.place c.records_are_written.ensures.saves (uid_is m c.is_valid.ensures left) c.in_ok-records.records (c.in_ok-records.ensures ∙ ap (λ id. save_records id c.args.place) c.next_uid-id.ensures.is) room)
 
 -- ---- the group
 
@@ -59,7 +40,7 @@ returns-in-Ok-clause-gives g c =
     let value = rw (← c.self.view_is) at c.in-Ok.ensures.value in
     let gives = rw (← c.self.view_is) at c.in-Ok.ensures.gives in
     let left = rw (← c.self.view_is) at c.requires.left in
-    let free = rw (← c.self.view_is) at c.requires.free in
+    let free = (rw (← c.self.view_is) at c.requires.place).free in
     rw (← c.self.view_is) (λ tells messages debt message held rest.
     let S = g.S.Shelf in
     let m = c.self.inside.chain.live.mailbox in
@@ -69,12 +50,12 @@ returns-in-Ok-clause-gives g c =
     let uid = uid_is m valid left in
     let law = c.records_are_written.ensures.saves in
     let is = c.in_ok-records.ensures ∙ ap (λ id. save_records id place) c.next_uid-id.ensures.is in
-    let saved = is_saved c.saves_are.ensures m place rest.map valid uid.1 (small_place place c.is_number.ensures c.requires.end) (law m place uid).applies in (
+    let saved = is_saved c.saves_are.ensures m place rest.map valid uid.1 (small_place place c.is_number.ensures c.requires.place.end) (law m place uid).applies in (
       place,
       saves_ok S.sees messages debt message place _ c.write.new.self tt c.next_uid-id.result
           (saves_done S.sees messages debt message place _ rest saved law uid c.in_ok-records.records is c.write.new.self (Ok tt) value
           (gives tells messages (with_message m.next_uid message messages) debt saved.after rest.fits rest.stands (ap (applied m) is ∙ saved.gives)
-          (save_through m valid (record { file = place.file; offset = place.offset }) free message text held messages place (place_is place text c.requires.size) saved)).0),
+          (save_through m valid (record { file = place.file; offset = place.offset }) free message text held messages place (place_is place text c.requires.place.size) saved)).0),
     ))
 
 pub returns-in-Err-clause-gives : goal.returns-in-Err-clause-gives
@@ -82,7 +63,7 @@ returns-in-Err-clause-gives g c =
     let value = rw (← c.self.view_is) at c.in-Err.ensures.value in
     let gives = rw (← c.self.view_is) at c.in-Err.ensures.gives in
     let left = rw (← c.self.view_is) at c.requires.left in
-    let free = rw (← c.self.view_is) at c.requires.free in
+    let free = (rw (← c.self.view_is) at c.requires.place).free in
     rw (← c.self.view_is) (λ tells messages debt message held rest.
     let S = g.S.Shelf in
     let m = c.self.inside.chain.live.mailbox in
@@ -92,11 +73,11 @@ returns-in-Err-clause-gives g c =
     let uid = uid_is m valid left in
     let law = c.records_are_written.ensures.saves in
     let is = c.in_ok-records.ensures ∙ ap (λ id. save_records id place) c.next_uid-id.ensures.is in
-    let saved = is_saved c.saves_are.ensures m place rest.map valid uid.1 (small_place place c.is_number.ensures c.requires.end) (law m place uid).applies in
+    let saved = is_saved c.saves_are.ensures m place rest.map valid uid.1 (small_place place c.is_number.ensures c.requires.place.end) (law m place uid).applies in
     inr (
       place,
       saves_err S.sees messages debt message place _ c.write.new.self c.in-Err.e c.in-Err.e
           (saves_done S.sees messages debt message place _ rest saved law uid c.in_ok-records.records is c.write.new.self (Err c.in-Err.e) value
           (gives tells messages (with_message m.next_uid message messages) debt saved.after rest.fits rest.stands (ap (applied m) is ∙ saved.gives)
-          (save_through m valid (record { file = place.file; offset = place.offset }) free message text held messages place (place_is place text c.requires.size) saved)).0),
+          (save_through m valid (record { file = place.file; offset = place.offset }) free message text held messages place (place_is place text c.requires.place.size) saved)).0),
     ))

@@ -5,14 +5,18 @@ use Rattle.dv_model.specs.declared.types.Mailbox.{Mailbox}
 use Rattle.dv_filing.specs.Standing.{Fits}
 use Rattle.dv_mdbox.specs.Writes.{entry_of}
 use Rattle.dv_mdbox.proofs.Equal.{owing_equal, stands_equal, stands_looked}
-use Rattle.dv_mdbox.proofs.Written.{group_written, mails_looked, mails_written, quiet_entries, quiet_failed, quiet_unwritten, quiet_written, write_of}
+use Rattle.dv_mdbox.proofs.Written.{group_written, mails_looked, mails_written, marked_equal, quiet_entries, quiet_failed, quiet_unwritten, quiet_written, write_of}
 use Rattle.dv_mdbox.proofs.storage.Storage.write.Goals as goal
 
 pub invariant_of-self-in_err-reserve : goal.invariant_of-self-in_err-reserve
-invariant_of-self-in_err-reserve g c = owing_equal c.make_ready.new.chain c.self.inside.chain c.self.inside.owed c.in_ok-text.ensures.chain c.self.invariant
+invariant_of-self-in_err-reserve g c =
+    let chain = c.make_ready.new.chain in
+    let old = c.self.inside in
+    let same = c.in_ok-text.ensures.chain in
+    (owing_equal chain old.chain old.owed same c.self.invariant.0, marked_equal old.mark chain old.chain old.owed same c.self.invariant.1)
 
 pub carry_out-requires-clause-owing : goal.carry_out-requires-clause-owing
-carry_out-requires-clause-owing g c = owing_equal c.make_ready.new.chain c.self.inside.chain c.self.inside.owed c.in_ok-text.ensures.chain c.self.invariant
+carry_out-requires-clause-owing g c = owing_equal c.make_ready.new.chain c.self.inside.chain c.self.inside.owed c.in_ok-text.ensures.chain c.self.invariant.0
 
 -- ---- nothing was written
 
@@ -50,9 +54,9 @@ returns-in_err-reserve-clause-gives g c = rw (← c.self.view_is) (λ tells mess
 pub returns-in-Ok-clause-value : goal.returns-in-Ok-clause-value
 returns-in-Ok-clause-value g c = rw (← c.self.view_is) (
     let made = c.in_ok-text.field-0 in
-    let written = rw (← c.self.view_is) at c.requires.written in
+    let group = rw (← c.self.view_is) at c.requires.group in
     group_written c.args.records _ c.make_ready.new.chain c.in_ok-text.ensures.chain c.args.files made.text made.steps c.in_ok-text.ensures.ready
-    written.applies c.carry_out.new.owed c.carry_out.new.chain c.carry_out.new.shelf c.in-Ok.committed _
+    group.are.applies c.carry_out.new.owed c.carry_out.new.chain c.carry_out.new.shelf c.in-Ok.committed _ c.self.invariant.1
     (c.push_reserved.ensures.items ∙ ap (λ (es : List Entry). es ++ entry_of c.args.records ∷ []) c.in_ok-reserve.ensures.items) c.in-Ok.ensures.value)
 
 pub returns-in-Ok-clause-gives : goal.returns-in-Ok-clause-gives
