@@ -148,7 +148,7 @@ module _ (lines : List NamedLine) (parts : List Part) (are_parts : AreParts line
 
 -- ---- a keeper's store
 
-no_tries : (tries : List Try) (base now : ℕ) → RoseBy (length tries) base now → Stayed base now → tries ≡ []
+pub no_tries : (tries : List Try) (base now : ℕ) → RoseBy (length tries) base now → Stayed base now → tries ≡ []
 no_tries [] base now rose stayed = refl
 no_tries (t ∷ tries) base now rose stayed = absurd (stayed (rose_fewer (length (t ∷ tries)) 1 base now (omega arith) rose))
 
@@ -156,13 +156,13 @@ module _ {S C : Type 0} (sees : SeesFolder S) (tells : Type 0) (start : Log) (mo
   abbrev notes : List Note
   notes = notes_in k
 
-  are : AreNotesOf start notes
+  pub are : AreNotesOf start notes
   are = holds.stands.notes_are
 
   last : (c : Folder) → sees.may_leave k.store.shelf c → GivesLast tells start notes k.tries c
   last c left = rest_gives_last C sees tells start notes k.tries k.store c holds.stands (holds.folder h).rests left
 
-  gives : GivesNotes sees tells start notes k.tries k.store.shelf
+  pub gives : GivesNotes sees tells start notes k.tries k.store.shelf
   gives = record {
     folder = last (sees.files k.store.shelf) (here (holds.folder h).told);
     after = last;

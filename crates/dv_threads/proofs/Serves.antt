@@ -10,10 +10,10 @@ use Rattle.dv_shelf.proofs.Moments.{joined, weaker}
 use Rattle.dv_formats.specs.Scripts.{NamedLine}
 use Rattle.dv_playing.specs.Playing.{Attempt, begin}
 use Rattle.dv_front.specs.declared.notes.Note.{Note}
-use Rattle.dv_notes.specs.Logs.{log_of}
+use Rattle.dv_notes.specs.Logs.{AreNotesOf, log_of}
 use Rattle.dv_store.specs.States.{State}
 use Rattle.dv_serving.specs.Faults.{Faults}
-use Rattle.dv_serving.specs.NextRuns.{IsTrueFolder}
+use Rattle.dv_serving.specs.NextRuns.{IsTrueFolder, LeavesTrue}
 use Rattle.dv_serving.specs.Outputs.{Output}
 use Rattle.dv_serving.specs.Places.{GivesPlay}
 use Rattle.dv_serving.proofs.NextRuns.{gives_true}
@@ -22,10 +22,11 @@ use Rattle.dv_serial.specs.Places as serial
 use Rattle.dv_beginning.specs.Begins.{IsBegun}
 use Rattle.dv_beginning.specs.Leaving as beginning
 use Rattle.dv_beginning.proofs.TrueFolders.{new_true}
+use Rattle.dv_tries.specs.Images.{LeavesSince}
 use Rattle.dv_tries.specs.Tries.{GivesGroup, GivesLast, GivesLog, MayGive, Try}
 use Rattle.dv_shared.proofs.Beginnings.{log_none}
 use Rattle.dv_threads.specs.declared.ending.ThreadsEnd.{ThreadsEnd}
-use Rattle.dv_threads.specs.Serves.{MayLeave, ServesSessions, ServesThreads}
+use Rattle.dv_threads.specs.Serves.{GivesNotes, MayLeave, OpensFirst, ServesSessions, ServesThreads}
 use Rattle.dv_threads.proofs.Beginnings.{bare, gives_start, start_given, turned_given}
 use Rattle.dv_threads.proofs.Sessions.{notes_on}
 
@@ -77,45 +78,46 @@ module _ {S C : Type 0} (sees : SeesFolder S) (ticks : SeesTime C) (clock : ℕ 
   begun_may : (notes : List Note) (tries : List Try) (c : Folder) → beginning.MayLeave (behind clock begun.used) start [] (sees.files old) c → MayLeave tells start notes tries (sees.files old) c
   begun_may notes tries c = ⊎_elim inl (λ may. inr (start_may tells start notes tries c (serial_given start fresh (behind clock begun.used) c may)))
 
-  module _ (new : S) (faults : Faults) (lines : List NamedLine) (e : ThreadsEnd) (out : Output) (serves : ServesSessions sees tells start (sees.moment store.shelf) (sees.left_since store.shelf) faults lines e out new) (here : sees.may_leave new (sees.files new)) where
-    abbrev notes : List Note
-    notes = serves.notes
-
-    abbrev tries : List Try
-    tries = serves.tries
-
-    on : GoesOn start (log_of start notes)
-    on = subst (λ (l : Log). GoesOn l (log_of start notes)) (log_none start) (notes_on start [] notes serves.answers.are)
+  -- what sessions wrote behind that
+  module _ (new : S) (notes : List Note) (tries : List Try) (are : AreNotesOf begun.start notes) (gives : GivesNotes sees tells begun.start notes tries new) (left : LeavesSince sees (sees.moment store.shelf) (sees.left_since store.shelf) new (MayGive tells begun.start notes tries)) where
+    pub run_goes_on : GoesOn start (log_of start notes)
+    run_goes_on = subst (λ (l : Log). GoesOn l (log_of start notes)) (log_none start) (notes_on start [] notes are)
 
     since : LeavesOnly sees store.shelf new (MayGive tells start notes tries)
-    since = record { later = serves.since.later; each = serves.since.each; before = serves.since.before }
+    since = record { later = left.later; each = left.each; before = left.before }
 
-    crash : LeavesOnly sees old new (MayLeave tells start notes tries (sees.files old))
-    crash =
+    pub run_crash : LeavesOnly sees old new (MayLeave tells start notes tries (sees.files old))
+    run_crash =
         joined sees old store.shelf new (MayLeave tells start notes tries (sees.files old))
         (weaker sees old store.shelf (beginning.MayLeave (behind clock begun.used) start [] (sees.files old)) (MayLeave tells start notes tries (sees.files old)) begun.since (begun_may notes tries))
         (weaker sees store.shelf new (MayGive tells start notes tries) (MayLeave tells start notes tries (sees.files old)) since (λ c may. inr may))
 
-    pub serves_threads : ServesThreads sees clock tells faults lines e out old new
-    serves_threads = record {
-      start = start;
-      used = begun.used;
-      starts = begun.starts;
-      notes = notes;
-      tries = tries;
-      goes_on = on;
-      answers = serves.answers;
-      gives = serves.gives;
-      crash = crash;
-      opens = record {
-        opened = store.shelf;
-        before = weaker sees old store.shelf (beginning.MayLeave (behind clock begun.used) start [] (sees.files old)) (MayLeave tells start [] [] (sees.files old)) begun.since (begun_may [] []);
-        there = gives_start sees ticks clock old store begun;
-        since = since;
-      };
-      next = record {
-        seen = last_true tells start notes tries (sees.files new) serves.gives.folder;
-        after = λ c left. last_true tells start notes tries c (serves.gives.after c left);
-        crash = weaker sees old new (MayLeave tells start notes tries (sees.files old)) IsTrueFolder crash (leave_true tells start notes tries (sees.files old));
-      };
+    pub run_opens : OpensFirst sees tells start notes tries old new
+    run_opens = record {
+      opened = store.shelf;
+      before = weaker sees old store.shelf (beginning.MayLeave (behind clock begun.used) start [] (sees.files old)) (MayLeave tells start [] [] (sees.files old)) begun.since (begun_may [] []);
+      there = gives_start sees ticks clock old store begun;
+      since = since;
     }
+
+    pub run_next : LeavesTrue sees old new
+    run_next = record {
+      seen = last_true tells start notes tries (sees.files new) gives.folder;
+      after = λ c last. last_true tells start notes tries c (gives.after c last);
+      crash = weaker sees old new (MayLeave tells start notes tries (sees.files old)) IsTrueFolder run_crash (leave_true tells start notes tries (sees.files old));
+    }
+
+  pub serves_threads : (new : S) (faults : Faults) (lines : List NamedLine) (e : ThreadsEnd) (out : Output) → ServesSessions sees tells begun.start (sees.moment store.shelf) (sees.left_since store.shelf) faults lines e out new → ServesThreads sees clock tells faults lines e out old new
+  serves_threads new faults lines e out serves = record {
+    start = start;
+    used = begun.used;
+    starts = begun.starts;
+    notes = serves.notes;
+    tries = serves.tries;
+    goes_on = run_goes_on new serves.notes serves.tries serves.answers.are serves.gives serves.since;
+    answers = serves.answers;
+    gives = serves.gives;
+    crash = run_crash new serves.notes serves.tries serves.answers.are serves.gives serves.since;
+    opens = run_opens new serves.notes serves.tries serves.answers.are serves.gives serves.since;
+    next = run_next new serves.notes serves.tries serves.answers.are serves.gives serves.since;
+  }

@@ -23,7 +23,7 @@ pub fn sessions_write_one_log()
 
 /// What holds of each folder: its files are among what a crash now may leave, and since now a crash
 /// leaves nothing else. Nothing is computed.
-pub(crate) fn folder_laws<S: Shelf>()
+pub fn folder_laws<S: Shelf>()
     ensures files { (s : S) → S.sees.tells → S.sees.may_leave s (S.sees.files s) }
     ensures only { (s : S) (c : Folder) → S.sees.tells →
         S.sees.left_since s (S.sees.moment s) c → S.sees.may_leave s c }

@@ -33,7 +33,6 @@ returns-in-Ok-clause-runs g c = λ tells clock old begun.
     serves_threads S.sees C.sees clock old store begun C.sees.tells behind.shelf faults lines behind.end out
     (subst (λ (l : Log). ServesSessions S.sees C.sees.tells l (S.sees.moment store.shelf) (S.sees.left_since store.shelf) faults lines behind.end out behind.shelf) (sym is)
     (c.serve_parts.ensures.serves (subst (λ (l : Log). BeginsFolder S.sees l (S.sees.moment store.shelf) (S.sees.left_since store.shelf) store) is folder) lines are c.requires.servable))
-    (c.folder_laws.ensures.files behind.shelf tells)
 
 pub returns-in-Err-clause-runs : goal.returns-in-Err-clause-runs
 returns-in-Err-clause-runs g c = λ tells clock old begun.
@@ -49,5 +48,4 @@ returns-in-Err-clause-runs g c = λ tells clock old begun.
     (serves_threads S.sees C.sees clock old store begun C.sees.tells store.shelf faults lines ending.NoMemory out
     (subst (λ (l : Log). ServesSessions S.sees C.sees.tells l (S.sees.moment store.shelf) (S.sees.left_since store.shelf) faults lines ending.NoMemory out store.shelf) (sym is)
     (unserved_serves S.sees store c.requires.fresh c.requires.sound C.sees.tells (subst (λ (l : Log). BeginsFolder S.sees l (S.sees.moment store.shelf) (S.sees.left_since store.shelf) store) is folder) (λ told. c.folder_laws.ensures.files store.shelf told) c.args.start_count c.requires.count lines
-    c.requires.servable c.requires.sessions out refl ending.NoMemory lacks_memory))
-    (c.folder_laws.ensures.files store.shelf tells))
+    c.requires.servable c.requires.sessions out refl ending.NoMemory lacks_memory)))
