@@ -1,9 +1,10 @@
 -- What a folder gives behind calls, and between them.
-use Rattle.std.proofs.Common.{◌≡◌, inl, inr, ⊎_elim, ℕ, List, [], ◌∷◌, ◌++◌, Option, Some, None, refl, sym, ◌∙◌, ap, subst, append_assoc}
+use Rattle.std.proofs.Common.{◌≡◌, ◌⊎◌, inl, inr, ⊎_elim, ℕ, List, [], ◌∷◌, ◌++◌, Option, Some, None, refl, sym, ◌∙◌, ap, subst, append_assoc}
 use Rattle.dv_model.specs.declared.types.Mailbox.{Mailbox}
 use Rattle.dv_model.specs.declared.types.Mark.{Mark}
 use Rattle.dv_shelf.specs.Folders.{Folder}
 use Rattle.dv_shelf.specs.Sees.{SeesFolder}
+use Rattle.dv_openings.specs.Openings.{Finds, IsFound}
 use Rattle.dv_chain.specs.declared.chain.Chain.{Chain}
 use Rattle.dv_chain.specs.Rest.{Last, Nothing, Owed, Pending, next_mark}
 use Rattle.dv_rotation.specs.declared.texts.Turn.{Turn}
@@ -14,12 +15,13 @@ use Rattle.dv_filing.proofs.Resting.{rests_give}
 use Rattle.dv_maps.specs.Laws.{IsMap}
 use Rattle.dv_maps.specs.Storages.{Storage, storage_of}
 use Rattle.dv_maps.specs.Texts.{Messages}
-use Rattle.dv_mdbox.specs.States.{State}
+use Rattle.dv_mdbox.specs.States.{StandsAt, State, next_file}
 use Rattle.dv_mdbox_lines.specs.declared.answers.Answer.{Answer}
 use Rattle.dv_mdbox_lines.specs.Playing.{MayCome, MayGo, Tried, behind, behind_call}
 use Rattle.dv_mdbox_lines.specs.Scripts.{Call, Copy, Drop, Get, Purge, Save}
 use Rattle.dv_mdbox_lines.proofs.Behind.{parts}
 use Rattle.dv_mdbox_serving.specs.Following.{IsOwedBehind, Keeps}
+use Rattle.dv_mdbox_serving.specs.Marks.{OpensTo}
 use Rattle.dv_mdbox_serving.specs.Places.{GivesBehind, GivesBetween, GivesMade, GivesNext, GivesStorage, IsLastCut, IsUndone, MayGive, MayMake}
 use Rattle.dv_mdbox_serving.proofs.Going.{behind_more, cut_behind, undone_stays, without_both}
 
@@ -44,13 +46,10 @@ module _ {S C : Type 0} (sees : SeesFolder S) (start : Storage) (calls : List Tr
   owed_at : (debt : Owed) (text : List ℕ) (after : Mailbox) → debt ≡ Pending text after → IsOwedBehind start calls keeps.messages debt → IsOwedBehind start calls keeps.messages (Pending text after)
   owed_at debt text after is owed = subst (IsOwedBehind start calls keeps.messages) is owed
 
-  -- what is at rest gives the storage behind the calls
-  pub keeps_may : (c : Folder) → MayGiveNow keeps.messages keeps.debt store.chain c → GivesBehind start calls c
-  keeps_may =
-      gives_owed keeps.messages store.chain (behind start calls) keeps.rests.map keeps.storage store.owed keeps.debt (GivesBehind start calls) keeps.rests.fits (λ c g. inl g)
-      (λ text after c is g.
-      let owed = owed_at keeps.debt text after is keeps.owed in
-      inr (
+  -- the group that is owed is that of the call that was cut off
+  cut_at : (text : List ℕ) (after : Mailbox) (c : Folder) → keeps.debt ≡ Pending text after → Gives keeps.messages store.chain.indexid after (mark_behind text store.chain) c → (cut : Tried) × IsLastCut calls cut × GivesMade (behind start calls) cut c
+  cut_at text after c is g =
+      let owed = owed_at keeps.debt text after is keeps.owed in (
         owed.1.0,
         owed.1.1,
         (
@@ -66,10 +65,53 @@ module _ {S C : Type 0} (sees : SeesFolder S) (start : Storage) (calls : List Tr
             gives = g;
           },
         ),
-      ))
+      )
+
+  -- what is at rest gives the storage behind the calls
+  pub keeps_may : (c : Folder) → MayGiveNow keeps.messages keeps.debt store.chain c → GivesBehind start calls c
+  keeps_may =
+      gives_owed keeps.messages store.chain (behind start calls) keeps.rests.map keeps.storage store.owed keeps.debt (GivesBehind start calls) keeps.rests.fits (λ c g. inl g)
+      (λ text after c is g. inr (cut_at text after c is g))
 
   pub keeps_give : (c : Folder) → sees.may_leave store.shelf c → GivesBehind start calls c
   keeps_give c left = keeps_may c (rests_give sees keeps.messages keeps.debt store.chain store.shelf c keeps.rests.stands left)
+
+  -- ---- at which place
+
+  abbrev GivesCut : Folder → Type 0
+  GivesCut c = (cut : Tried) × IsLastCut calls cut × GivesMade (behind start calls) cut c
+
+  module _ (mark : Mark) (c : Folder) where
+    abbrev m : Mailbox
+    m = store.chain.live.mailbox
+
+    opens_place : (place : Mark) (owed : Option Turn) → StandsAt mark place owed → IsFound c (Finds m place) → OpensTo m mark c
+    opens_place place owed stands found =
+        ⊎_elim (λ here. inl (subst (λ (p : Mark). IsFound c (Finds m p)) here.0 found))
+        (λ begun. ⊎_elim (λ at. inl (subst (λ (p : Mark). IsFound c (Finds m p)) at.0 found)) (λ new. inr (begun.0, subst (λ (p : Mark). IsFound c (Finds m p)) new.0 found)) begun.1) stands
+
+    -- where a turn is owed, a rotation was due at the mark
+    opens_next : (turn : Turn) → StandsAt mark (place_of store.chain) (Some turn) → IsFound c (Finds m (next_mark store.chain)) → OpensTo m mark c
+    opens_next turn stands found =
+        ⊎_elim (λ here. absurd (owes here.1))
+        (λ begun. ⊎_elim (λ at. inr (begun.0, subst (λ (p : Mark). IsFound c (Finds m (next_file p))) at.0 found)) (λ new. absurd (owes new.1)) begun.1) stands
+      where
+        owes : Some turn ≡ None → ⊥
+        owes e = cc
+
+    opens_by : (owed : Option Turn) (debt : Owed) → StandsAt mark (place_of store.chain) owed → Fits owed m debt → ((text : List ℕ) (after : Mailbox) → debt ≡ Pending text after → Gives keeps.messages store.chain.indexid after (mark_behind text store.chain) c → GivesCut c)
+        → MayGiveNow keeps.messages debt store.chain c → OpensTo m mark c ⊎ GivesCut c
+    opens_by owed Nothing stands fits with gives = inl (opens_place (place_of store.chain) owed stands gives.opens.found)
+    opens_by owed (Pending text after) stands fits with gives = ⊎_elim (λ g. inl (opens_place (place_of store.chain) owed stands g.opens.found)) (λ g. inr (with text after refl g)) gives
+    opens_by None (Last log after) stands fits with gives = absurd fits
+    opens_by (Some turn) (Last log after) stands fits with gives =
+        ⊎_elim (λ g. inl (opens_place (place_of store.chain) (Some turn) stands g.opens.found))
+        (λ g. inl (opens_next turn stands (subst (λ (k : Mailbox). IsFound c (Finds k (next_mark store.chain))) fits.1 g.opens.found))) gives
+
+    -- what is at rest opens to the map at the mark, but where a call is found that was cut off
+    pub keeps_at : StandsAt mark (place_of store.chain) store.owed → sees.may_leave store.shelf c → OpensTo m mark c ⊎ GivesCut c
+    keeps_at stands left =
+        opens_by store.owed keeps.debt stands keeps.rests.fits (λ text after is g. cut_at text after c is g) (rests_give sees keeps.messages keeps.debt store.chain store.shelf c keeps.rests.stands left)
 
 -- ---- calls in turn
 

@@ -1,5 +1,5 @@
 -- Calls are served one after another.
-use Rattle.std.proofs.Common.{◌≡◌, inl, inr, ⊎_elim, ℕ, ◌≤◌, List, [], ◌∷◌, ◌++◌, Option, Some, None, Result, Ok, Err, refl, sym, ◌∙◌, ap, subst, append_assoc}
+use Rattle.std.proofs.Common.{◌≡◌, inl, inr, ⊎_elim, ℕ, ◌≤◌, List, [], ◌∷◌, ◌++◌, length, Option, Some, None, Result, Ok, Err, refl, sym, ◌∙◌, ap, subst, append_assoc}
 use Rattle.std.specs.Prelude.{All}
 use Rattle.std.specs.Result.{IsErr, IsErrAnd}
 use Rattle.std.proofs.lemmas.List.{append-nil, map-append}
@@ -18,7 +18,8 @@ use Rattle.dv_playing.proofs.Failures.{rose_from}
 use Rattle.dv_chain.specs.declared.chain.Chain.{Chain}
 use Rattle.dv_chain.specs.Openings.{found_of}
 use Rattle.dv_mdbox.specs.Opening.{TellsFolder}
-use Rattle.dv_mdbox.specs.States.{State}
+use Rattle.dv_rotation.specs.Texts.{place_of}
+use Rattle.dv_mdbox.specs.States.{StandsAt, State}
 use Rattle.dv_mdbox_lines.specs.declared.answers.Answer.{Answer}
 use Rattle.dv_mdbox_lines.specs.declared.lines.Call as declared
 use Rattle.dv_mdbox_lines.specs.Playing.{Tried}
@@ -33,10 +34,13 @@ use Rattle.dv_mdbox_serving.specs.declared.ending.StorageEnd.{StorageEnd}
 use Rattle.dv_mdbox_serving.specs.declared.ending.StorageEnd.TheVariants as end
 use Rattle.dv_mdbox_serving.specs.Calls.{IsCalled, IsCaused, RunsCall, tried_of}
 use Rattle.dv_mdbox_serving.specs.Following.{Follows}
+use Rattle.dv_mdbox_serving.specs.Groups.{LogsCalls}
+use Rattle.dv_mdbox_serving.specs.Marks.{EndsAt, IfAnswered}
 use Rattle.dv_mdbox_serving.specs.Opening.{IsBegun}
 use Rattle.dv_mdbox_serving.specs.Places.{GivesBetween, MayGive, MayLeave}
 use Rattle.dv_mdbox_serving.specs.Runs.{EndCause, EndsServing, IfUnopened, IsAnswered, RunsCalls, Serves, ServesCalls, TakesByEnd, TellsFolderAt, calls_of, end_behind, end_of}
-use Rattle.dv_mdbox_serving.proofs.Giving.{behind_may, between_may, keeps_give, may_longer}
+use Rattle.dv_mdbox_serving.proofs.Giving.{behind_may, between_may, keeps_at, keeps_give, may_longer}
+use Rattle.dv_mdbox_serving.proofs.Logged.{logs_count, logs_more, logs_no_call}
 
 -- what holds of an error holds of the result that is it
 pub of_error : (P : Result (Unit {0}) CallEnd → Type 0) (result : Result (Unit {0}) CallEnd) (e : CallEnd) → IsErr result → IsErrAnd result (λ x. x ≡ e) → P (Err e) → P result
@@ -69,6 +73,7 @@ module _ {S C : Type 0} (sees : SeesFolder S) (start : Storage) (base : ℕ) (al
     pub parts : all ≡ calls_of answered ++ left
     pub each : All IsAnswered answered
     pub follows : Follows sees start base answered store
+    pub logs : LogsCalls answered initial store
     pub since : LeavesOnly sees initial.shelf store.shelf (MayGive start answered)
     pub output : told → Appends taken taken_now (tried_texts answered)
 
@@ -78,6 +83,7 @@ module _ {S C : Type 0} (sees : SeesFolder S) (start : Storage) (base : ℕ) (al
     parts = refl;
     each = All-nil IsAnswered;
     follows = follows;
+    logs = logs_no_call initial;
     since = started sees initial.shelf (MayGive start []) (λ c left. behind_may start [] tt c (keeps_give sees start [] initial follows.keeps c (now c left)));
     output = λ tells. sym (append-nil taken);
   }
@@ -104,6 +110,7 @@ module _ {S C : Type 0} (sees : SeesFolder S) (start : Storage) (base : ℕ) (al
           parts = so_far.parts ∙ sym (append_assoc (calls_of so_far.answered) (call ∷ []) left) ∙ ap (λ cs. cs ++ left) (sym (calls_more so_far.answered t));
           each = All-append IsAnswered so_far.answered (t ∷ []) so_far.each (All-cons IsAnswered t [] refl (All-nil IsAnswered));
           follows = one.called.follows;
+          logs = logs_more so_far.answered t initial mid store so_far.logs one.logs;
           since = since_on (Some one.told) one.called;
           output = λ tells. text_on one.told one.called.gone tells (one.output tells);
         }
@@ -126,6 +133,7 @@ module _ {S C : Type 0} (sees : SeesFolder S) (start : Storage) (base : ℕ) (al
             output = λ tells. one.1 tells ∙ so_far.output tells;
           };
           keeps = one.0.follows.keeps;
+          logs = tt;
           since = since_on None one.0;
         }
     serves_ended (call_end.Sink faults) one =
@@ -143,6 +151,7 @@ module _ {S C : Type 0} (sees : SeesFolder S) (start : Storage) (base : ℕ) (al
             output = λ tells. subst (λ before. AppendsFront before taken_now (answer_text one.told)) (so_far.output tells) (one.output tells);
           };
           keeps = one.called.follows.keeps;
+          logs = tt;
           since = since_on (Some one.told) one.called;
         }
 
@@ -164,20 +173,22 @@ module _ {S C : Type 0} (sees : SeesFolder S) (start : Storage) (base : ℕ) (al
           output = so_far.output;
         };
         keeps = f.keeps;
+        logs = (subst (λ (calls : List Tried). LogsCalls calls initial store) (sym (no_more so_far.answered)) so_far.logs, refl, refl);
         since = subst (λ (calls : List Tried). LeavesOnly sees initial.shelf store.shelf (MayGive start calls)) (sym (no_more so_far.answered)) so_far.since;
       }
 
 -- ---- a run over a folder
 
 pub serves_folder : {S C : Type 0} (sees : SeesFolder S) (start : Storage) (calls : List Call) (e : StorageEnd) (out : Output) (old : S) (store new : State S C) (shelf : S) → shelf ≡ new.shelf → IsBegun sees start old store → sees.fault_count store.shelf ≤ sees.fault_count new.shelf
-    → Serves sees start (faults_between (sees.fault_count old) (sees.fault_count new.shelf)) calls e out store new → StaysSettled sees store.shelf new.shelf → sees.may_leave new.shelf (sees.files new.shelf)
+    → StandsAt new.mark (place_of new.chain) new.owed → Serves sees start (faults_between (sees.fault_count old) (sees.fault_count new.shelf)) calls e out store new → StaysSettled sees store.shelf new.shelf → sees.may_leave new.shelf (sees.files new.shelf)
     → ServesCalls sees start (faults_between (sees.fault_count old) (sees.fault_count shelf)) calls e out old shelf
-serves_folder {S = S} sees start calls e out old store new shelf same begun later serves settled there =
+serves_folder {S = S} sees start calls e out old store new shelf same begun later stands serves settled there =
     subst (λ (s : S). ServesCalls sees start (faults_between (sees.fault_count old) (sees.fault_count s)) calls e out old s) (sym same)
     (let tried = serves.tried.answered ++ serves.tried.left in
     let May : Folder → Type 0 = MayLeave start tried (sees.files old) in
     record {
       tried = serves.tried;
+      place = ends_at e serves.logs;
       folder = keeps_give sees start tried new serves.keeps (sees.files new.shelf) there;
       after = keeps_give sees start tried new serves.keeps;
       crash = joined sees old store.shelf new.shelf May
@@ -186,6 +197,25 @@ serves_folder {S = S} sees start calls e out old store new shelf same begun late
       settled = λ stayed. settled (λ rose. stayed (let first = begun.follows.failures in rose_before first rose)) begun.settled;
     })
   where
+    Ends : Mark → ℕ → Type 0
+    Ends mark groups = EndsAt start (serves.tried.answered ++ serves.tried.left) mark groups (sees.files old) (sees.may_leave new.shelf)
+
+    ends_at : (ending : StorageEnd) → IfAnswered ending (λ mark groups. LogsCalls (serves.tried.answered ++ serves.tried.left) store new × (mark ≡ new.mark) × (groups ≡ length new.entries)) → IfAnswered ending Ends
+    ends_at (end.Answered mark groups) (logs, at, many) = record {
+      before = store.chain.live.mailbox;
+      begin = store.mark;
+      starts = begun.starts;
+      groups = logs.groups;
+      after = new.chain.live.mailbox;
+      writes = logs.writes;
+      counted = many ∙ logs_count (serves.tried.answered ++ serves.tried.left) store new begun.none logs;
+      marked = at ∙ logs.mark;
+      opens = λ c left. keeps_at sees start (serves.tried.answered ++ serves.tried.left) new serves.keeps mark c (subst (λ (n : Mark). StandsAt n (place_of new.chain) new.owed) (sym at) stands) left;
+    }
+    ends_at (end.Unopened f) logs = tt
+    ends_at end.NoMemory logs = tt
+    ends_at end.Sink logs = tt
+
     rose_before : sees.fault_count old ≤ sees.fault_count store.shelf → Rose (sees.fault_count store.shelf) (sees.fault_count new.shelf) → Rose (sees.fault_count old) (sees.fault_count new.shelf)
     rose_before first rose = rose_from (sees.fault_count old) (sees.fault_count store.shelf) (sees.fault_count new.shelf) first rose
 

@@ -5,6 +5,7 @@ mod Counted
 mod Read
 mod Saved
 mod Purged
+mod Logged
 mod Opened
 mod InTurn
 mod Lasting

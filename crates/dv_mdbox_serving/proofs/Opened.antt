@@ -22,7 +22,9 @@ use Rattle.dv_chain.specs.Creations.{IsOldOrCreated, created, first_log, first_m
 use Rattle.dv_chain.specs.Openings.{IsQuiet, UnlessDisk}
 use Rattle.dv_chain.specs.Rest.{Nothing}
 use Rattle.dv_chain.proofs.Created.{first_file, first_found, first_scanned}
+use Rattle.dv_logfile.specs.declared.commit.Debt.TheVariants as log_debt
 use Rattle.dv_rotation.specs.declared.texts.Turn.{Turn}
+use Rattle.dv_rotation.specs.Texts.{place_of}
 use Rattle.dv_filing.specs.Standing.{Fits, Stands}
 use Rattle.dv_filing.proofs.Resting.{texts_same}
 use Rattle.dv_maps.specs.Laws.{IsMap}
@@ -33,24 +35,26 @@ use Rattle.dv_mdbox.specs.Opening.{IsFresh, IsNewOrOpened, MakesChain, OpensChai
 use Rattle.dv_mdbox.specs.States.{State}
 use Rattle.dv_mdbox_lines.specs.Laws.{new_storage}
 use Rattle.dv_mdbox_serving.specs.Following.{HaveGroups}
-use Rattle.dv_mdbox_serving.specs.Opening.{IsBegun, IsUnopened, LeavesUnopened}
+use Rattle.dv_mdbox_serving.specs.Opening.{IsBegun, IsUnopened, LeavesUnopened, StartsAt}
 use Rattle.dv_mdbox_serving.specs.Places.{GivesStorage, MayLeave, StartsFrom}
 
 -- ---- a folder that gives a storage
 
 -- a folder without a log has no map
+pub no_log_found : (folder : Folder) → IsNew folder → IsFound folder NoLog
+no_log_found folder new = record {
+  log = Missing;
+  rotated = Missing;
+  index = None;
+  log_file = subst (λ (file : Option (List ℕ)). IsScanned file Missing) (sym new.log) tt;
+  rotated_file = tt;
+  index_file = tt;
+  is = refl;
+}
+
 pub new_none : (folder : Folder) (m : Mailbox) (mark : Mark) → IsNew folder → IsFound folder (Finds m mark) → ⊥
 new_none folder m mark new found =
-    let none : IsFound folder NoLog = record {
-      log = Missing;
-      rotated = Missing;
-      index = None;
-      log_file = subst (λ (file : Option (List ℕ)). IsScanned file Missing) (sym new.log) tt;
-      rotated_file = tt;
-      index_file = tt;
-      is = refl;
-    } in
-    let same : Finds m mark ≡ NoLog = found_one folder (Finds m mark) NoLog found none in
+    let same : Finds m mark ≡ NoLog = found_one folder (Finds m mark) NoLog found (no_log_found folder new) in
     cc
 
 -- a folder that opens to the same, with the same message files, gives the same
@@ -123,9 +127,15 @@ module _ {S C : Type 0} (sees : SeesFolder S) (start : Storage) (old : S) (store
   no_groups : HaveGroups [] (length store.entries)
   no_groups = ap (λ (s : State S C). length s.entries) fresh.is
 
-  begun_at : (messages : Messages) → Stands sees messages Nothing store.chain store.shelf → IsMap store.chain.live.mailbox → storage_of messages store.chain.live.mailbox ≡ start → LeavesOnly sees old store.shelf (MayLeave start [] (sees.files old)) → IsSettled sees store.shelf
-      → IsBegun sees start old store
-  begun_at messages stands map is since settled = record {
+  mark_is : store.mark ≡ place_of store.chain
+  mark_is = ap (λ (s : State S C). s.mark) fresh.is
+
+  first_place : store.chain.log ≡ record { file_seq = 1; end = 56; count = 1; debt = log_debt.None } → place_of store.chain ≡ record { file_seq = 1; offset = 56 }
+  first_place is = λ i. record { file_seq = (is i).file_seq; offset = (is i).end }
+
+  begun_at : (messages : Messages) → Stands sees messages Nothing store.chain store.shelf → IsMap store.chain.live.mailbox → storage_of messages store.chain.live.mailbox ≡ start → StartsAt (sees.files old) store.chain.live.mailbox store.mark → LeavesOnly sees old store.shelf (MayLeave start [] (sees.files old))
+      → IsSettled sees store.shelf → IsBegun sees start old store
+  begun_at messages stands map is starts since settled = record {
     follows = record {
       may = tt;
       failures = later;
@@ -138,6 +148,8 @@ module _ {S C : Type 0} (sees : SeesFolder S) (start : Storage) (old : S) (store
       };
       groups = no_groups;
     };
+    starts = starts;
+    none = ap (λ (s : State S C). s.entries) fresh.is;
     since = since;
     settled = settled;
   }
@@ -151,6 +163,7 @@ module _ {S C : Type 0} (sees : SeesFolder S) (start : Storage) (old : S) (store
       let same : gives.mailbox ≡ store.chain.live.mailbox = mailbox_one (sees.files old) gives.mailbox store.chain.live.mailbox gives.mark _ gives.gives.opens.found opens.found in
       begun_at gives.messages (opens.stands gives.messages (subst (λ (m : Mailbox). KeepsTexts gives.messages m (sees.files old)) same gives.gives.keeps)) (subst IsMap same gives.map)
       (ap (storage_of gives.messages) (sym same) ∙ gives.storage)
+      (inl (subst (λ (mark : Mark). IsFound (sees.files old) (Finds store.chain.live.mailbox mark)) (sym mark_is) opens.found))
       (weaker sees old store.shelf (IsQuiet (sees.files old)) (MayLeave start [] (sees.files old)) opens.since (λ c quiet. may_start c (quiet_gives start (sees.files old) c gives quiet))) opens.settled
 
   -- one that was made
@@ -158,6 +171,7 @@ module _ {S C : Type 0} (sees : SeesFolder S) (start : Storage) (old : S) (store
   begun_made new is now u32 makes =
       let first = makes.first.0 in
       begun_at no_messages (makes.stands no_messages) makes.first.1 (ap (storage_of no_messages) first.mailbox ∙ first_storage (stamp_of now) ∙ sym is)
+      (inr (new, (stamp_of now, first.mailbox), mark_is ∙ first_place first.log))
       (weaker sees old store.shelf (IsOldOrCreated (sees.files old) now) (MayLeave start [] (sees.files old)) makes.since
       (λ c. ⊎_elim (λ same. inl (new, same)) (λ made. may_start c (subst (λ (s : Storage). GivesStorage s c) (sym is) (created_gives (sees.files old) c now u32 new made))))) makes.settled
 

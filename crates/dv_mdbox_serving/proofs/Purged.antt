@@ -28,8 +28,9 @@ use Rattle.dv_mdbox_lines.specs.declared.answers.Answer.TheVariants as answer
 use Rattle.dv_mdbox_lines.specs.Playing.{MayAnswer, MayCome, Tried, behind, count_in, item_with, references, without}
 use Rattle.dv_mdbox_lines.specs.Scripts.{Call, Purge}
 use Rattle.dv_playing.specs.Laws.{RiseFrom}
-use Rattle.dv_mdbox_serving.specs.Calls.{IfPurged, IsCalled, fault_answer, purged_answer, tried_of}
+use Rattle.dv_mdbox_serving.specs.Calls.{IsCalled, fault_answer, purged_answer, tried_of}
 use Rattle.dv_mdbox_serving.specs.Following.{Follows, HasGroups, HaveGroups, IsOwedBehind, failure_of}
+use Rattle.dv_mdbox_serving.specs.Groups.{IfPurged}
 use Rattle.dv_mdbox_serving.specs.Places.{GivesBetween, IsWithoutSome, MayMake}
 use Rattle.dv_mdbox_serving.proofs.Giving.{keeps_may}
 use Rattle.dv_mdbox_serving.proofs.Going.{behind_more, cut_new, groups_more}

@@ -19,6 +19,7 @@ use Rattle.dv_serving.specs.Outputs.{Output}
 use Rattle.dv_mdbox_serving.specs.declared.ending.CallEnd.{CallEnd}
 use Rattle.dv_mdbox_serving.specs.declared.ending.CallEnd.TheVariants as call_end
 use Rattle.dv_mdbox_serving.specs.Following.{Follows}
+use Rattle.dv_mdbox_serving.specs.Groups.{LogsCall}
 use Rattle.dv_mdbox_serving.specs.Places.{GivesBetween}
 
 -- ---- answers
@@ -57,11 +58,6 @@ abbrev pub told_of : {E : Type 0} → Result Answer E → Option Answer
 told_of (Ok told) = Some told
 told_of (Err e) = None
 
--- a purge was done, and then this holds
-abbrev pub IfPurged : Option Answer → Type 0 → Type 0
-IfPurged (Some (answer.Purged n)) P = P
-IfPurged told P = ⊤
-
 -- ---- what is left
 
 -- a call, what it was answered, and the ids that it removed
@@ -78,11 +74,13 @@ module _ {S C : Type 0} where
     pub since : LeavesOnly sees old.shelf new.shelf
         (GivesBetween start calls (tried_of call told gone))
 
-  -- it was answered, and of the text of that answer this was written
+  -- it was answered, its groups are the last entries, and of the text of that answer this was
+  -- written
   pub record IsTold (sees : SeesFolder S) (start : Storage) (base : ℕ) (calls : List Tried)
       (call : Call) (written : List ℕ → Type 0) (old new : State S C) : Type 0 where
     pub told : Answer
     pub called : IsCalled sees start base calls call (Some told) old new
+    pub logs : LogsCall call (Some told) old new
     pub output : written (answer_text told)
 
   -- What becomes of one line: the call is answered, and the answer written; or memory ended it, and

@@ -24,6 +24,8 @@ use Rattle.dv_mdbox_serving.specs.declared.ending.CallEnd.TheVariants as call_en
 use Rattle.dv_mdbox_serving.specs.declared.ending.StorageEnd.{StorageEnd}
 use Rattle.dv_mdbox_serving.specs.declared.ending.StorageEnd.TheVariants as end
 use Rattle.dv_mdbox_serving.specs.Following.{HaveGroups, Keeps, failures_of}
+use Rattle.dv_mdbox_serving.specs.Groups.{LogsCalls}
+use Rattle.dv_mdbox_serving.specs.Marks.{EndsAt, IfAnswered}
 use Rattle.dv_mdbox_serving.specs.Opening.{LeavesUnopened}
 use Rattle.dv_mdbox_serving.specs.Places.{GivesBehind, MayGive, MayLeave}
 
@@ -85,24 +87,30 @@ module _ {S C : Type 0} where
   abbrev pub end_behind : Result (Unit {0}) CallEnd → State S C → StorageEnd
   end_behind result store = end_of result store.mark (length store.entries)
 
-  -- What is left keeps the storage behind these calls; a crash at any moment leaves that behind some
+  -- What is left keeps the storage behind these calls, and where all were answered it ends with
+  -- their groups; a crash at any moment leaves that behind some
   -- of them, or what the next one may make.
   pub record Serves (sees : SeesFolder S) (start : Storage) (faults : Faults) (calls : List Call)
       (e : StorageEnd) (out : Output) (old new : State S C) : Type 0 where
     pub tried : AreTried start faults calls e out
     pub keeps : Keeps sees start (tried.answered ++ tried.left) new
+    pub logs : IfAnswered e (λ mark groups. LogsCalls (tried.answered ++ tried.left) old new
+        × (mark ≡ new.mark) × (groups ≡ length new.entries))
     pub since : LeavesOnly sees old.shelf new.shelf
         (MayGive start (tried.answered ++ tried.left))
 
 -- ---- a run over a folder
 
--- The calls were answered in the storage that the folder gives, or a new one. The folder gives the
+-- The calls were answered in the storage that the folder gives, or a new one. Where all were, the
+-- place and the number of groups that are told are those of their groups. The folder gives the
 -- storage behind them, or that with what the last one makes that was cut off; so does what a crash
 -- behind the run leaves, and a crash during it leaves the storage behind some of them, or what the
 -- next one may make. It is settled where the count of faults didn't rise.
 pub record ServesCalls {S : Type 0} (sees : SeesFolder S) (start : Storage) (faults : Faults)
     (calls : List Call) (e : StorageEnd) (out : Output) (old new : S) : Type 0 where
   pub tried : AreTried start faults calls e out
+  pub place : IfAnswered e (λ mark groups.
+      EndsAt start (tried.answered ++ tried.left) mark groups (sees.files old) (sees.may_leave new))
   pub folder : GivesBehind start (tried.answered ++ tried.left) (sees.files new)
   pub after : (c : Folder) → sees.may_leave new c
       → GivesBehind start (tried.answered ++ tried.left) c

@@ -10,8 +10,9 @@ ghost use Rattle.dv_mdbox.specs.States.{IsAtRest};
 ghost use Rattle.dv_mdbox_lines.specs.Playing.{Tried};
 ghost use Rattle.dv_mdbox_lines.specs.Scripts as scripts;
 ghost use Rattle.dv_mdbox_lines.specs.Views.{said};
-ghost use Rattle.dv_mdbox_serving.specs.Calls.{IfPurged, IsCalled, told_of};
+ghost use Rattle.dv_mdbox_serving.specs.Calls.{IsCalled, told_of};
 ghost use Rattle.dv_mdbox_serving.specs.Following.{Follows};
+ghost use Rattle.dv_mdbox_serving.specs.Groups.{IfPurged, LogsCall};
 
 use crate::answering::{counted_answer, purged_answer, read_answer, saved_answer};
 use dv_mdbox::Storage;
@@ -23,7 +24,9 @@ use dv_shelf::{Clock, Shelf};
 fn save<S: Shelf, C: Clock>(storage: &mut Storage<S, C>, message: &[u8]) -> Result<Answer, NoMemory>
     ensures called { S.sees.tells → (start : storages.Storage) (base : ℕ) (calls : List Tried) →
         Follows S.sees start base calls storage.old →
-        IsCalled S.sees start base calls (scripts.Save message.now) (told_of result) storage.old storage.new }
+        IsCalled S.sees start base calls (scripts.Save message.now) (told_of result)
+        storage.old storage.new }
+    ensures logs { LogsCall (scripts.Save message.now) (told_of result) storage.old storage.new }
     ensures settled { S.sees.tells → StaysSettled S.sees storage.old.shelf storage.new.shelf }
     ensures later { S.sees.fault_count storage.old.shelf ≤ S.sees.fault_count storage.new.shelf }
 {
@@ -35,7 +38,9 @@ fn save<S: Shelf, C: Clock>(storage: &mut Storage<S, C>, message: &[u8]) -> Resu
 fn copy<S: Shelf, C: Clock>(storage: &mut Storage<S, C>, id: u32) -> Result<Answer, NoMemory>
     ensures called { S.sees.tells → (start : storages.Storage) (base : ℕ) (calls : List Tried) →
         Follows S.sees start base calls storage.old →
-        IsCalled S.sees start base calls (scripts.Copy id) (told_of result) storage.old storage.new }
+        IsCalled S.sees start base calls (scripts.Copy id) (told_of result)
+        storage.old storage.new }
+    ensures logs { LogsCall (scripts.Copy id) (told_of result) storage.old storage.new }
     ensures settled { S.sees.tells → StaysSettled S.sees storage.old.shelf storage.new.shelf }
     ensures later { S.sees.fault_count storage.old.shelf ≤ S.sees.fault_count storage.new.shelf }
 {
@@ -46,7 +51,9 @@ fn copy<S: Shelf, C: Clock>(storage: &mut Storage<S, C>, id: u32) -> Result<Answ
 fn drop_one<S: Shelf, C: Clock>(storage: &mut Storage<S, C>, id: u32) -> Result<Answer, NoMemory>
     ensures called { S.sees.tells → (start : storages.Storage) (base : ℕ) (calls : List Tried) →
         Follows S.sees start base calls storage.old →
-        IsCalled S.sees start base calls (scripts.Drop id) (told_of result) storage.old storage.new }
+        IsCalled S.sees start base calls (scripts.Drop id) (told_of result)
+        storage.old storage.new }
+    ensures logs { LogsCall (scripts.Drop id) (told_of result) storage.old storage.new }
     ensures settled { S.sees.tells → StaysSettled S.sees storage.old.shelf storage.new.shelf }
     ensures later { S.sees.fault_count storage.old.shelf ≤ S.sees.fault_count storage.new.shelf }
 {
@@ -58,6 +65,7 @@ fn get<S: Shelf, C: Clock>(storage: &mut Storage<S, C>, id: u32) -> Result<Answe
     ensures called { S.sees.tells → (start : storages.Storage) (base : ℕ) (calls : List Tried) →
         Follows S.sees start base calls storage.old →
         IsCalled S.sees start base calls (scripts.Get id) (told_of result) storage.old storage.new }
+    ensures logs { LogsCall (scripts.Get id) (told_of result) storage.old storage.new }
     ensures settled { S.sees.tells → StaysSettled S.sees storage.old.shelf storage.new.shelf }
     ensures later { S.sees.fault_count storage.old.shelf ≤ S.sees.fault_count storage.new.shelf }
 {
@@ -74,6 +82,7 @@ fn purge<S: Shelf, C: Clock>(storage: &mut Storage<S, C>) -> Result<Answer, NoMe
     ensures clears { S.sees.tells → (messages : Messages) (debt : Owed) →
         IsAtRest S.sees messages debt storage.old → IfPurged (told_of result)
         (IsCleared (S.sees.files storage.new.shelf) storage.new.chain.live.mailbox) }
+    ensures logs { LogsCall scripts.Purge (told_of result) storage.old storage.new }
     ensures settled { S.sees.tells → StaysSettled S.sees storage.old.shelf storage.new.shelf }
     ensures later { S.sees.fault_count storage.old.shelf ≤ S.sees.fault_count storage.new.shelf }
 {
@@ -89,12 +98,16 @@ pub fn answer_call<S: Shelf, C: Clock>(
     // It comes behind others by the storage's rules, and what a crash leaves at any moment.
     ensures called { S.sees.tells → (start : storages.Storage) (base : ℕ) (calls : List Tried) →
         Follows S.sees start base calls storage.old →
-        IsCalled S.sees start base calls (said call.entry) (told_of result) storage.old storage.new }
+        IsCalled S.sees start base calls (said call.entry) (told_of result)
+        storage.old storage.new }
     // A purge that is done leaves each message file named, and no id without references, but in
     // files that were passed over.
     ensures clears { S.sees.tells → said call.entry ≡ scripts.Purge →
-        (messages : Messages) (debt : Owed) → IsAtRest S.sees messages debt storage.old → IfPurged (told_of result)
+        (messages : Messages) (debt : Owed) → IsAtRest S.sees messages debt storage.old →
+        IfPurged (told_of result)
         (IsCleared (S.sees.files storage.new.shelf) storage.new.chain.live.mailbox) }
+    // Its groups are the last entries, and the mark is behind them, over any shelf.
+    ensures logs { LogsCall (said call.entry) (told_of result) storage.old storage.new }
     ensures settled { S.sees.tells → StaysSettled S.sees storage.old.shelf storage.new.shelf }
     ensures later { S.sees.fault_count storage.old.shelf ≤ S.sees.fault_count storage.new.shelf }
 {

@@ -11,7 +11,8 @@ pub fn counts_go_on()
 {}
 
 /// From what a run leaves, or a crash at any moment of it, a next one may begin, and what it finds
-/// is what some calls make of a new storage. Nothing is computed.
+/// is what the calls before the run and the first of its own make of a new storage, with what the
+/// next of them makes, where that is found. Nothing is computed.
 pub fn next_runs_begin()
     ensures { NextRunsBegin }
 {}

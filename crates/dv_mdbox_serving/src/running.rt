@@ -1,11 +1,13 @@
 //! A run over a storage's folder.
 
-ghost use Rattle.std.specs.Prelude.{◌≡◌, ◌≤◌};
+ghost use Rattle.std.specs.Prelude.{◌≡◌, ◌≤◌, List};
 ghost use Rattle.dv_shelf.specs.Crashes.{IsSettled};
 ghost use Rattle.dv_maps.specs.Storages as storages;
+ghost use Rattle.dv_mdbox_lines.specs.Playing.{Tried};
 ghost use Rattle.dv_mdbox_lines.specs.Views.{calls_left};
 ghost use Rattle.dv_serving.specs.Faults.{faults_between, faults_of};
 ghost use Rattle.dv_serving.specs.Outputs.{output_of};
+ghost use Rattle.dv_mdbox_serving.specs.Laws.{BeginsNext, IsMadeBy};
 ghost use Rattle.dv_mdbox_serving.specs.Opening.{IsBegun};
 ghost use Rattle.dv_mdbox_serving.specs.Places.{StartsFrom};
 ghost use Rattle.dv_mdbox_serving.specs.Runs as runs;
@@ -47,8 +49,8 @@ fn serve_all<S: Shelf, C: Clock, O: Sink>(
     // Where a run begins from it: what is answered, written and left.
     ensures runs { S.sees.tells → (start : storages.Storage) (old : S) →
         IsBegun S.sees start old storage →
-        ServesCalls S.sees start (faults_of S.sees old result.shelf) (calls_left calls.entry) result.end
-        (output_of O.sees out.old out.new) old result.shelf }
+        ServesCalls S.sees start (faults_of S.sees old result.shelf) (calls_left calls.entry)
+        result.end (output_of O.sees out.old out.new) old result.shelf }
     ensures ends { EndsServing result.end }
     ensures later { (S.sees.fault_count storage.shelf ≤ S.sees.fault_count result.shelf)
         × (O.sees.fault_count out.old ≤ O.sees.fault_count out.new) }
@@ -80,7 +82,14 @@ pub fn run_storage<S: Shelf, C: Clock, O: Sink>(
     // Of any settled folder: where none is opened, nothing is written, and what is left.
     ensures unopened { S.sees.tells → IsSettled S.sees shelf →
         IfUnopened S.sees result.end (output_of O.sees out.old out.new) shelf result.shelf }
-    // Of any folder: a fault that is found is told, and only where there is none calls are answered.
+    // What a read gives then, and a crash leaves, at any moment too, is what a next run may begin
+    // from, behind the calls before this one and some of its own, so that counts go on.
+    ensures next { S.sees.tells → IsSettled S.sees shelf → (earlier : List Tried)
+        (start : storages.Storage) → IsMadeBy earlier start →
+        StartsFrom (S.sees.files shelf) start →
+        BeginsNext S.sees earlier shelf result.shelf }
+    // Of any folder: a fault that is found is told, and only where there is none calls are
+    // answered.
     ensures found { S.sees.tells → TellsFolderAt (S.sees.files shelf) result.end }
     // The counts of faults never fall, and each end has its cause.
     ensures later { (S.sees.fault_count shelf ≤ S.sees.fault_count result.shelf)

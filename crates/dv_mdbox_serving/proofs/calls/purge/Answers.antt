@@ -3,8 +3,9 @@ use Rattle.dv_mdbox_lines.specs.declared.answers.Answer.{Answer}
 use Rattle.dv_mdbox_serving.specs.Calls.{IsCalled}
 use Rattle.dv_mdbox.specs.Purging.{IsCleared}
 use Rattle.dv_mdbox_lines.specs.Scripts.{Purge}
-use Rattle.dv_mdbox_serving.specs.Calls.{IfPurged}
+use Rattle.dv_mdbox_serving.specs.Groups.{IfPurged, LogsCall}
 use Rattle.dv_mdbox_serving.proofs.Purged.{purged_called, purged_clears}
+use Rattle.dv_mdbox_serving.proofs.Logged.{purge_logs}
 use Rattle.dv_mdbox_serving.proofs.calls.purge.Goals as goal
 
 pub returns-clause-called : goal.returns-clause-called
@@ -21,3 +22,8 @@ returns-clause-clears g c = λ tells messages debt rest.
     let new = c.purge.new.self in
     let P = IsCleared (g.S.Shelf.sees.files new.shelf) new.chain.live.mailbox in
     subst (λ (told : Option Answer). IfPurged told P) (sym c.purged_answer.ensures) (purged_clears P c.purge.result (c.purge.ensures.clears tells messages debt rest))
+
+pub returns-clause-logs : goal.returns-clause-logs
+returns-clause-logs g c =
+    let old = c.args.storage.now in
+    subst (λ (told : Option Answer). LogsCall Purge told old c.purge.new.self) (sym c.purged_answer.ensures) (purge_logs old c.purge.new.self c.purge.result c.purge.ensures.value)

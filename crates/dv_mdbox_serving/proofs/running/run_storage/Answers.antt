@@ -3,6 +3,7 @@ use Rattle.dv_serving.specs.Faults.{faults_between, faults_of}
 use Rattle.dv_serving.specs.Outputs.{output_of}
 use Rattle.dv_mdbox_lines.specs.Views.{calls_left}
 use Rattle.dv_mdbox_serving.proofs.InTurn.{serving_cause, serving_found, serving_opened, serving_runs, serving_takes}
+use Rattle.dv_mdbox_serving.proofs.Lasting.{served_next, unopened_next}
 use Rattle.dv_mdbox_serving.proofs.running.run_storage.Goals as goal
 
 -- ---- it was opened
@@ -35,7 +36,21 @@ returns-in-Ok-clause-cause g c =
 pub returns-in-Ok-clause-clock : goal.returns-in-Ok-clause-clock
 returns-in-Ok-clause-clock g c = λ reads. serving_takes c.serve_all.result.end (g.C.Clock.sees.upcoming c.args.clock) (g.C.Clock.sees.upcoming c.serve_all.result.clock) c.serve_all.ensures.ends
 
+pub returns-in-Ok-clause-next : goal.returns-in-Ok-clause-next
+returns-in-Ok-clause-next g c = λ tells settled earlier start is from.
+    let S = g.S.Shelf in
+    let O = g.O.Sink in
+    let old = c.args.shelf in
+    let ran = c.serve_all.result in
+    served_next earlier start is S.sees old ran.shelf from (faults_of S.sees old ran.shelf) (calls_left c.args.calls) ran.end (output_of O.sees c.args.out.now c.serve_all.new.out)
+    (c.serve_all.ensures.runs tells start old (c.in-Ok.ensures.begins tells settled start from))
+
 -- ---- or it wasn't
+
+pub returns-in-Err-clause-next : goal.returns-in-Err-clause-next
+returns-in-Err-clause-next g c = λ tells settled earlier start is from.
+    let left = c.in-Err.ensures.unopened tells settled in
+    unopened_next earlier start is g.S.Shelf.sees c.args.shelf _ from _ left
 
 pub returns-in-Err-clause-runs : goal.returns-in-Err-clause-runs
 returns-in-Err-clause-runs g c = λ tells settled start from. (λ told. refl, c.in-Err.ensures.unopened tells settled)

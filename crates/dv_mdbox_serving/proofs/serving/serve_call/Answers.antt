@@ -19,6 +19,7 @@ pub returns-in-Ok-clause-runs : goal.returns-in-Ok-clause-runs
 returns-in-Ok-clause-runs g c = λ tells start base calls follows. record {
   told = c.in_ok-answer.answer;
   called = c.in_ok-answer.ensures.called tells start base calls follows;
+  logs = c.in_ok-answer.ensures.logs;
   output = λ told. c.in-Ok.ensures.ok told;
 }
 
@@ -27,5 +28,6 @@ pub returns-clause-runs : goal.returns-clause-runs
 returns-clause-runs g c = λ tells start base calls follows. record {
   told = c.in_ok-answer.answer;
   called = c.in_ok-answer.ensures.called tells start base calls follows;
+  logs = c.in_ok-answer.ensures.logs;
   output = λ told. c.in-Err.ensures.err told;
 }
