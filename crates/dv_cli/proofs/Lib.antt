@@ -1,24 +1,23 @@
 mod Concluding
 mod AllServed
-mod Statuses
-mod Takes
+pub mod Statuses
+pub mod Takes
 mod Leaving
-mod Timed
+pub mod Timed
 mod Served
-mod Folders
-mod Parsed
+pub mod Folders
+pub mod Parsed
 mod ScriptRuns
 mod StorageRuns
-mod WholeRuns
+pub mod WholeRuns
 mod ClientRuns
 mod Watched
 mod WatchRuns
 mod WrongWords
-mod Reached
+pub mod Reached
 mod FoundTold
 mod Untold
 mod Tasked
-mod Told
-mod Untelling
+pub mod Told
 mod Restarting
 mod NextRuns

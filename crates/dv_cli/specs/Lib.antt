@@ -17,5 +17,4 @@ pub mod Storing
 pub mod Scripts
 pub mod WrongWords
 pub mod Told
-pub mod Obeying
 pub mod Restarts

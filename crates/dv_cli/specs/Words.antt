@@ -1,4 +1,4 @@
--- What the program's words ask for. The word in the folder's place comes first.
+-- What the words of a run ask for.
 use Rattle.std.specs.Prelude.{◌≡◌, ◌⊎◌, ◌≤◌, ◌^◌, ⊤, ℕ, Bool, true, false, List, [], ◌∷◌, Option, Some, None, bytes_eq, codes, nat_le, option_map, if◌then◌else◌}
 use Rattle.dv_model.specs.declared.types.Key.{Key}
 use Rattle.dv_shelf.specs.Streams.{Appends, AppendsFront}
@@ -7,30 +7,9 @@ use Rattle.dv_catching.specs.Clients.{client_of}
 use Rattle.dv_search.specs.Nesting.{levels_of, most_levels}
 use Rattle.dv_live.specs.Steadiness.{steady}
 use Rattle.dv_watching.specs.Keys.{steady_key}
-use Rattle.dv_disk.specs.declared.files.Missing.{Missing}
-use Rattle.dv_disk.specs.declared.files.Missing.TheVariants as missing
-use Rattle.dv_folder.specs.declared.names.Layout.{Layout}
-use Rattle.dv_folder.specs.declared.names.Layout.TheVariants as layout
 use Rattle.dv_cli.specs.declared.words.Load.{Load}
 use Rattle.dv_cli.specs.declared.words.Task.{Task}
 use Rattle.dv_cli.specs.declared.words.Task.TheVariants as task
-
--- the first word is this one
-abbrev pub asks_for : List ℕ → List (List ℕ) → Bool
-asks_for asked [] = false
-asks_for asked (word ∷ words) = bytes_eq word asked
-
--- the folder's path; the empty one where there is no word
-abbrev pub folder_word : List (List ℕ) → List ℕ
-folder_word [] = []
-folder_word (folder ∷ words) = folder
-
--- the words behind the folder
-abbrev pub run_words : List (List ℕ) → List (List ℕ)
-run_words [] = []
-run_words (folder ∷ words) = words
-
--- ---- what they ask for
 
 -- a load that is generated: a seed below 2^64, up to 1,000,000 commands, and 1 to 64 sessions, in
 -- digits without leading zeros
@@ -84,16 +63,6 @@ IsResync other = ⊥
 abbrev pub IsWatch : List (List ℕ) → Type 0
 IsWatch (word ∷ key ∷ []) = bytes_eq word (codes "watch") ≡ true
 IsWatch words = ⊥
-
--- a rebuild doesn't make a folder that is missing
-abbrev pub missing_for : Option Task → Missing
-missing_for (Some task.Rebuild) = missing.Refuse
-missing_for other = missing.Make
-
--- a storage's files have names of their own
-abbrev pub layout_for : Option Task → Layout
-layout_for (Some task.Storage) = layout.Storage
-layout_for other = layout.Mailbox
 
 -- ---- what is printed
 

@@ -4,9 +4,7 @@
 
 mod beside;
 mod ending;
-mod errors;
 mod loading;
-mod program;
 mod reading;
 mod rebuilding;
 mod restarts;
@@ -20,7 +18,8 @@ mod top_call;
 mod watching;
 mod words;
 
-pub use errors::ErrorOutput;
-pub use program::{obey_read, words_given};
+pub use ending::{End, Loaded, conclude, write_text};
 pub use restarts::{restarts_may_run, runs_may_follow};
-pub use top_call::{Ran, run};
+pub use running::{Outcome, untouched};
+pub use top_call::{Ran, run, script_text, told_of};
+pub use words::Load;

@@ -57,7 +57,7 @@ pub struct Ran<S, C> {
 }
 
 /// The script's text, or how a run without it ends.
-fn script_text<I: Source>(alloc: Global, script: &mut I) -> Result<Bytes, End>
+pub fn script_text<I: Source>(alloc: Global, script: &mut I) -> Result<Bytes, End>
     ensures text { I.sees.tells → IfOk result (λ text. AreAlike text (I.sees.left script.old)) }
     ensures front { I.sees.tells →
         IfOk result (λ text. text ≡ take read_limit (I.sees.left script.old)) }
@@ -76,7 +76,7 @@ fn script_text<I: Source>(alloc: Global, script: &mut I) -> Result<Bytes, End>
 }
 
 /// What is told of a script that is refused: its first bad line, where there is memory for it.
-fn told_of(alloc: Global, text: &[u8], end: ScriptEnd) -> Told
+pub fn told_of(alloc: Global, text: &[u8], end: ScriptEnd) -> Told
     ensures line { TellsEnd text.now (how.Script end) result }
     ensures at { IsToldAt (how.Script end) result }
 {

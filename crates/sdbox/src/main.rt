@@ -1,12 +1,12 @@
 //! `sdbox`: a mailbox folder served to sessions by a script, or rebuilt.
 #![tactic(auto)]
 
-use dv_cli::{ErrorOutput, obey_read, words_given};
 use dv_folder::Output;
+use dv_program::{ErrorOutput, obey_read, words_given};
 use std::process::ExitCode;
 
 fn main(rt: HostRuntime) -> ExitCode {
     let mut out = Output::new(rt);
     let mut errors = ErrorOutput::new(rt);
-    ExitCode::from(obey_read(rt, &mut out, &mut errors, words_given(rt)))
+    ExitCode::from(obey_read(rt, &rt, &mut out, &mut errors, words_given(rt)))
 }

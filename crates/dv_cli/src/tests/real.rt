@@ -1,11 +1,9 @@
-use super::{Setting, bytes_of, ends, given, play_in, rows, strings};
-use crate::program::obey_read;
+use super::{Setting, ends, given, play_in, rows};
 use dv_folder::{Folder as RealFolder, Layout, Missing};
-use dv_model::{List, NoMemory};
-use dv_shelf::{MemSink, Name, OpenGate, Shelf};
+use dv_model::NoMemory;
+use dv_shelf::OpenGate;
 use std::alloc::Global;
 use std::test::Fail;
-use std::time::{SystemTime, UNIX_EPOCH};
 use std::{fs, process};
 
 fn path_of(rt: HostRuntime, name: &str) -> Result<String, Fail> {
@@ -112,25 +110,6 @@ fn a_real_storage_keeps_messages_until_the_next_run(rt: HostRuntime) -> Result<(
     Ok(())
 }
 
-/// Fails unless the folder that the first word made is refused by the other.
-fn is_refused_by(rt: HostRuntime, word: &'static str, other: &'static str) -> Result<(), Fail> {
-    let path = path_of(rt, word)?;
-    let (status, out, _errors) = obeyed(rt, &[path.as_str(), word])?;
-    assert_eq!(rt; status, 0);
-    assert!(rt; out.taken() == b"END 0 MARK 1:56 GROUPS 0\n".as_slice());
-    let (status, out, _errors) = obeyed(rt, &[path.as_str(), other])?;
-    assert_eq!(rt; status, 2);
-    assert!(rt; out.taken() == b"FAULT 2 DISK 1\n".as_slice());
-    fs::remove_dir_all(&rt, path.as_str())?;
-    Ok(())
-}
-
-#[test]
-fn neither_word_takes_a_folder_of_the_other(rt: HostRuntime) -> Result<(), Fail> {
-    is_refused_by(rt, "run", "mdbox")?;
-    is_refused_by(rt, "mdbox", "run")
-}
-
 #[test]
 fn a_second_run_at_once_is_refused(rt: HostRuntime) -> Result<(), Fail> {
     let alloc = rt.alloc();
@@ -144,109 +123,6 @@ fn a_second_run_at_once_is_refused(rt: HostRuntime) -> Result<(), Fail> {
     ends(&rt, &first, 0, FIRST_TEXT);
     drop(first);
     drop(second);
-    fs::remove_dir_all(&rt, path.as_str())?;
-    Ok(())
-}
-
-/// What the program writes to its output and to standard error by these words, and its status.
-fn obeyed(rt: HostRuntime, words: &[&str]) -> Result<(u8, MemSink, MemSink), Fail> {
-    let alloc = rt.alloc();
-    let mut out = MemSink::new(alloc, 10_000, List::new(alloc))?;
-    let mut errors = MemSink::new(alloc, 10_000, List::new(alloc))?;
-    let words = strings(alloc, words)?;
-    let status = obey_read(rt, &mut out, &mut errors, Ok(Ok(words)));
-    Ok((status, out, errors))
-}
-
-/// The number at a place of a file.
-fn number_at(bytes: &[u8], at: usize) -> u64 {
-    let (_, rest) = bytes.split_at(at.min(bytes.len()));
-    match rest {
-        [a, b, c, d, ..] => u64::from(u32::from_le_bytes([*a, *b, *c, *d])),
-        _ => 0,
-    }
-}
-
-#[test]
-fn the_named_folder_is_made_by_the_real_clock(rt: HostRuntime) -> Result<(), Fail> {
-    let alloc = rt.alloc();
-    let path = path_of(rt, "named")?;
-    let (status, out, errors) = obeyed(rt, &[path.as_str(), "run"])?;
-    assert_eq!(rt; status, 0);
-    assert!(rt; out.taken() == b"END 0 MARK 1:56 GROUPS 0\n".as_slice());
-    assert!(rt; errors.taken().is_empty());
-    let log = fs::read(&rt, format!(in alloc; "{path}/dovecot.index.log")?)?;
-    let made = number_at(log.as_slice(), 4);
-    let now = SystemTime::now(&rt)?.duration_since(UNIX_EPOCH)?.as_secs();
-    assert!(rt; made <= now && now - made < 1000, "{made}");
-    fs::remove_dir_all(&rt, path.as_str())?;
-    Ok(())
-}
-
-const USAGE: &str =
-    "usage: sdbox FOLDER run < SCRIPT\n       sdbox FOLDER watch KEY < SCRIPT\n       \
-    sdbox FOLDER rebuild\n       sdbox FOLDER gen SEED COUNT SESSIONS\n       \
-    sdbox FOLDER resync VALIDITY MODSEQ SET\n       sdbox FOLDER mdbox < SCRIPT\n";
-
-#[test]
-fn wrong_words_are_told_on_both_outputs(rt: HostRuntime) -> Result<(), Fail> {
-    for words in [
-        &["nowhere_at_all", "run", "--thread"] as &[&str],
-        &["nowhere_at_all"],
-        &[],
-    ] {
-        let (status, out, errors) = obeyed(rt, words)?;
-        assert_eq!(rt; status, 1);
-        assert!(rt; out.taken() == b"FAULT 1 USAGE\n".as_slice());
-        assert!(rt; errors.taken() == USAGE.as_bytes());
-    }
-    Ok(())
-}
-
-#[test]
-fn help_names_each_command(rt: HostRuntime) -> Result<(), Fail> {
-    let (status, out, errors) = obeyed(rt, &["--help"])?;
-    assert_eq!(rt; status, 0);
-    assert!(rt; errors.taken().is_empty());
-    for word in [
-        "SELECT",
-        "NOOP",
-        "CHECK",
-        "APPEND",
-        "EXPUNGE",
-        "FETCH",
-        "STORE",
-        "SEARCH",
-        "UID REMOVE",
-        "SAVE",
-        "COPY",
-        "DROP",
-        "GET",
-        "PURGE",
-    ] {
-        assert!(rt; super::count_of(out.taken(), word.as_bytes()) > 0, "{word}");
-    }
-    Ok(())
-}
-
-#[test]
-fn a_rebuild_makes_no_folder(rt: HostRuntime) -> Result<(), Fail> {
-    let path = path_of(rt, "missing")?;
-    let (status, out, _errors) = obeyed(rt, &[path.as_str(), "rebuild"])?;
-    assert_eq!(rt; status, 2);
-    assert!(rt; out.taken() == b"FAULT 2 DISK 1\n".as_slice());
-    assert!(rt; fs::metadata(&rt, path.as_str()).is_err());
-    Ok(())
-}
-
-#[test]
-fn a_rebuild_says_what_it_found(rt: HostRuntime) -> Result<(), Fail> {
-    let path = path_of(rt, "empty")?;
-    fs::create_dir(&rt, path.as_str())?;
-    let (status, out, errors) = obeyed(rt, &[path.as_str(), "rebuild"])?;
-    assert_eq!(rt; status, 0);
-    assert!(rt; out.taken() == b"END 0 REBUILT kept 0 skipped 0\n".as_slice());
-    assert!(rt; !errors.taken().is_empty());
     fs::remove_dir_all(&rt, path.as_str())?;
     Ok(())
 }

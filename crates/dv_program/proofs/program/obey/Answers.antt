@@ -1,6 +1,6 @@
 use Rattle.std.proofs.Common.{◌≡◌, ◌∙◌, inl, inr, sym, arith}
 use Rattle.std.proofs.lemmas.Bool.{false≢true}
-use Rattle.dv_cli.proofs.program.obey.Goals as goal
+use Rattle.dv_program.proofs.program.obey.Goals as goal
 
 pub returns-then-asks-clause-obeys : goal.returns-then-asks-clause-obeys
 returns-then-asks-clause-obeys g c =

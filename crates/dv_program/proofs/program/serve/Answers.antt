@@ -1,5 +1,5 @@
 use Rattle.std.proofs.Common.{inl, inr, ⊎_elim}
-use Rattle.dv_cli.proofs.program.serve.Goals as goal
+use Rattle.dv_program.proofs.program.serve.Goals as goal
 
 pub returns-clause-usage : goal.returns-clause-usage
 returns-clause-usage g c = λ none.

@@ -2,15 +2,17 @@
 
 ghost use Rattle.std.specs.Prelude.{◌≡◌, ◌⊎◌, ◌≤◌, [], IfErr, IfOk, MatchBool, None, Ok, false, map, string_bytes};
 ghost use Rattle.dv_model.specs.Counts.{Rose};
-ghost use Rattle.dv_cli.specs.Obeying.{IsMemory, Obeys, SaysOf, Tells, TellsErrors};
 ghost use Rattle.dv_notices.specs.declared.telling.Told.TheVariants as telling;
 ghost use Rattle.dv_cli.specs.Running.{memory_text, usage_text};
-ghost use Rattle.dv_cli.specs.Words.{Prints, asks_for, folder_word, layout_for, missing_for, run_words, task_of};
+ghost use Rattle.dv_cli.specs.Words.{Prints};
+ghost use Rattle.dv_program.specs.Forms.{task_by};
+ghost use Rattle.dv_program.specs.Obeying.{IsMemory, Obeys, SaysOf, Tells, TellsErrors};
+ghost use Rattle.dv_program.specs.Words.{asks_for, folder_word, layout_for, missing_for, run_words};
 ghost use Rattle.dv_folder.specs.Paths.{layout_of, missing_of, path_of};
 ghost use Rattle.dv_folder.specs.Ways.{folder_path};
 
-use crate::ending::{End, conclude, write_text};
-use crate::top_call::{Ran, run};
+use crate::top_call::run;
+use dv_cli::{End, Ran, conclude, write_text};
 use dv_folder::{Folder, Input, Layout, Missing, SystemClock};
 use dv_model::NoMemory;
 use dv_notices::{Told, told_text};
@@ -18,6 +20,8 @@ use dv_shelf::{OpenGate, Sink};
 use std::alloc::{AllocError, Global};
 use std::env;
 use std::io::ErrorKind;
+use std::sync::Wait;
+use std::thread::Threads;
 
 /// The word that asks for the text on the program, in the place of the folder.
 const HELP_WORD: &str = "--help";
@@ -28,6 +32,7 @@ const VERSION_WORD: &str = "--version";
 const VERSION: &[u8] = b"sdbox 0.1.0\n";
 
 const USAGE: &[u8] = b"usage: sdbox FOLDER run < SCRIPT
+       sdbox FOLDER run --threads < SCRIPT
        sdbox FOLDER watch KEY < SCRIPT
        sdbox FOLDER rebuild
        sdbox FOLDER gen SEED COUNT SESSIONS
@@ -36,6 +41,7 @@ const USAGE: &[u8] = b"usage: sdbox FOLDER run < SCRIPT
 ";
 
 const HELP: &[u8] = b"usage: sdbox FOLDER run < SCRIPT
+       sdbox FOLDER run --threads < SCRIPT
        sdbox FOLDER watch KEY < SCRIPT
        sdbox FOLDER rebuild
        sdbox FOLDER gen SEED COUNT SESSIONS
@@ -62,6 +68,10 @@ are passed over.
 
 SET is numbers, * and ranges with commas between, as 1,3:5,7:*. FLAGS are \\Answered, \\Flagged,
 \\Deleted, \\Seen, \\Draft and keywords.
+
+run --threads answers the commands of each session in a thread of its own, all in one mailbox. The
+replies stay in memory and are written once all sessions have ended, session by session: large
+FETCHes belong to run.
 
 watch answers a script as run does, of at most 63 sessions, and keeps a search beside it: behind the
 replies to each command that wrote a group a line WATCH has the UIDs of the messages that then meet
@@ -142,7 +152,7 @@ fn asks(words: &[String], word: &str) -> bool
 
 /// What is done about a folder that is missing, by the words behind it: a rebuild makes none.
 fn missing_for(words: &[String]) -> Missing
-    ensures { result ≡ missing_for (task_of (map string_bytes words.now)) }
+    ensures { result ≡ missing_for (task_by (map string_bytes words.now)) }
 {
     match words {
         [word] if word.as_str() == "rebuild" => Missing::Refuse,
@@ -152,7 +162,7 @@ fn missing_for(words: &[String]) -> Missing
 
 /// How the files of the folder are named, by the words behind it.
 fn layout_for(words: &[String]) -> Layout
-    ensures { result ≡ layout_for (task_of (map string_bytes words.now)) }
+    ensures { result ≡ layout_for (task_by (map string_bytes words.now)) }
 {
     match words {
         [word] if word.as_str() == "mdbox" => Layout::Storage,
@@ -164,12 +174,12 @@ fn layout_for(words: &[String]) -> Layout
 /// missing, or not.
 fn folder_named(rt: HostRuntime, words: &[String]) -> Result<Folder, NoMemory>
     ensures path { IfOk result (λ shelf. path_of shelf
-        ≡ folder_path (layout_for (task_of (run_words (map string_bytes words.now))))
+        ≡ folder_path (layout_for (task_by (run_words (map string_bytes words.now))))
         (folder_word (map string_bytes words.now))) }
     ensures layout { IfOk result (λ shelf. layout_of shelf
-        ≡ layout_for (task_of (run_words (map string_bytes words.now)))) }
+        ≡ layout_for (task_by (run_words (map string_bytes words.now)))) }
     ensures missing { IfOk result (λ shelf. missing_of shelf
-        ≡ missing_for (task_of (run_words (map string_bytes words.now)))) }
+        ≡ missing_for (task_by (run_words (map string_bytes words.now)))) }
 {
     let path = match words {
         [path, ..] => path.as_str(),
@@ -236,23 +246,24 @@ fn tell<E: Sink>(alloc: Global, errors: &mut E, status: u8, told: &Told)
 
 /// Serves a folder by these words, and gives the exit status. Words that aren't those of a run
 /// are answered on standard error too, unless memory runs out before they are known for that.
-fn serve<O: Sink, E: Sink>(
+fn serve<O: Sink, E: Sink, R: Threads + Wait + Sync>(
     rt: HostRuntime,
+    threads: &R,
     out: &mut O,
     errors: &mut E,
     shelf: Folder,
     words: &[String],
 ) -> u8
-    ensures usage { task_of (map string_bytes words.now) ≡ None →
+    ensures usage { task_by (map string_bytes words.now) ≡ None →
         (result ≡ 1) ⊎ (result ≡ 4) ⊎ (result ≡ 7) }
-    ensures usage_output { task_of (map string_bytes words.now) ≡ None → O.sees.tells →
+    ensures usage_output { task_by (map string_bytes words.now) ≡ None → O.sees.tells →
         Prints 1 usage_text result (O.sees.taken out.old) (O.sees.taken out.new)
         ⊎ Prints 4 memory_text result (O.sees.taken out.old) (O.sees.taken out.new) }
-    ensures usage_only { result ≡ 1 → task_of (map string_bytes words.now) ≡ None }
+    ensures usage_only { result ≡ 1 → task_by (map string_bytes words.now) ≡ None }
     ensures sink { result ≡ 7 → Rose (O.sees.fault_count out.old) (O.sees.fault_count out.new) }
     ensures small { result ≤ 7 }
     // Standard error takes the usage text at status 1, and else what the run tells.
-    ensures told { TellsErrors E.sees (task_of (map string_bytes words.now)) result
+    ensures told { TellsErrors E.sees (task_by (map string_bytes words.now)) result
         errors.old errors.new }
 {
     let mut script = Input::new(rt);
@@ -262,7 +273,16 @@ fn serve<O: Sink, E: Sink>(
         told,
         shelf: _shelf,
         clock: _clock,
-    } = run(rt.alloc(), words, shelf, &mut script, out, clock, &OpenGate);
+    } = run(
+        threads,
+        rt.alloc(),
+        words,
+        shelf,
+        &mut script,
+        out,
+        clock,
+        &OpenGate,
+    );
     tell(rt.alloc(), errors, status, &told);
     status
 }
@@ -270,11 +290,17 @@ fn serve<O: Sink, E: Sink>(
 /// Does what the program's words ask for, and gives the exit status, which is that of the run
 /// where they aren't `--help` or `--version`. The first word is the folder's path; where there is
 /// none, there are no words behind it either.
-fn obey<O: Sink, E: Sink>(rt: HostRuntime, out: &mut O, errors: &mut E, words: &[String]) -> u8
+fn obey<O: Sink, E: Sink, R: Threads + Wait + Sync>(
+    rt: HostRuntime,
+    threads: &R,
+    out: &mut O,
+    errors: &mut E,
+    words: &[String],
+) -> u8
     ensures obeys { Obeys (map string_bytes words.now) result O.sees.tells (O.sees.taken out.old)
         (O.sees.taken out.new) (O.sees.fault_count out.old) (O.sees.fault_count out.new) }
     // Standard error takes the usage text at status 1, and else what the run tells.
-    ensures told { TellsErrors E.sees (task_of (run_words (map string_bytes words.now))) result
+    ensures told { TellsErrors E.sees (task_by (run_words (map string_bytes words.now))) result
         errors.old errors.new }
 {
     if asks(words, HELP_WORD) {
@@ -285,15 +311,16 @@ fn obey<O: Sink, E: Sink>(rt: HostRuntime, out: &mut O, errors: &mut E, words: &
     }
     let behind = words_behind(words);
     match folder_named(rt, words) {
-        Ok(shelf) => serve(rt, out, errors, shelf, behind),
+        Ok(shelf) => serve(rt, threads, out, errors, shelf, behind),
         Err(_) => conclude(rt.alloc(), out, &End::NoMemory),
     }
 }
 
 /// Does what the words ask for that were read, and gives the exit status: that of want of memory
 /// where the words couldn't be read for it. Words of which one is no text are none.
-pub fn obey_read<O: Sink, E: Sink>(
+pub fn obey_read<O: Sink, E: Sink, R: Threads + Wait + Sync>(
     rt: HostRuntime,
+    threads: &R,
     out: &mut O,
     errors: &mut E,
     read: Result<Result<Vec<String>, AllocError>, ErrorKind>,
@@ -312,12 +339,12 @@ pub fn obey_read<O: Sink, E: Sink>(
         ((result ≡ 4) ⊎ (result ≡ 7)) × (errors.new ≡ errors.old)) }
     // Standard error takes the usage text at status 1, and else what the run tells.
     ensures told { IfOk read (λ got. IfOk got (λ words. TellsErrors E.sees
-        (task_of (run_words (map string_bytes words.items))) result errors.old errors.new)) }
+        (task_by (run_words (map string_bytes words.items))) result errors.old errors.new)) }
     ensures told_none { IfErr read (λ kind. (kind ≡ ErrorKind.OutOfMemory → ⊥) →
         TellsErrors E.sees None result errors.old errors.new) }
 {
     match words_read(rt.alloc(), read) {
-        Ok(words) => obey(rt, out, errors, words.as_slice()),
+        Ok(words) => obey(rt, threads, out, errors, words.as_slice()),
         Err(_) => conclude(rt.alloc(), out, &End::NoMemory),
     }
 }

@@ -4,7 +4,7 @@ use Rattle.std.specs.Prelude.{Option}
 use Rattle.dv_shelf.specs.Sees.{SeesOutput}
 use Rattle.dv_notices.specs.declared.telling.Told.{Told}
 use Rattle.dv_notices.specs.declared.telling.Told.TheVariants as telling
-use Rattle.dv_cli.specs.Obeying.{SaysOf, TellsErrors}
+use Rattle.dv_program.specs.Obeying.{SaysOf, TellsErrors}
 use Rattle.dv_cli.specs.declared.words.Task.{Task}
 
 pub says_nothing : (told : Told) (status : ℕ) (taken : List ℕ) (count : ℕ) → (status ≡ 1 → ⊥) → SaysOf told status taken taken count count

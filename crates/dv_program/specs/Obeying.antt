@@ -6,11 +6,13 @@ use Rattle.dv_shelf.specs.Sees.{SeesOutput}
 use Rattle.dv_notices.specs.Tellings.{told_text}
 use Rattle.dv_notices.specs.declared.telling.Told.{Told}
 use Rattle.dv_notices.specs.declared.telling.Told.TheVariants as telling
-use Rattle.dv_cli.specs.declared.program.TheConstants.{HELP, HELP_WORD, USAGE, VERSION, VERSION_WORD}
 use Rattle.dv_cli.specs.declared.words.Task.{Task}
 use Rattle.dv_cli.specs.Told.{IsToldBy}
 use Rattle.dv_cli.specs.Running.{memory_text, usage_text}
-use Rattle.dv_cli.specs.Words.{Prints, asks_for, run_words, task_of}
+use Rattle.dv_cli.specs.Words.{Prints}
+use Rattle.dv_program.specs.declared.program.TheConstants.{HELP, HELP_WORD, USAGE, VERSION, VERSION_WORD}
+use Rattle.dv_program.specs.Forms.{task_by}
+use Rattle.dv_program.specs.Words.{asks_for, run_words}
 
 -- want of memory
 abbrev pub IsMemory : {A E : Type 0} → Result A E → Type 0
@@ -44,7 +46,7 @@ pub record TellsErrors {E : Type 0} (sees : SeesOutput E) (t : Option Task) (sta
 pub record AskForNothing (words : List (List ℕ)) : Type 0 where
   pub help : asks_for HELP_WORD.now words ≡ false
   pub version : asks_for VERSION_WORD.now words ≡ false
-  pub task : task_of (run_words words) ≡ None
+  pub task : task_by (run_words words) ≡ None
 
 -- What is printed and answered by the words: the help text, the version, or a run's last line where
 -- they ask for nothing; status 1 is for such words alone, and 7 for a failed output.

@@ -1,0 +1,4 @@
+mod Served
+mod Opened
+mod Forms
+mod Untelling

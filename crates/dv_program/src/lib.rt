@@ -1,0 +1,16 @@
+//! The program: a mailbox folder served to the sessions of a script, in threads too, and whatever
+//! else its words ask for.
+#![tactic(auto)]
+
+mod errors;
+mod form;
+mod program;
+mod scripts;
+mod serving;
+#[cfg(test)]
+mod tests;
+mod top_call;
+
+pub use errors::ErrorOutput;
+pub use program::{obey_read, words_given};
+pub use top_call::run;
