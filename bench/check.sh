@@ -25,5 +25,6 @@ if [ $# -gt 0 ]; then
     check full.py "$program" "$@"
     check kill.py "$program" 20 "$@"
     check rules.py "$program" 20 1 "$@"
+    check stress.py "$program" 20 1 "$@"
 fi
 exit "$status"

@@ -8,7 +8,8 @@ place for temporary files, until it is killed by SIGKILL. The scripts are in LOA
 bytes; and messages of up to a megabyte, flags and keywords in large groups, so that the log is rotated
 again and again, EXPUNGEs and CHECKs. What the next run shows of the folder, UIDNEXT and each message with
 its flags, keywords and bytes, is to be what the commands leave that a whole line of the output
-acknowledges, or these and one more. It is to take a further message, too, and to make a CHECK.
+acknowledges, or these and one more. It is to take a further message, too, and to make a CHECK. By `run --threads`, which
+acknowledges nothing before its end, it is what the first ones of the commands leave.
 
 A killed process loses nothing that the system has taken, so this shows the order of the program's calls
 and not the disk's.
@@ -60,11 +61,11 @@ def real():
 LOADS = (("small messages", small), ("messages of real size", real))
 
 
-def start(program, place, script):
+def start(program, place, script, *more):
     """The program over a new folder, with its output going to a file."""
     (place / "script").write_bytes(script)
     with open(place / "script", "rb") as source, open(place / "answers", "wb") as sink:
-        return subprocess.Popen([program, place / "box", "run"], stdin=source, stdout=sink, stderr=subprocess.DEVNULL)
+        return subprocess.Popen([program, place / "box", "run", *more], stdin=source, stdout=sink, stderr=subprocess.DEVNULL)
 
 
 def acknowledged(place):
@@ -103,6 +104,23 @@ def whole_run(program, directory, load, commands, wanted):
         return whole
 
 
+def kill_threads(program, times, directory, load, commands):
+    wanted, counts = states(commands), []
+    whole = whole_run(program, directory, load, commands, wanted)
+    for _ in range(times):
+        with tempfile.TemporaryDirectory(dir=directory) as folder:
+            process = start(program, Path(folder), script_of(commands), "--threads")
+            time.sleep(random.uniform(0, whole))
+            process.kill()
+            process.wait()
+            told = acknowledged(Path(folder))
+            kept = found(program, Path(folder))
+            if kept not in wanted[told:]:
+                sys.exit(f"{load}: the folder has what no front of the commands leaves")
+            counts.append(wanted.index(kept))
+    print(f"{load}, in a thread: {times} runs killed, each folder has the first ones of the commands, {min(counts)} to {max(counts)}")
+
+
 def kill_runs(program, times, directory, load, commands):
     wanted = states(commands)
     whole = whole_run(program, directory, load, commands, wanted)
@@ -132,6 +150,7 @@ def main():
     directory = sys.argv[3] if len(sys.argv) > 3 else None
     for load, commands in LOADS:
         kill_runs(program, times, directory, load, commands())
+        kill_threads(program, times, directory, load, commands())
 
 
 if __name__ == "__main__":

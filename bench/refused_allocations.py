@@ -5,7 +5,8 @@ Usage: bench/refused_allocations.py PROGRAM [DIRECTORY]
 
 PROGRAM is the built binary, crates/sdbox/out/sdbox. Folders are made in DIRECTORY (/dev/shm where none is
 given). gcc makes a library that answers the n-th allocation as one that the system refuses; it is loaded
-before the C library. The script has commands of every kind, over a mailbox of two messages.
+before the C library. The script has commands of every kind, over a mailbox of two messages: by two sessions for `run`, and by one
+for `run --threads`, so that the order of its allocations is always the same.
 
 A refused run ends with status 4, behind a front of the replies of the run that nothing was refused; the
 next run then shows the mailbox behind the lines that were answered, or behind one line more. A run that can do
@@ -52,9 +53,14 @@ LINES = [
 ]
 
 
+ALONE = [b"a" + line[1:] for line in LINES if line != b"b SELECT\n"]
+FORMS = ((("run",), LINES), (("run", "--threads"), ALONE))
+
+
 class Bench:
-    def __init__(self, program, place):
-        self.program, self.place = program, place
+    def __init__(self, program, place, words, lines):
+        self.program, self.place, self.words, self.lines = program, place, words, lines
+        os.mkdir(place)
         source, self.library = os.path.join(place, "refusing.c"), os.path.join(place, "refusing.so")
         with open(source, "w", encoding="ascii") as text:
             text.write(REFUSING)
@@ -62,10 +68,10 @@ class Bench:
         self.start, self.box = os.path.join(place, "start"), os.path.join(place, "box")
         self.run(self.start, FIRST)
 
-    def run(self, folder, lines, refused=None):
+    def run(self, folder, lines, refused=None, words=("run",)):
         """The output and status of a run, of which the allocation of this number is refused."""
         env = {**os.environ, "LD_PRELOAD": self.library, "REFUSED": str(refused)} if refused else dict(os.environ)
-        done = subprocess.run([self.program, folder, "run"], input=b"".join(lines), capture_output=True, env=env, check=False)
+        done = subprocess.run([self.program, folder, *words], input=b"".join(lines), capture_output=True, env=env, check=False)
         return done.stdout, done.returncode
 
     def fresh(self):
@@ -80,7 +86,7 @@ class Bench:
 
     def behind(self, count):
         """The same behind so many lines, of which nothing was refused."""
-        self.run(self.fresh(), LINES[:count])
+        self.run(self.fresh(), self.lines[:count])
         return self.state()
 
     def allocations(self):
@@ -89,33 +95,41 @@ class Bench:
         with open(told, "w", encoding="ascii") as telling:
             env = {**os.environ, "LD_PRELOAD": self.library, "REFUSED": "0", "COUNTED": "1"}
             os.dup2(telling.fileno(), 3)
-            subprocess.run([self.program, self.fresh(), "run"], input=b"".join(LINES), stdout=subprocess.DEVNULL, env=env, pass_fds=(3,), check=True)
+            whole = [self.program, self.fresh(), *self.words]
+            subprocess.run(whole, input=b"".join(self.lines), stdout=subprocess.DEVNULL, env=env, pass_fds=(3,), check=True)
         with open(told, encoding="ascii") as text:
             return int(text.read())
+
+
+def refuse_each(bench):
+    """Refuses each allocation in turn, and says how many there were and without how many the run did."""
+    states = [bench.behind(count) for count in range(len(bench.lines) + 1)]
+    whole, status = bench.run(bench.fresh(), bench.lines, words=bench.words)
+    if status != 0:
+        sys.exit(f"status {status} where nothing is refused")
+    number, without = bench.allocations(), 0
+    for n in range(1, number + 1):
+        output, status = bench.run(bench.fresh(), bench.lines, n, bench.words)
+        if status == 0 and output == whole:
+            without += 1
+            continue
+        front = output.removesuffix(b"FAULT 4 MEMORY\n")
+        if status != 4 or front == output or not whole.startswith(front):
+            sys.exit(f"allocation {n}: status {status}, output {output!r}")
+        answered = sum(line[2:4] in (b"OK", b"NO") or line[2:5] == b"BAD" for line in front.split(b"\n"))
+        if bench.state() not in states[answered : answered + 2]:
+            sys.exit(f"allocation {n}: behind {answered} lines the mailbox is neither as before nor with one line more")
+    return number, without
 
 
 def main():
     if len(sys.argv) not in (2, 3):
         sys.exit(__doc__.split("\n\n")[1])
     with tempfile.TemporaryDirectory(prefix="refused.", dir=sys.argv[2] if len(sys.argv) == 3 else "/dev/shm") as place:
-        bench = Bench(os.path.abspath(sys.argv[1]), place)
-        states = [bench.behind(count) for count in range(len(LINES) + 1)]
-        whole, status = bench.run(bench.fresh(), LINES)
-        if status != 0:
-            sys.exit(f"status {status} where nothing is refused")
-        number, without = bench.allocations(), 0
-        for n in range(1, number + 1):
-            output, status = bench.run(bench.fresh(), LINES, n)
-            if status == 0 and output == whole:
-                without += 1
-                continue
-            front = output.removesuffix(b"FAULT 4 MEMORY\n")
-            if status != 4 or front == output or not whole.startswith(front):
-                sys.exit(f"allocation {n}: status {status}, output {output!r}")
-            answered = sum(line[2:4] in (b"OK", b"NO") or line[2:5] == b"BAD" for line in front.split(b"\n"))
-            if bench.state() not in states[answered : answered + 2]:
-                sys.exit(f"allocation {n}: behind {answered} lines the mailbox is neither as before nor with one line more")
-        print(f"{number} allocations, each refused in a run of its own: {number - without} runs ended with status 4, {without} did without")
+        for words, lines in FORMS:
+            bench = Bench(os.path.abspath(sys.argv[1]), os.path.join(place, "".join(words)), words, lines)
+            number, without = refuse_each(bench)
+            print(f"{' '.join(words)}: {number} allocations, each refused in a run of its own: {number - without} runs ended with status 4, {without} did without")
 
 
 if __name__ == "__main__":
