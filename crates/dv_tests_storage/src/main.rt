@@ -3,13 +3,15 @@
 #![tactic(auto)]
 
 #[cfg(test)]
+mod following;
+#[cfg(test)]
 mod mixed;
+#[cfg(test)]
+mod model;
 #[cfg(test)]
 mod rows;
 #[cfg(test)]
 mod runs;
-#[cfg(test)]
-mod stops;
 
 // Nothing stands above these tests, so they are a program's, which does nothing.
 fn main(_rt: HostRuntime) {}

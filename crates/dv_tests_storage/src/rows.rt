@@ -1,6 +1,6 @@
 //! Scripts with their answers, the place behind them and the files that are left.
 
-use crate::runs::{Left, mail_files, play, shelf_of};
+use crate::runs::{Left, has_files, play, shelf_of};
 use dv_mdbox_serving::StorageEnd;
 use dv_model::{List, Mark};
 use std::alloc::Global;
@@ -29,8 +29,8 @@ fn is_row(
         },
         groups,
     };
-    let left = mail_files(alloc, &mut shelf)?;
-    Ok(end == wanted && output.as_slice() == answers && left.as_slice() == files)
+    let left = has_files(alloc, &mut shelf, files)?;
+    Ok(end == wanted && output.as_slice() == answers && left)
 }
 
 #[test]

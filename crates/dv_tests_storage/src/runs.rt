@@ -48,17 +48,19 @@ pub fn play(alloc: Global, shelf: MemShelf, script: &[u8]) -> Result<Left, Fail>
     })
 }
 
-/// The numbers of the message files that are there, rising.
-pub fn mail_files(alloc: Global, shelf: &mut MemShelf) -> Result<Vec<u32>, Fail> {
-    let mut numbers = Vec::new(alloc);
+/// Whether these are the message files that are there.
+pub fn has_files(alloc: Global, shelf: &mut MemShelf, files: &[u32]) -> Result<bool, Fail> {
     let Ok(names) = shelf.list(alloc) else {
         return Err(Fail::from("the folder isn't listed"));
     };
+    let mut left = files.len();
     for name in names.as_slice() {
         if let Name::Mail(number) = *name {
-            numbers.push(number)?;
+            if left == 0 || !files.contains(&number) {
+                return Ok(false);
+            }
+            left -= 1;
         }
     }
-    numbers.sort()?;
-    Ok(numbers)
+    Ok(left == 0)
 }
