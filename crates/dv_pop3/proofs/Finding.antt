@@ -1,53 +1,31 @@
 -- What the replies to a UID FETCH of one message say of it.
-use Rattle.std.proofs.Common.{◌≡◌, ◌≢◌, ◌⊎◌, inl, inr, ℕ, ◌+◌, ◌<◌, ◌≤◌, Bool, true, false, not, ◌&&◌, List, [], ◌∷◌, ◌++◌, Option, Some, None, filter, map, min, refl, sym, ap, subst, ◌∙◌, arith}
-use Rattle.std.specs.Prelude.{flat_map, length, reverse, if◌then◌else◌}
-use Rattle.std.specs.List.{list_all, list_any, reduce}
+use Rattle.std.proofs.Common.{◌≡◌, ◌⊎◌, inl, inr, ℕ, Bool, true, false, not, ◌&&◌, List, [], ◌∷◌, ◌++◌, Some, None, filter, map, min, refl, ap, subst, ◌∙◌}
+use Rattle.std.specs.Prelude.{flat_map}
+use Rattle.std.specs.List.{reduce}
 use Rattle.std.specs.List.Sorted.{IsStrictlyIncreasing}
-use Rattle.std.proofs.lemmas.Grind.{flat_map-append}
 use Rattle.std.proofs.lemmas.List.{append-nil}
 use Rattle.dv_model.specs.declared.types.Command.{Command}
-use Rattle.dv_model.specs.declared.types.Command.TheVariants as command
 use Rattle.dv_model.specs.declared.types.Item.TheVariants as item
 use Rattle.dv_model.specs.declared.types.Mailbox.{Mailbox}
 use Rattle.dv_model.specs.declared.types.Mark.{Mark}
 use Rattle.dv_model.specs.declared.types.Reply.{Reply}
-use Rattle.dv_model.specs.declared.types.Reply.TheVariants as reply
 use Rattle.dv_model.specs.declared.types.Shown.{Shown}
-use Rattle.dv_model.specs.declared.types.Value.TheVariants as value
 use Rattle.dv_model.specs.Journals.{Mail, Held, Damaged}
-use Rattle.dv_model.specs.Sessions.{Answer, State, answer, damaged_uid, data_of, ending_of, fetch_lines, gone_uid, has_uid, is_damaged, told_of}
+use Rattle.dv_model.specs.Sessions.{State, answer, damaged_uid, data_of, ending_of, fetch_lines, gone_uid, has_uid, is_damaged}
 use Rattle.dv_model.specs.Sets.{named_by_uid}
-use Rattle.dv_model.specs.Views.{View, changes, growth, names_of, numbers, removals, said, same_row, shows_uid}
-use Rattle.dv_maildrop.specs.declared.types.Found.{Found}
+use Rattle.dv_model.specs.Views.{shows_uid}
 use Rattle.dv_maildrop.specs.declared.types.Found.TheVariants as found
 use Rattle.dv_maildrop.specs.declared.types.Listed.{Listed}
 use Rattle.dv_maildrop.specs.Answers.{found_answer}
 use Rattle.dv_maildrop.specs.Maildrops.{uid_span}
 use Rattle.dv_pop3.specs.Findings.{found_in}
 use Rattle.dv_pop3.specs.Retrievals.{fetch_of, said_by}
+use Rattle.dv_pop3.proofs.Moves.{IsSilent, lines_heard}
 use Rattle.dv_pop3.proofs.Naming.{IsOne, NamesNone, one_named}
 
--- ---- what is told of a move says nothing of the message
-
-module _ (row : Listed) where
-  none_said : {X : Type 0} (f : X → Reply) (xs : List X) → ((x : X) → said_by row (f x) ≡ []) → flat_map (said_by row) (map f xs) ≡ []
-  none_said f [] none = refl
-  none_said f (x ∷ xs) none = rw (none x) (none_said f xs none)
-
-  both_none : (xs ys : List Reply) → flat_map (said_by row) xs ≡ [] → flat_map (said_by row) ys ≡ [] → flat_map (said_by row) (xs ++ ys) ≡ []
-  both_none xs ys first second = flat_map-append (said_by row) xs ys ∙ ap (λ (l : List ℕ). l ++ flat_map (said_by row) ys) first ∙ second
-
-  growth_none : (b : Bool) (n : ℕ) → flat_map (said_by row) (if b then [] else reply.Exists n ∷ []) ≡ []
-  growth_none true n = refl
-  growth_none false n = refl
-
-  pub move_none : (m : Mailbox) (old new : View) → flat_map (said_by row) (said m old new) ≡ []
-  move_none m old new =
-      both_none (removals old new ++ growth old new) (changes m old new)
-      (both_none (removals old new) (growth old new)
-      (none_said (λ (x : ℕ × Shown). reply.Expunge x.0) (reverse (numbers (λ s. not (shows_uid new s.uid)) 1 old.rows)) (λ x. refl))
-      (growth_none (list_all (λ s. shows_uid old s.uid) new.rows) (length new.rows)))
-      (none_said (λ (x : ℕ × Shown). reply.Fetch x.0 x.1.uid (value.Flags x.1.flags (names_of m x.1.keywords) ∷ [])) (numbers (λ s. not (list_any (same_row s) old.rows)) 1 new.rows) (λ x. refl))
+-- what is told of a move says nothing of the message
+silent : (row : Listed) → IsSilent (said_by row)
+silent row = record { expunge = λ n. refl; exists_ = λ n. refl; flags = λ n uid flags names. refl }
 
 -- ---- the lines of the answer
 
@@ -61,18 +39,8 @@ module _ (row : Listed) (mail : ℕ → Mail) (x : State) (met m : Mailbox) (mar
   abbrev last : Reply
   last = ending_of mail c x.view met m mark
 
-  -- the data, and then the last line
-  lines_say : flat_map (said_by row) lines ≡ flat_map (said_by row) (data_of mail c x.view m) ++ said_by row last
-  lines_say =
-      let first : List Reply = data_of mail c x.view m in
-      let told : List Reply = told_of c m x.view (answer mail x c met q m mark).next.view in
-      flat_map-append (said_by row) (first ++ told) (last ∷ [])
-      ∙ ap (λ (l : List ℕ). l ++ (said_by row last ++ []))
-      (flat_map-append (said_by row) first told ∙ ap (λ (l : List ℕ). flat_map (said_by row) first ++ l) (move_none row m x.view (answer mail x c met q m mark).next.view) ∙ append-nil (flat_map (said_by row) first))
-      ∙ ap (λ (l : List ℕ). flat_map (said_by row) first ++ l) (append-nil (said_by row last))
-
   say_by : (front : List ℕ) (end : List ℕ) → flat_map (said_by row) (data_of mail c x.view m) ≡ front → said_by row last ≡ end → flat_map (said_by row) lines ≡ front ++ end
-  say_by front end first second = lines_say ∙ ap (λ (l : List ℕ). l ++ said_by row last) first ∙ ap (λ (l : List ℕ). front ++ l) second
+  say_by front end first second = lines_heard (said_by row) (silent row) mail x (uid_span row.uid ∷ []) (item.Body ∷ []) met m q mark ∙ ap (λ (l : List ℕ). l ++ said_by row last) first ∙ ap (λ (l : List ℕ). front ++ l) second
 
   -- ---- a message that the view doesn't show
 

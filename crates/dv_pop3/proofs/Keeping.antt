@@ -1,11 +1,9 @@
 -- What a hold of the lock leaves of a session that isn't told.
 use Rattle.std.specs.Prelude.{Option, Some, None, false, is_some}
-use Rattle.std.proofs.Common.{◌≡◌, true, ℕ, ◌+◌, List, Result, Ok, Err, refl, sym, ap, subst, ◌∙◌, arith}
+use Rattle.std.proofs.Common.{◌≡◌, true, ℕ, ◌+◌, List, Result, Ok, Err, refl, sym, ap, subst, arith}
 use Rattle.dv_answer.specs.Following.{Follower}
 use Rattle.dv_front.specs.declared.notes.Note.{Note}
-use Rattle.dv_keeper.specs.declared.fault.SessionFault.{SessionFault}
-use Rattle.dv_keeper.specs.declared.fault.SessionFault.TheVariants as session_fault
-use Rattle.dv_keeper.specs.Turns.{EndsBy, IsAsBeforeBut, LeavesReader, LeavesWriter}
+use Rattle.dv_keeper.specs.Turns.{IsAsBeforeBut, LeavesReader, LeavesWriter}
 use Rattle.dv_member.specs.Calls.{IsAsBefore}
 use Rattle.dv_member.specs.Members.{Member}
 use Rattle.dv_model.specs.Sessions.{State}
@@ -31,17 +29,20 @@ held_but (Err (fault.TooLong bytes)) old new before = held_same old new before
 
 -- ---- a reading
 
+pub reader_stays : {A E : Type 0} (notes : List Note) (came : Result A StoreFault) (old new : Member) (result : Result (Unit {0}) E) → LeavesReader notes came old new result → (new.number ≡ old.number) × (new.spent ≡ old.spent)
+reader_stays notes (Ok x) old new (Ok done) leaves = (ap (λ (s : Member). s.number) leaves.1.now, ap (λ (s : Member). s.spent) leaves.1.now)
+reader_stays notes (Ok x) old new (Err e) leaves = (ap (λ (s : Member). s.number) leaves.now, ap (λ (s : Member). s.spent) leaves.now)
+reader_stays notes (Err (fault.Disk n)) old new (Ok done) leaves = (ap (λ (s : Member). s.number) leaves.now, ap (λ (s : Member). s.spent) leaves.now)
+reader_stays notes (Err (fault.Disk n)) old new (Err e) leaves = (ap (λ (s : Member). s.number) leaves.now, ap (λ (s : Member). s.spent) leaves.now)
+reader_stays notes (Err fault.NoMemory) old new (Ok done) leaves = absurd leaves
+reader_stays notes (Err fault.NoMemory) old new (Err e) leaves = (ap (λ (s : Member). s.number) leaves.now, ap (λ (s : Member). s.spent) leaves.now)
+reader_stays notes (Err fault.UidsUsedUp) old new (Ok done) leaves = absurd leaves
+reader_stays notes (Err fault.UidsUsedUp) old new (Err e) leaves = (ap (λ (s : Member). s.number) leaves.now, ap (λ (s : Member). s.spent) leaves.now)
+reader_stays notes (Err (fault.TooLong bytes)) old new (Ok done) leaves = absurd leaves
+reader_stays notes (Err (fault.TooLong bytes)) old new (Err e) leaves = (ap (λ (s : Member). s.number) leaves.now, ap (λ (s : Member). s.spent) leaves.now)
+
 pub reader_fresh : {A E : Type 0} (notes : List Note) (came : Result A StoreFault) (old new : Member) (result : Result (Unit {0}) E) → LeavesReader notes came old new result → new.spent ≡ old.spent
-reader_fresh notes (Ok x) old new (Ok done) leaves = ap (λ (s : Member). s.spent) leaves.1.now
-reader_fresh notes (Ok x) old new (Err e) leaves = ap (λ (s : Member). s.spent) leaves.now
-reader_fresh notes (Err (fault.Disk n)) old new (Ok done) leaves = ap (λ (s : Member). s.spent) leaves.now
-reader_fresh notes (Err (fault.Disk n)) old new (Err e) leaves = ap (λ (s : Member). s.spent) leaves.now
-reader_fresh notes (Err fault.NoMemory) old new (Ok done) leaves = absurd leaves
-reader_fresh notes (Err fault.NoMemory) old new (Err e) leaves = ap (λ (s : Member). s.spent) leaves.now
-reader_fresh notes (Err fault.UidsUsedUp) old new (Ok done) leaves = absurd leaves
-reader_fresh notes (Err fault.UidsUsedUp) old new (Err e) leaves = ap (λ (s : Member). s.spent) leaves.now
-reader_fresh notes (Err (fault.TooLong bytes)) old new (Ok done) leaves = absurd leaves
-reader_fresh notes (Err (fault.TooLong bytes)) old new (Err e) leaves = ap (λ (s : Member). s.spent) leaves.now
+reader_fresh notes came old new result leaves = (reader_stays notes came old new result leaves).1
 
 pub reader_held : {A E : Type 0} (notes : List Note) (came : Result A StoreFault) (old new : Member) (e : E) → LeavesReader notes came old new (Err e) → IsHeld old new
 reader_held notes (Ok x) old new e leaves = held_but (Ok x) old new leaves

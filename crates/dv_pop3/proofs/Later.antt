@@ -1,7 +1,5 @@
 -- What a session that has seen more has in common with what it was.
-use Rattle.std.proofs.Common.{◌≡◌, ◌≢◌, ◌⊎◌, inl, inr, ℕ, ◌+◌, ◌<◌, ◌≤◌, Bool, true, false, ◌&&◌, List, Some, None, Option, length, take, drop, nat_eq, refl, sym, ap, subst, ◌∙◌, arith}
-use Rattle.std.specs.Prelude.{All}
-use Rattle.std.specs.List.{list_any}
+use Rattle.std.proofs.Common.{◌≡◌, ◌≢◌, ◌⊎◌, inl, inr, ℕ, ◌<◌, ◌≤◌, Bool, true, false, ◌&&◌, List, Some, None, take, drop, nat_eq, refl, sym, ap, subst, ◌∙◌, arith}
 use Rattle.std.proofs.lemmas.Bool.{ne_eqb}
 use Rattle.std.proofs.lemmas.List.{take-append-drop}
 use Rattle.std.proofs.lemmas.List.Elements.{All-weaker}
@@ -10,12 +8,10 @@ use mathlib.Core.List.{IsPrefix}
 use Rattle.dv_model.specs.declared.types.Command.{Command}
 use Rattle.dv_model.specs.declared.types.Mailbox.{Mailbox}
 use Rattle.dv_model.specs.declared.types.Row.{Row}
-use Rattle.dv_model.specs.declared.types.Reply.{Reply}
-use Rattle.dv_model.specs.declared.types.Reply.TheVariants as reply
 use Rattle.dv_model.specs.Journals.{IsSound, Log, at}
-use Rattle.dv_model.specs.Sessions.{State, has_uid, is_select, missing_number}
+use Rattle.dv_model.specs.Sessions.{State, has_uid, missing_number}
 use Rattle.dv_model.specs.Views.{View, shows_uid}
-use Rattle.dv_validity.proofs.Logs.{Extends, Leads, leads_at, next_uid_at}
+use Rattle.dv_validity.proofs.Logs.{Extends, leads_at, next_uid_at}
 use Rattle.dv_validity.proofs.Numbers.{records_keep}
 use Rattle.dv_validity.proofs.Rows.{Lacks}
 use Rattle.dv_answer.specs.Following.{Tracks}
@@ -26,7 +22,7 @@ use Rattle.dv_front.proofs.Prefixes.{prefix_length}
 use Rattle.dv_keeper.proofs.Turning.{log_goes_on}
 use Rattle.dv_member.specs.Members.{IsSession, Lives, Member, known_in, log_seen, notes_of}
 use Rattle.dv_member.proofs.Turns.{log_long}
-use Rattle.dv_notes.specs.Logs.{AreNotesOf, log_of}
+use Rattle.dv_notes.specs.Logs.{AreNotesOf}
 use Rattle.dv_notes.proofs.Logs.{logs_are_sound}
 use Rattle.dv_notes.proofs.Notes.{fronts_are_good}
 
@@ -65,7 +61,7 @@ module _ (start : Log) (count : ℕ) (old new : Member) (session : IsSession sta
   on : Extends (log_seen start old) log
   on = log_goes_on start (notes_of old) (notes_of new) begins (seen_notes start count new session_new)
 
-  sound : IsSound log
+  pub sound : IsSound log
   sound = logs_are_sound start (notes_of new) (seen_notes start count new session_new)
 
   pub seen_up : old.seen ≤ new.seen

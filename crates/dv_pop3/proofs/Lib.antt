@@ -1,5 +1,11 @@
 pub mod Retrieving
 pub mod Naming
+pub mod Quiet
+pub mod Moves
+pub mod Reading
+pub mod Taking
+pub mod Sizing
+pub mod Listed
 pub mod Finding
 pub mod Later
 pub mod Keeping
@@ -7,3 +13,5 @@ pub mod Retrieved
 pub mod Removals
 pub mod Removed
 pub mod Asking
+pub mod Exchanging
+pub mod Once

@@ -1,11 +1,10 @@
 -- What a session's answered UID REMOVE of marked messages removes.
-use Rattle.std.proofs.Common.{◌≡◌, ◌≢◌, ◌⊎◌, inl, inr, ℕ, ◌+◌, ◌-◌, ◌<◌, ◌≤◌, Bool, true, false, not, ◌&&◌, List, [], ◌∷◌, ◌++◌, Some, None, Option, cond, filter, length, map, nat_eq, refl, sym, ap, subst, ◌∙◌, arith}
-use Rattle.std.specs.Prelude.{All, ◌||◌, nat_lt, slice_get, if◌then◌else◌}
+use Rattle.std.proofs.Common.{◌≡◌, ℕ, ◌+◌, ◌<◌, Bool, true, false, ◌&&◌, List, [], ◌∷◌, cond, filter, map, nat_eq, refl, sym, ap, ◌∙◌, arith}
+use Rattle.std.specs.Prelude.{All, ◌||◌}
 use Rattle.std.specs.List.{enumerate_from, list_any}
 use Rattle.std.proofs.lemmas.Bool.{eqb-true}
 use Rattle.std.proofs.lemmas.Bool.Decides.{nat_tests}
 use Rattle.std.proofs.lemmas.List.Elements.{All-head, All-tail}
-use Rattle.std.proofs.lemmas.Option.{same_Some}
 use Rattle.dv_model.specs.declared.types.Shown.{Shown}
 use Rattle.dv_model.specs.declared.types.Span.{Span}
 use Rattle.dv_model.specs.Sets.{is_in_set, is_in_span, largest_uid, named_by_uid, numbered}
@@ -13,7 +12,7 @@ use Rattle.dv_model.specs.Sessions.{has_uid, removed_uids}
 use Rattle.dv_model.specs.Views.{View, shows_uid}
 use Rattle.dv_model.specs.declared.types.Mailbox.{Mailbox}
 use Rattle.dv_maildrop.specs.declared.types.Listed.{Listed}
-use Rattle.dv_maildrop.specs.Maildrops.{Transaction, is_marked, marked_set, marked_uids, uid_span}
+use Rattle.dv_maildrop.specs.Maildrops.{Transaction, is_marked, marked_uids, uid_span}
 use Rattle.dv_pop3.specs.Findings.{is_among}
 
 -- ---- numbers among others

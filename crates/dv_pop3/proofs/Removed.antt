@@ -1,5 +1,5 @@
 -- What a session's answered removal leaves.
-use Rattle.std.proofs.Common.{◌≡◌, ◌≢◌, ◌⊎◌, inl, inr, ℕ, ◌+◌, ◌-◌, ◌<◌, ◌≤◌, Bool, true, false, List, [], ◌∷◌, ◌++◌, Some, None, Option, cond, length, refl, sym, ap, subst, ◌∙◌, arith}
+use Rattle.std.proofs.Common.{◌≡◌, ◌⊎◌, inl, inr, ℕ, ◌+◌, ◌-◌, ◌≤◌, Bool, true, false, List, [], ◌∷◌, ◌++◌, Some, None, Option, cond, length, refl, sym, ap, subst, ◌∙◌, arith}
 use Rattle.std.specs.Prelude.{Err, IfOk, Ok, Result, ◌&&◌, nat_lt, slice_get}
 use Rattle.std.specs.Option.{option_or}
 use Rattle.std.proofs.lemmas.List.{length_push}
@@ -13,7 +13,7 @@ use Rattle.dv_model.specs.Journals.{Log, at, mark_of}
 use Rattle.dv_model.specs.Sessions.{Answer, State, answer, data_of, ending_of, group_limit, group_of, has_uid, is_log_full, limit_of, removed_uids, told_of}
 use Rattle.dv_model.specs.Spelling.{group_text}
 use Rattle.dv_model.specs.Transcripts.{Answered, IsRefused, IsTold, IsUnavailable, refused_at, unavailable_count}
-use Rattle.dv_model.specs.Views.{View, shows_uid}
+use Rattle.dv_model.specs.Views.{shows_uid}
 use Rattle.dv_answer.proofs.Limits.{refusal_goes_on}
 use Rattle.dv_maildrop.specs.declared.types.Removal.{Removal}
 use Rattle.dv_maildrop.specs.declared.types.Removal.TheVariants as removal

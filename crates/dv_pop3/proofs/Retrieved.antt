@@ -1,30 +1,27 @@
 -- What a session's answered FETCH of a message says.
-use Rattle.std.proofs.Common.{◌≡◌, ◌≢◌, ◌⊎◌, inl, inr, ℕ, ◌+◌, ◌<◌, ◌≤◌, Bool, true, false, List, [], ◌∷◌, ◌++◌, Some, None, Option, length, refl, sym, ap, subst, ◌∙◌, arith, append-nil}
+use Rattle.std.proofs.Common.{◌≡◌, ◌⊎◌, inl, inr, ℕ, ◌<◌, Bool, true, false, List, [], ◌∷◌, refl, sym, ap, subst, ◌∙◌, arith, append-nil}
 use Rattle.std.specs.Prelude.{Err, IfOk, Ok, OnErr, Result, flat_map, if◌then◌else◌}
-use Rattle.std.proofs.lemmas.Option.{same_Some}
 use mathlib.Core.List.{IsPrefix}
 use Rattle.dv_model.specs.declared.types.Command.{Command}
+use Rattle.dv_model.specs.declared.types.Item.TheVariants as item
 use Rattle.dv_model.specs.declared.types.Mailbox.{Mailbox}
 use Rattle.dv_model.specs.declared.types.Reply.{Reply}
-use Rattle.dv_model.specs.declared.types.Reply.TheVariants as reply
-use Rattle.dv_model.specs.Journals.{Log, Mail, Held, Damaged, at, mark_of}
-use Rattle.dv_model.specs.Sessions.{Answer, State, answer, group_of, has_uid}
-use Rattle.dv_model.specs.Transcripts.{Answered, IsRefused, IsTold, IsUnavailable, Wrote, unavailable_count}
-use Rattle.dv_model.specs.Views.{View, shows_uid}
+use Rattle.dv_model.specs.Journals.{Log, Mail, Held, Damaged, mark_of}
+use Rattle.dv_model.specs.Sessions.{Answer, State, answer, has_uid}
 use Rattle.dv_maildrop.specs.declared.types.Found.{Found}
 use Rattle.dv_maildrop.specs.declared.types.Found.TheVariants as found
 use Rattle.dv_maildrop.specs.declared.types.Listed.{Listed}
 use Rattle.dv_maildrop.specs.Answers.{found_answer}
+use Rattle.dv_maildrop.specs.Maildrops.{uid_span}
 use Rattle.dv_keeper.specs.Turns.{HasAnswered}
-use Rattle.dv_keeper.proofs.Turning.{read_allowed}
 use Rattle.dv_member.specs.Members.{IsSession, Member, log_seen, notes_of}
-use Rattle.dv_serving.proofs.Counting.{AreAvailable, answer_available, counts_none}
 use Rattle.dv_serving.specs.Taking.{Takes}
 use Rattle.dv_pop3.specs.Clients.{IsGiven, KeepsOn}
 use Rattle.dv_pop3.specs.Findings.{Finds, IsFound, IsHeld, found_in, found_of}
 use Rattle.dv_pop3.specs.Retrievals.{Retrieving, fetch_of, said_by, with_replies}
 use Rattle.dv_pop3.proofs.Finding.{IsTextOf, lines_text}
-use Rattle.dv_pop3.proofs.Later.{gone_stays, lives_new, next_up, none_refused, seen_up, tracks}
+use Rattle.dv_pop3.proofs.Reading.{HasFailed, HasRead, reads}
+use Rattle.dv_pop3.proofs.Later.{gone_stays, lives_new, next_up, seen_up, tracks}
 
 -- the text of the replies: none, of a message that has left, or what was found
 pub record Retrieves (start : Log) (count : ℕ) (row : Listed) (text : List ℕ) (old new : Member) : Type 0 where
@@ -54,77 +51,46 @@ module _ (start : Log) (count : ℕ) (row : Listed) (old new : Member) (session 
   abbrev text : List ℕ
   text = flat_map (said_by row) lines
 
-  by_refusal : IsRefused log has.met new.seen x (fetch_of row.uid) lines new.follower.state → Retrieves start count row text old new
-  by_refusal refused =
-      let allowed = read_allowed log has.met x (fetch_of row.uid) refused.before refl (none_refused x (fetch_of row.uid) selected refl) in
-      let both : None ≡ Some refused.line = sym allowed ∙ refused.refusal in
-      absurd cc
+  by_failure : HasFailed count lines old new → Retrieves start count row text old new
+  by_failure failed = record {
+    is = inr (
+      found.Disk failed.faults,
+      ap (flat_map (said_by row)) failed.line ∙ append-nil (found_answer row (found.Disk failed.faults)),
+      record { finds = failed.failure; wrote = failed.wrote },
+    );
+    later = subst (KeepsOn x) (sym failed.stays) (record { selected = selected; next_uid = omega arith });
+  }
 
-  by_failure : IsUnavailable log count has.met new.seen x (fetch_of row.uid) lines new.follower.state → Retrieves start count row text old new
-  by_failure un =
-      let counted : new.refused ≡ old.refused + 1 = has.refused ∙ ap (λ (l : List Reply). old.refused + unavailable_count (l ∷ [])) un.one_line in
-      record {
-        is = inr (
-          found.Disk un.faults,
-          ap (flat_map (said_by row)) un.one_line ∙ append-nil (found_answer row (found.Disk un.faults)),
-          record { finds = record { above = un.above; counted = counted }; wrote = has.wrote ∙ omega (arith, un.nothing_written) },
-        );
-        later = subst (KeepsOn x) (sym un.stays) (record { selected = selected; next_uid = omega arith });
-      }
-
-  module _ (told : IsTold log old.number has.met new.seen x (fetch_of row.uid) lines new.follower.state) where
+  module _ (read : HasRead start (fetch_of row.uid) lines old new) where
     abbrev m : Mailbox
     m = new.live
 
     abbrev rules : Answer
-    rules = answer log.mail x (fetch_of row.uid) told.before new.seen m (mark_of log new.seen)
-
-    mailbox_is : told.mailbox ≡ m
-    mailbox_is = same_Some told.mailbox m (sym told.is_there ∙ (lives_new start count old new session session_new fresh fresh_new begins selected).live)
-
-    answer_is : rules ≡ record { replies = lines; next = new.follower.state }
-    answer_is = subst (λ (n : Mailbox). answer log.mail x (fetch_of row.uid) told.before new.seen n (mark_of log new.seen) ≡ record { replies = lines; next = new.follower.state }) mailbox_is told.is
-
-    lines_are : rules.replies ≡ lines
-    lines_are = ap (λ (a : Answer). a.replies) answer_is
-
-    none_failed : new.refused ≡ old.refused
-    none_failed =
-        let available : AreAvailable lines = subst AreAvailable lines_are (answer_available log.mail x (fetch_of row.uid) told.before new.seen m (mark_of log new.seen)) in
-        let none : unavailable_count (lines ∷ []) ≡ 0 = counts_none lines available in
-        has.refused ∙ omega (arith, none)
-
-    wrote_by : Wrote log old.number has.met new.seen x.view (fetch_of row.uid) told.before → new.wrote ≡ old.wrote
-    wrote_by (inl w) = absurd (omega (arith, w.some))
-    wrote_by (inr none) = has.wrote ∙ omega (arith, none.0)
+    rules = answer log.mail x (fetch_of row.uid) read.before new.seen m (mark_of log new.seen)
 
     found_is : (f : Found) → f ≡ found_in log.mail m row.uid → IsFound start count row.uid f old new
-    found_is f is = record { finds = finds_of start count row.uid f old new is none_failed; wrote = wrote_by told.wrote }
+    found_is f is = record { finds = finds_of start count row.uid f old new is read.refused; wrote = read.wrote }
 
     view_ordered : IsTextOf row log.mail m text
     view_ordered =
-        subst (λ (l : List Reply). IsTextOf row log.mail m (flat_map (said_by row) l)) lines_are
-        (lines_text row log.mail x told.before m (mark_of log new.seen) new.seen (tracks start count old new session session_new fresh fresh_new begins selected).ordered.rising
+        subst (λ (l : List Reply). IsTextOf row log.mail m (flat_map (said_by row) l)) read.lines_are
+        (lines_text row log.mail x read.before m (mark_of log new.seen) new.seen (tracks start count old new session session_new fresh fresh_new begins selected).ordered.rising
         (gone_stays start count old new session session_new fresh fresh_new begins selected new.seen m (seen_up start count old new session session_new fresh fresh_new begins selected) (lives_new start count old new session session_new fresh fresh_new begins selected).live row.uid given))
 
     by_text : IsTextOf row log.mail m text → Retrieves start count row text old new
-    by_text of = record { is = by of.is; later = subst (KeepsOn x) next_is (record { selected = refl; next_uid = omega (arith, next_up start count old new session session_new fresh fresh_new begins selected, (tracks start count old new session session_new fresh fresh_new begins selected).next_uid) }) }
+    by_text of = record { is = by of.is; later = subst (KeepsOn x) read.next_is (record { selected = refl; next_uid = omega (arith, next_up start count old new session session_new fresh fresh_new begins selected, (tracks start count old new session session_new fresh fresh_new begins selected).next_uid) }) }
       where
-        next_is : rules.next ≡ new.follower.state
-        next_is = ap (λ (a : Answer). a.next) answer_is
-
         by : ((text ≡ []) × (found_in log.mail m row.uid ≡ found.Gone)) ⊎ (text ≡ found_answer row (found_in log.mail m row.uid))
             → ((text ≡ []) × IsFound start count row.uid found.Gone old new) ⊎ ((f : Found) × (text ≡ found_answer row f) × IsFound start count row.uid f old new)
         by (inl none) = inl (none.0, found_is found.Gone (sym none.1))
         by (inr is) = inr (found_in log.mail m row.uid, is, found_is (found_in log.mail m row.uid) refl)
 
-  by_answer : Answered log count old.number has.met new.seen x (fetch_of row.uid) lines new.follower.state → Retrieves start count row text old new
-  by_answer (inl refused) = by_refusal refused
-  by_answer (inr (inl un)) = by_failure un
-  by_answer (inr (inr told)) = by_text told (view_ordered told)
+  by_reading : HasFailed count lines old new ⊎ HasRead start (fetch_of row.uid) lines old new → Retrieves start count row text old new
+  by_reading (inl failed) = by_failure failed
+  by_reading (inr read) = by_text read (view_ordered read)
 
   pub retrieves : Retrieves start count row text old new
-  retrieves = by_answer has.turn.answered
+  retrieves = by_reading (reads (uid_span row.uid ∷ []) (item.Body ∷ []) start count old new session session_new fresh fresh_new begins selected lines has)
 
 -- ---- as the call has it
 

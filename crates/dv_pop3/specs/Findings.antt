@@ -31,8 +31,8 @@ found_of Damaged = found.Damaged
 abbrev pub found_in : (ℕ → Mail) → Mailbox → ℕ → Found
 found_in mail m uid = if has_uid m uid then found_of (mail uid) else found.Gone
 
--- The disk failed a call of the session, and this is the count of such failures then, which is above
--- that from before the run.
+-- The disk failed a call of the session, and this is the count of such failures then, which is
+-- above that from before the run.
 pub record IsFailure (count n : ℕ) (old new : Member) : Type 0 where
   pub above : Rose count n
   pub counted : new.refused ≡ old.refused + 1

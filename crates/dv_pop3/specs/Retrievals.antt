@@ -28,7 +28,8 @@ body_in (v ∷ values) = body_in values
 
 -- what a reply says of the message that was asked; a FETCH without its bytes says nothing of it
 abbrev pub found_by : Reply → Option Found
-found_by (reply.Fetch number uid values) = option_map (λ message. found.Held message) (body_in values)
+found_by (reply.Fetch number uid values) =
+    option_map (λ message. found.Held message) (body_in values)
 found_by (reply.Gone uid mark modified) = Some found.Gone
 found_by (reply.Damaged uid mark) = Some found.Damaged
 found_by (reply.Unavailable faults) = Some (found.Disk faults)
@@ -57,9 +58,11 @@ pub none_taken : (r : Retrieving) → with_replies r [] ≡ r
 none_taken r = ap (λ (text : List ℕ). record { row = r.row; text = text }) (append-nil r.text)
 
 -- replies behind others are one list of replies
-pub more_taken : (r : Retrieving) (a b : List Reply) → with_replies (with_replies r a) b ≡ with_replies r (a ++ b)
+pub more_taken : (r : Retrieving) (a b : List Reply)
+    → with_replies (with_replies r a) b ≡ with_replies r (a ++ b)
 more_taken r a b =
     let said = said_by r.row in
     let texts : List ℕ = flat_map said a in
     ap (λ (text : List ℕ). record { row = r.row; text = text })
-    (append_assoc r.text texts (flat_map said b) ∙ ap (λ (behind : List ℕ). r.text ++ behind) (sym (flat_map-append said a b)))
+    (append_assoc r.text texts (flat_map said b)
+    ∙ ap (λ (behind : List ℕ). r.text ++ behind) (sym (flat_map-append said a b)))

@@ -42,8 +42,8 @@ impl<K: Keeping, L: Tally, M: Tally> Model for Pop<K, L, M> {
 }
 
 impl<K: Keeping, L: Tally, M: Tally> Pop<K, L, M> {
-    /// Of a maildrop, and a session that has selected the mailbox, to which each of these messages had
-    /// been added when it was last told. It takes no memory.
+    /// Of a maildrop, and a session that has selected the mailbox, to which each of these messages
+    /// had been added when it was last told. It takes no memory.
     pub fn of(alloc: Global, maildrop: Maildrop, session: Session<K, L, M>) -> Pop<K, L, M>
         requires { K.honest → IsListing maildrop.rows session.follower.state }
         ensures { result ≡ record { maildrop = maildrop; session = session } }
@@ -101,6 +101,7 @@ impl<K: Keeping, L: Tally, M: Tally> Pop<K, L, M> {
             × IsFound K.start K.count row.uid f self.old.session self.new.session)) }
         ensures same { self.new.maildrop ≡ self.old.maildrop }
         ensures begins { IsPrefix (notes_of self.old.session) (notes_of self.new.session) }
+        ensures number { self.new.session.number ≡ self.old.session.number }
         ensures fresh { self.new.session.spent ≡ false }
     {
         retrieve(self.alloc, rt, keeper, &mut self.session, row)
@@ -120,6 +121,7 @@ impl<K: Keeping, L: Tally, M: Tally> Pop<K, L, M> {
         ensures left { K.honest → OnErr result
             (Leaves K.start K.count self.old.maildrop Removal self.old.session self.new.session) }
         ensures begins { IsPrefix (notes_of self.old.session) (notes_of self.new.session) }
+        ensures number { self.new.session.number ≡ self.old.session.number }
         ensures fresh { OnOk result (self.new.session.spent ≡ false) }
     {
         let set = self.maildrop.marked_set(self.alloc)?;
@@ -156,6 +158,7 @@ impl<K: Keeping, L: Tally, M: Tally> Pop<K, L, M> {
             (Leaves K.start K.count self.old.maildrop (asked self.old.maildrop line.now)
             self.old.session self.new.session) }
         ensures begins { IsPrefix (notes_of self.old.session) (notes_of self.new.session) }
+        ensures number { self.new.session.number ≡ self.old.session.number }
         ensures fresh { OnOk result (self.new.session.spent ≡ false) }
     {
         match self.maildrop.asked(line) {

@@ -59,8 +59,8 @@ fn answer_by(alloc: Global, row: Listed, replies: Retrieval) -> Result<Bytes, No
 }
 
 /// The answer to a RETR of a message, by what a session's store has of it: the message where it is
-/// live and its file is whole, that it was expunged or is damaged, or that the disk failed. One that
-/// was expunged before the session was last told is no less so. Its bytes are copied once. After
+/// live and its file is whole, that it was expunged or is damaged, or that the disk failed. So too
+/// where it was expunged before the session was last told. Its bytes are copied once. After
 /// `NoMemory`, which is the only error, nothing was written, and the session goes on.
 pub(crate) fn retrieve<S: Shelf, C: Clock, K: Keeping, L: Tally, M: Tally, R: Wait>(
     alloc: Global,
@@ -77,6 +77,7 @@ pub(crate) fn retrieve<S: Shelf, C: Clock, K: Keeping, L: Tally, M: Tally, R: Wa
     ensures later { K.honest → IsGiven row s.old.follower.state
         → KeepsOn s.old.follower.state s.new.follower.state }
     ensures begins { IsPrefix (notes_of s.old) (notes_of s.new) }
+    ensures number { s.new.number ≡ s.old.number }
     ensures fresh { s.new.spent ≡ false }
 {
     // What is so of each session is known before the reading and behind it.

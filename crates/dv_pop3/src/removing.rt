@@ -48,6 +48,7 @@ pub(crate) fn remove<S: Shelf, C: Clock, K: Keeping, L: Tally, M: Tally, R: Wait
         → IsListing m.rows s.old.follower.state
         → KeepsOn s.old.follower.state s.new.follower.state }
     ensures begins { IsPrefix (notes_of s.old) (notes_of s.new) }
+    ensures number { s.new.number ≡ s.old.number }
     ensures fresh { OnOk result (s.new.spent ≡ false) }
 {
     // What is so of each session is known before the write and behind it.

@@ -1,13 +1,7 @@
-use Rattle.std.proofs.Common.{◌≡◌, ◌∙◌, inl, ℕ, Bool, true, false, Option, None, Some, Ok, refl, subst, sym, ap}
-use Rattle.std.specs.Prelude.{is_some}
+use Rattle.std.proofs.Common.{◌∙◌, inl}
 use Rattle.std.proofs.lemmas.Result.{err_from_is_err_and}
-use Rattle.dv_front.proofs.Prefixes.{prefix_self}
-use Rattle.dv_keeper.proofs.Telling.{before_self}
-use Rattle.dv_member.specs.Members.{notes_of}
-use Rattle.dv_model.specs.Sessions.{reads_mail}
-use Rattle.dv_responses.specs.Depth.{IsShallow}
 use Rattle.dv_shared.specs.Kept.{notes_in}
-use Rattle.dv_pop3.proofs.Keeping.{held_itself, held_later, later_itself, none_of, reader_fresh, reader_held}
+use Rattle.dv_pop3.proofs.Keeping.{reader_fresh, reader_held}
 use Rattle.dv_pop3.proofs.Retrieved.{found_answered, found_left, taken_says}
 use Rattle.dv_pop3.proofs.messages.retrieve.Goals as goal
 

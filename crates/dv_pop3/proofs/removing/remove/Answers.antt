@@ -1,6 +1,5 @@
-use Rattle.std.proofs.Common.{◌≡◌, ◌∙◌, inl, Ok, refl, subst, sym, ap}
+use Rattle.std.proofs.Common.{◌∙◌, subst, sym, ap}
 use Rattle.dv_answer.specs.Following.{Follower}
-use Rattle.dv_keeper.proofs.Telling.{before_self}
 use Rattle.dv_keeper.specs.Turns.{LeavesEntry}
 use Rattle.dv_maildrop.specs.declared.types.Removal.{Removal}
 use Rattle.dv_model.specs.declared.types.Command.{Command}
@@ -8,7 +7,7 @@ use Rattle.dv_model.specs.declared.types.Command.TheVariants.{UidRemove}
 use Rattle.dv_shared.specs.Kept.{notes_in}
 use Rattle.dv_pop3.specs.Clients.{KeepsOn}
 use Rattle.dv_pop3.specs.Findings.{Removes}
-use Rattle.dv_pop3.proofs.Keeping.{held_itself, later_itself, none_of, writer_fresh}
+use Rattle.dv_pop3.proofs.Keeping.{later_itself, writer_fresh}
 use Rattle.dv_pop3.proofs.Removed.{came_of, taken_removes, unanswered, unanswered_follower}
 use Rattle.dv_pop3.proofs.removing.remove.Goals as goal
 

@@ -1,4 +1,4 @@
-use Rattle.std.proofs.Common.{◌≡◌, ◌∙◌, sym, ap}
+use Rattle.std.proofs.Common.{◌∙◌, sym, ap}
 use Rattle.dv_maildrop.specs.Maildrops.{asked}
 use Rattle.dv_pop3.specs.Clients.{Client}
 use Rattle.dv_pop3.proofs.Asking.{message_answered, own_answered, removal_answered}

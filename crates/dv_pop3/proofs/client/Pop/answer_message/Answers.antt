@@ -1,8 +1,7 @@
-use Rattle.std.proofs.Common.{◌≡◌, ◌⊎◌, ◌∙◌, List, ℕ, refl, subst, sym, ap}
+use Rattle.std.proofs.Common.{◌≡◌, ◌⊎◌, List, ℕ, subst, sym}
 use Rattle.std.specs.Prelude.{Contains, IfOk, OnErr}
 use Rattle.dv_maildrop.specs.declared.types.Found.{Found}
 use Rattle.dv_maildrop.specs.Answers.{found_answer}
-use Rattle.dv_member.specs.Members.{Member}
 use Rattle.dv_pop3.specs.Clients.{Client}
 use Rattle.dv_pop3.specs.Findings.{IsFound, IsHeld}
 use Rattle.dv_pop3.proofs.Asking.{listed_given, listing_later}

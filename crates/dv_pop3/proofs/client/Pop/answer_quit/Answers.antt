@@ -1,4 +1,4 @@
-use Rattle.std.proofs.Common.{◌≡◌, ◌∙◌, refl, subst, sym, ap}
+use Rattle.std.proofs.Common.{subst, sym}
 use Rattle.dv_maildrop.specs.Maildrops.{Transaction}
 use Rattle.dv_pop3.specs.Clients.{IsListing}
 use Rattle.dv_pop3.proofs.Asking.{listing_later}
