@@ -23,12 +23,20 @@ REFUSING = r"""
 #define _GNU_SOURCE
 #include <dlfcn.h>
 #include <errno.h>
-#include <stdio.h>
+#include <fcntl.h>
 #include <stdlib.h>
-static long count, at;
-__attribute__((constructor)) static void begin(void) { char *n = getenv("REFUSED"); at = n ? atol(n) : 0; count = 0; }
-__attribute__((destructor)) static void end(void) { if (getenv("COUNTED")) dprintf(3, "%ld\n", count); }
-static int refused(void) { if (++count != at) return 0; errno = ENOMEM; return 1; }
+#include <sys/mman.h>
+#include <unistd.h>
+static long own, at, *count = &own;
+__attribute__((constructor)) static void begin(void) {
+    char *n = getenv("REFUSED"), *told = getenv("COUNTED");
+    at = n ? atol(n) : 0;
+    int file = told ? open(told, O_RDWR) : -1;
+    void *page = file < 0 ? MAP_FAILED : mmap(0, sizeof *count, PROT_READ | PROT_WRITE, MAP_SHARED, file, 0);
+    if (page != MAP_FAILED) count = page;
+    *count = 0;
+}
+static int refused(void) { if (__atomic_add_fetch(count, 1, __ATOMIC_SEQ_CST) != at) return 0; errno = ENOMEM; return 1; }
 #define REAL(name, type) static __typeof__(type) *real; if (!real) real = (__typeof__(real))dlsym(RTLD_NEXT, name)
 void *malloc(size_t n) { REAL("malloc", void *(size_t)); return refused() ? 0 : real(n); }
 void *realloc(void *p, size_t n) { REAL("realloc", void *(void *, size_t)); return refused() ? 0 : real(p, n); }
@@ -91,14 +99,14 @@ class Bench:
 
     def allocations(self):
         """How many allocations a run makes that nothing is refused."""
-        told, telling = os.path.join(self.place, "told"), None
-        with open(told, "w", encoding="ascii") as telling:
-            env = {**os.environ, "LD_PRELOAD": self.library, "REFUSED": "0", "COUNTED": "1"}
-            os.dup2(telling.fileno(), 3)
-            whole = [self.program, self.fresh(), *self.words]
-            subprocess.run(whole, input=b"".join(self.lines), stdout=subprocess.DEVNULL, env=env, pass_fds=(3,), check=True)
-        with open(told, encoding="ascii") as text:
-            return int(text.read())
+        told = os.path.join(self.place, "told")
+        with open(told, "wb") as text:
+            text.write(bytes(8))
+        env = {**os.environ, "LD_PRELOAD": self.library, "REFUSED": "0", "COUNTED": told}
+        whole = [self.program, self.fresh(), *self.words]
+        subprocess.run(whole, input=b"".join(self.lines), stdout=subprocess.DEVNULL, env=env, check=True)
+        with open(told, "rb") as text:
+            return int.from_bytes(text.read(8), "little")
 
 
 def refuse_each(bench):
