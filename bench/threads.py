@@ -3,10 +3,11 @@
 
 Usage: bench/threads.py PROGRAM [COUNT [DIRECTORY]]
 
-PROGRAM is the built binary, crates/sdbox/out/sdbox. COUNT FETCHes of one message's flags, 1,000,000 where none is given,
-over a mailbox of 10,000 messages are parted among 1, 2, 4 and 8 sessions of `run --threads`; what the same sessions take
-for a SELECT alone is subtracted. Beside that as many threads of plain arithmetic share one piece of work, in the same
-turn, which tells what the machine's processors give. A two-hundredth of COUNT APPENDs is parted so too, on the disk of
+PROGRAM is the built binary, crates/sdbox/out/sdbox. COUNT messages' flags, 4,000,000 where none is given, are shown by
+FETCHes of a hundred messages each, over a mailbox of 10,000, parted among 1, 2, 4 and 8 sessions of `run --threads`;
+what the same sessions take for a SELECT alone is subtracted. (A script of as many FETCHes of one message takes longer to
+read than to answer, and one thread reads it.) Beside that as many threads of plain arithmetic share one piece of work, in the same
+turn, which tells what the machine's processors give. A thousandth of COUNT APPENDs is parted so too, on the disk of
 DIRECTORY (the system's place for temporary files) and in memory. Each number is the median of nine turns; the last
 columns are how much faster it was than with one session, and than the arithmetic made possible. Peak memory is told of the
 readers.
@@ -63,7 +64,7 @@ def script_of(sessions, line, count):
 
 
 def readers(program, folder, sessions, count):
-    selects, whole = script_of(sessions, b"FETCH 77 (FLAGS)\n", count)
+    selects, whole = script_of(sessions, b"FETCH 101:200 (FLAGS)\n", count // 100)
     without, _ = answered(program, folder, selects, "run", "--threads")
     seconds, memory = answered(program, folder, whole, "run", "--threads")
     return seconds - without, memory
@@ -88,7 +89,7 @@ def main():
     if not 2 <= len(sys.argv) <= 4:
         sys.exit(__doc__)
     program = Path(sys.argv[1]).resolve()
-    count = int(sys.argv[2]) if len(sys.argv) > 2 else 1_000_000
+    count = int(sys.argv[2]) if len(sys.argv) > 2 else 4_000_000
     disk = sys.argv[3] if len(sys.argv) > 3 else None
     with tempfile.TemporaryDirectory(dir="/dev/shm") as made:
         place = Path(made)
@@ -103,12 +104,12 @@ def main():
                 seconds, most = readers(program, box, n, count)
                 read[n].append(seconds)
                 memory[n].append(most)
-                written[n].append(writers(program, place, n, count // 200))
-                kept[n].append(writers(program, disk, n, count // 200))
+                written[n].append(writers(program, place, n, count // 1000))
+                kept[n].append(writers(program, disk, n, count // 1000))
         table("FETCH", read, count, plain)
         print("peak memory in MB:", ", ".join(f"{n}: {statistics.median(memory[n]):.0f}" for n in SESSIONS))
-        table("APPEND in memory", written, count // 200, plain)
-        table("APPEND on the disk", kept, count // 200, plain)
+        table("APPEND in memory", written, count // 1000, plain)
+        table("APPEND on the disk", kept, count // 1000, plain)
 
 
 if __name__ == "__main__":
