@@ -645,11 +645,15 @@ class Session:
         self.skip_refused()
         return self.left[0].mark if self.left else None
 
+    def wanted(self, met, mailbox, mark):
+        """What the rules answer to the next command, and the view behind it."""
+        command, old = self.left[0].command, self.view_before()
+        new = old.moved(mailbox, command.keeps)
+        return [*command.data(old, mailbox), *command.told(mailbox, old, new), command.last(old, met, mailbox, mark)], new
+
     def answer(self, met, mailbox, mark):
-        answer, old = self.left[0], self.view_before()
-        command, new = answer.command, old.moved(mailbox, answer.command.keeps)
-        wanted = [*command.data(old, mailbox), *command.told(mailbox, old, new), command.last(old, met, mailbox, mark)]
-        if answer.text != wanted:
+        wanted, new = self.wanted(met, mailbox, mark)
+        if self.left[0].text != wanted:
             self.differs(wanted)
         self.view, self.selected = new, True
         self.left.pop(0)
@@ -673,14 +677,21 @@ class Log:
             return mark[1] == self.mark[1] + size
         return mark == (self.mark[0] + 1, FIRST_PLACE + size)
 
+    def might_write(self, session, mark):
+        command = session.left[0].command
+        size = command.size(session.view_before(), self.mailbox) if command.writes else 0
+        return size and self.is_behind(size, mark)
+
+    def has_written(self, session, mark):
+        """Whether the session is answered as one whose group ends here."""
+        behind = copy_of(self.mailbox)
+        session.left[0].command.write(session.view_before(), behind)
+        return session.left[0].text == session.wanted(self.mailbox, behind, mark)[0]
+
     def writer(self, sessions, mark):
-        """The session whose group ends here."""
-        for session in sessions:
-            command = session.left[0].command
-            size = command.size(session.view_before(), self.mailbox) if command.writes else 0
-            if size and self.is_behind(size, mark):
-                return session
-        return None
+        """The session whose group ends here. Groups of several may be as long, of which one was written."""
+        able = [session for session in sessions if self.might_write(session, mark)]
+        return next((session for session in able if self.has_written(session, mark)), able[0] if able else None)
 
     def go_on(self, sessions, mark):
         """All that is answered at this mark, first the command that wrote the group."""
