@@ -12,8 +12,6 @@ mod resyncing;
 mod running;
 mod scripts;
 mod storing;
-#[cfg(test)]
-mod tests;
 mod top_call;
 mod watching;
 mod words;

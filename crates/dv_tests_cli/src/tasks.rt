@@ -1,5 +1,5 @@
-use super::rows::{APPEND, FIRST_FILE, HEADER, VALIDITY, folder_of};
-use super::{Left, Setting, ends, files_of, given, play, play_in};
+use crate::plays::{Left, Setting, ends, files_of, given, play, play_in};
+use crate::rows::{APPEND, FIRST_FILE, HEADER, VALIDITY, folder_of};
 use dv_model::List;
 use dv_shelf::{MemShelf, Name, OpenGate};
 use std::alloc::Global;

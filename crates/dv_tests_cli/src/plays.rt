@@ -1,15 +1,4 @@
-mod faults;
-mod folders;
-mod gates;
-mod hostile;
-mod limits;
-mod real;
-mod rows;
-mod sleeper;
-mod tasks;
-mod told;
-
-use crate::top_call::{Ran, run};
+use dv_cli::{Ran, run};
 use dv_model::{Bytes, List};
 use dv_shelf::{Folder, Gate, MemClock, MemShelf, MemSink, MemSource, Name, OpenGate, Shelf};
 use std::alloc::{AllocError, Global};
@@ -18,15 +7,15 @@ use std::test::Fail;
 
 /// What a run is given but for its folder.
 #[derive(Clone, Copy)]
-struct Setting<'a> {
-    words: &'a [&'a str],
-    script: &'a [u8],
-    source_fails: &'a [u32],
-    sink_fails: &'a [u32],
+pub struct Setting<'a> {
+    pub words: &'a [&'a str],
+    pub script: &'a [u8],
+    pub source_fails: &'a [u32],
+    pub sink_fails: &'a [u32],
 }
 
 /// A script, with nothing that fails.
-fn given(script: &[u8]) -> Setting {
+pub fn given(script: &[u8]) -> Setting {
     Setting {
         words: &["run"],
         script,
@@ -37,14 +26,14 @@ fn given(script: &[u8]) -> Setting {
 
 /// What a run left, with the number of groups that its last line tells.
 #[derive(Drop)]
-struct Left<S: Drop> {
-    status: u8,
-    output: Bytes,
-    groups: usize,
-    shelf: S,
+pub struct Left<S: Drop> {
+    pub status: u8,
+    pub output: Bytes,
+    pub groups: usize,
+    pub shelf: S,
 }
 
-fn strings(alloc: Global, words: &[&str]) -> Result<Vec<String>, AllocError> {
+pub fn strings(alloc: Global, words: &[&str]) -> Result<Vec<String>, AllocError> {
     let mut strings = Vec::new(alloc);
     for word in words {
         strings.push(String::from_str(alloc, word)?)?;
@@ -53,7 +42,7 @@ fn strings(alloc: Global, words: &[&str]) -> Result<Vec<String>, AllocError> {
 }
 
 /// A run whose clock reads 1000 and then 1001.
-fn play_in<S: Shelf + Send + Drop, G: Gate + Sync>(
+pub fn play_in<S: Shelf + Send + Drop, G: Gate + Sync>(
     alloc: Global,
     shelf: S,
     gate: &G,
@@ -87,7 +76,7 @@ fn play_in<S: Shelf + Send + Drop, G: Gate + Sync>(
 }
 
 /// A run over a folder in memory of which these calls fail.
-fn play(
+pub fn play(
     alloc: Global,
     folder: &Folder,
     fails: &[u32],
@@ -99,7 +88,7 @@ fn play(
 }
 
 /// The bytes of a file; none where it isn't there.
-fn bytes_of<S: Shelf>(alloc: Global, shelf: &mut S, name: Name) -> Bytes {
+pub fn bytes_of<S: Shelf>(alloc: Global, shelf: &mut S, name: Name) -> Bytes {
     match shelf.read(alloc, name) {
         Ok(Some(bytes)) => bytes,
         _ => List::new(alloc),
@@ -107,7 +96,7 @@ fn bytes_of<S: Shelf>(alloc: Global, shelf: &mut S, name: Name) -> Bytes {
 }
 
 /// The files of a folder.
-fn files_of<S: Shelf>(alloc: Global, shelf: &mut S) -> Result<Folder, Fail> {
+pub fn files_of<S: Shelf>(alloc: Global, shelf: &mut S) -> Result<Folder, Fail> {
     let Ok(names) = shelf.list(alloc) else {
         return Err(Fail::from("no names"));
     };
@@ -118,13 +107,13 @@ fn files_of<S: Shelf>(alloc: Global, shelf: &mut S) -> Result<Folder, Fail> {
     Ok(files)
 }
 
-fn ends<S: Drop>(rt: &impl Abort, left: &Left<S>, status: u8, output: &str) {
+pub fn ends<S: Drop>(rt: &impl Abort, left: &Left<S>, status: u8, output: &str) {
     assert_eq!(rt; left.status, status, "at {output}");
     assert!(rt; left.output.as_slice() == output.as_bytes(), "at {output}");
 }
 
 /// How often a word stands in a text.
-fn count_of(text: &[u8], word: &[u8]) -> usize {
+pub fn count_of(text: &[u8], word: &[u8]) -> usize {
     let mut count = 0;
     for at in 0..text.len() {
         let (_, rest) = text.split_at(at);
@@ -136,7 +125,7 @@ fn count_of(text: &[u8], word: &[u8]) -> usize {
 }
 
 /// The number of groups that a last line tells; 0 where it tells none.
-fn groups_in(line: &[u8]) -> usize {
+pub fn groups_in(line: &[u8]) -> usize {
     let mut groups = 0usize;
     let mut told = false;
     for at in 0..line.len() {
@@ -151,7 +140,7 @@ fn groups_in(line: &[u8]) -> usize {
 }
 
 /// The last line of a text.
-fn last_line(text: &[u8]) -> &[u8] {
+pub fn last_line(text: &[u8]) -> &[u8] {
     let mut start = 0;
     for at in 1..text.len() {
         if text[at - 1] == b'\n' {

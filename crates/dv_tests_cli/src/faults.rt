@@ -1,6 +1,6 @@
-use super::rows::folder_of;
-use super::sleeper::appends_and_stores;
-use super::{Setting, count_of, ends, files_of, given, last_line, play, play_in};
+use crate::plays::{Setting, count_of, ends, files_of, given, last_line, play, play_in};
+use crate::rows::folder_of;
+use crate::sleeper::appends_and_stores;
 use dv_model::{Bytes, List};
 use dv_shelf::{Folder, MemShelf, OpenGate};
 use std::alloc::Global;

@@ -1,4 +1,4 @@
-use super::{bytes_of, ends, given, play};
+use crate::plays::{bytes_of, ends, given, play};
 use dv_model::{Bytes, List};
 use dv_shelf::{Folder, Name};
 use std::alloc::Global;

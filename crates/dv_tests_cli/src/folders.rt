@@ -1,5 +1,5 @@
-use super::rows::{APPEND, CLOSED, FIRST_FILE, HEADER, SEEN, VALIDITY, folder_of};
-use super::{Left, bytes_of, ends, files_of, given, last_line, play};
+use crate::plays::{Left, bytes_of, ends, files_of, given, last_line, play};
+use crate::rows::{APPEND, CLOSED, FIRST_FILE, HEADER, SEEN, VALIDITY, folder_of};
 use dv_model::{Bytes, List};
 use dv_shelf::{Folder, MemShelf, Name};
 use std::alloc::Global;
@@ -171,7 +171,10 @@ fn an_old_snapshot_numbers_its_rows_by_the_log(rt: HostRuntime) -> Result<(), Fa
     for index in [before, behind] {
         let script = b"a SELECT\na FETCH 1 (MODSEQ)\na CHECK\n";
         let mut left = left_by(alloc, &[log, index], script)?;
-        let told = super::count_of(left.output.as_slice(), b"a * 1 FETCH (UID 1 MODSEQ (4))\n");
+        let told = crate::plays::count_of(
+            left.output.as_slice(),
+            b"a * 1 FETCH (UID 1 MODSEQ (4))\n",
+        );
         assert_eq!(rt; told, 1);
         let index = bytes_of(alloc, &mut left.shelf, Name::Index);
         assert!(rt; index.as_slice().starts_with(b"\xc9\x02\x78\x00"));
@@ -196,7 +199,7 @@ fn joined(
 fn seen_at(rt: &impl Abort, alloc: Global, folder: &Folder, wanted: &str) -> Result<(), Fail> {
     let left = play(alloc, folder, &[], given(b"a SELECT\n"))?;
     let output = left.output.as_slice();
-    let seen = super::count_of(output, b"a * 1 FETCH (UID 1 FLAGS (\\Seen))\n");
+    let seen = crate::plays::count_of(output, b"a * 1 FETCH (UID 1 FLAGS (\\Seen))\n");
     assert_eq!(rt; seen, 1, "{wanted}");
     assert!(rt; last_line(output) == wanted.as_bytes(), "{wanted}");
     Ok(())

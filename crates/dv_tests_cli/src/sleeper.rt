@@ -1,4 +1,4 @@
-use super::{given, last_line, play_in};
+use crate::plays::{given, last_line, play_in};
 use dv_model::{Bytes, List};
 use dv_shelf::{MemShelf, OpenGate};
 use std::alloc::Global;

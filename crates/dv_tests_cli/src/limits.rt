@@ -1,5 +1,5 @@
-use super::rows::folder_of;
-use super::{Left, ends, given, play_in};
+use crate::plays::{Left, ends, given, play_in};
+use crate::rows::folder_of;
 use dv_model::{Bytes, List};
 use dv_script::decimal_text;
 use dv_shelf::{MemShelf, OpenGate};

@@ -1,5 +1,5 @@
-use super::{given, play_in, strings};
-use crate::top_call::{Ran, run};
+use crate::plays::{given, play_in, strings};
+use dv_cli::{Ran, run};
 use dv_model::List;
 use dv_shelf::{Failed, Gate, MemClock, MemShelf, MemSource, Sink};
 use std::sync::atomic::{AtomicU64, Ordering};

@@ -1,4 +1,5 @@
-use super::{Setting, ends, given, play_in, rows};
+use crate::plays::{Setting, ends, given, play_in};
+use crate::rows;
 use dv_folder::{Folder as RealFolder, Layout, Missing};
 use dv_model::NoMemory;
 use dv_shelf::OpenGate;

@@ -1,5 +1,5 @@
-use super::rows::folder_of;
-use super::{bytes_of, files_of, given, play};
+use crate::plays::{bytes_of, files_of, given, play};
+use crate::rows::folder_of;
 use dv_model::{Bytes, List};
 use dv_shelf::{Folder, Name};
 use std::alloc::Global;

@@ -1,7 +1,7 @@
-use super::rows::folder_of;
-use super::tasks::CUT;
-use super::{Setting, given, strings};
-use crate::top_call::{Ran, run};
+use crate::plays::{Setting, given, strings};
+use crate::rows::folder_of;
+use crate::tasks::CUT;
+use dv_cli::{Ran, run};
 use dv_model::{Bytes, List};
 use dv_notices::told_text;
 use dv_shelf::{MemClock, MemShelf, MemSink, MemSource, OpenGate};
