@@ -43,10 +43,11 @@ pub fn run_calls<S: Shelf, C: Clock, O: Sink>(
 ) -> Outcome<S, C>
     // Of a settled folder: what is answered and left, at any moment too.
     ensures answers { S.sees.tells → IsSettled S.sees shelf →
-        AnswersCalls S.sees (faults_of S.sees shelf result.shelf) (calls_left calls.entry) result.end
+        AnswersCalls S.sees (faults_of S.sees shelf result.shelf) (calls_left calls.entry)
+        result.end
         (output_of O.sees out.old out.new) shelf result.shelf }
-    // A fault that is found is told, and only where there is none the calls are answered; nothing is
-    // told beside it.
+    // A fault that is found is told, and only where there is none the calls are answered; nothing
+    // is told beside it.
     ensures found { S.sees.tells → TellsFaults (S.sees.files shelf) result.end }
     ensures quiet { result.told ≡ telling.Nothing }
     // Each end has its cause, and the clock isn't read where a fault is found.

@@ -238,8 +238,9 @@ fn perform<S: Shelf, I: Source, O: Sink, C: Clock, G: Gate>(
 /// each line, and writes the replies. `gen` does so with a generated script, and writes no reply.
 /// `rebuild` gives a damaged folder a new log. `resync` tells what a client with an older state of
 /// the mailbox hears. `watch` serves a script as `run` does, and writes behind the replies to each
-/// command that wrote a group what a search finds then. `mdbox` serves a storage folder to the calls
-/// of a script: it opens its storage, or makes one, answers each call, and writes the answers.
+/// command that wrote a group what a search finds then. `mdbox` serves a storage folder to the
+/// calls of a script: it opens its storage, or makes one, answers each call, and writes the
+/// answers.
 pub fn run<S: Shelf + Send, I: Source, O: Sink, C: Clock + Send, G: Gate + Sync>(
     alloc: Global,
     words: &[String],
@@ -310,8 +311,8 @@ pub fn run<S: Shelf + Send, I: Source, O: Sink, C: Clock + Send, G: Gate + Sync>
 
     // The calls of a script are answered by the storage that was found, or made. Each answer is one
     // that may come of its call behind those before, and the answers are written, and nothing else.
-    // What is left gives the storage behind them, and a crash at any moment the one before a call or
-    // behind it, with each message that has a reference.
+    // What is left gives the storage behind them, and a crash at any moment the one before a call
+    // or behind it, with each message that has a reference.
     ensures stores { task_of (map string_bytes words.now) ≡ Some task.Storage → S.sees.tells →
         I.sees.tells → IsSettled S.sees shelf → (calls : List Call) →
         storage.parsed (I.sees.left script.old) ≡ Ok calls → IsStorageRun S.sees
@@ -375,8 +376,8 @@ pub fn run<S: Shelf + Send, I: Source, O: Sink, C: Clock + Send, G: Gate + Sync>
 
     // The script is read for `run`, `watch` and `mdbox` alone, and at most one byte more than the
     // longest script is. The clock is read once at most for a mailbox that is made, and twice at
-    // most for each line; not at all where the words, the script or the folder are refused, and once
-    // at most where the disk fails before the first line.
+    // most for each line; not at all where the words, the script or the folder are refused, and
+    // once at most where the disk fails before the first line.
     ensures bound { (I.sees.tells → TakesFront (I.sees.left script.old) (I.sees.left script.new))
         × ((HasScript (task_of (map string_bytes words.now)) → ⊥) → script.new ≡ script.old) }
     ensures readings { C.sees.tells → IsTimed (task_of (map string_bytes words.now)) I.sees.tells
