@@ -10,7 +10,7 @@ use Rattle.dv_model.specs.declared.types.Mailbox.{Mailbox}
 use Rattle.dv_model.specs.declared.types.Record.{Record}
 use Rattle.dv_model.specs.declared.types.Reply.{Reply}
 use Rattle.dv_model.specs.Journals.{Log, at}
-use Rattle.dv_model.specs.Sessions.{Answer, State}
+use Rattle.dv_model.specs.Sessions.{Answer, State, group_of}
 use Rattle.dv_model.specs.Transcripts.{IsTold, refused_at}
 use Rattle.dv_interleavings.specs.Worlds.{World, Session, Pending, Wrote, loaded_number}
 use Rattle.dv_promises.specs.Standing.{Stands}
@@ -37,7 +37,7 @@ use Rattle.dv_keeper.specs.Commits.{Commit, HoldsBoth}
 use Rattle.dv_keeper.specs.Turns.{EndsBy, HasAnswered, HasMet, HasSeen, HasSpent, HasTold}
 use Rattle.dv_keeper.proofs.Turning.{records_begin, there}
 use Rattle.dv_events.specs.Worlds.{AreOthers, Conversation, History, IsAtWorld, IsOfTry, IsUnanswered, history_of}
-use Rattle.dv_events.specs.Writes.{IsWrite, MayEnd, RefusedWriteLoads, SpentWriteStands, UntoldWriteStays, WriteTells, group_at}
+use Rattle.dv_events.specs.Writes.{IsWrite, MayEnd, RefusedWriteLoads, SpentWriteStands, UntoldWriteStays, WriteTells}
 use Rattle.dv_events.proofs.Loading.{same_of}
 use Rattle.dv_events.proofs.Stepping.{Answers, Steps, lead, mine, none, none_more, stands_on, steps_committed, steps_empty, steps_failed, steps_loaded, steps_unwritten, steps_wrote, with, wrote_at}
 use Rattle.dv_events.proofs.Telling.{is_told}
@@ -79,7 +79,7 @@ module _ {S C : Type 0} (sees : SeesFolder S) (times : SeesTime C) (start : Log)
   log = log_of start notes
 
   abbrev g : Group
-  g = group_at start old c k
+  g = group_of c x.view m log.guid
 
   abbrev t : Try
   t = given old.number c x.view k.before (times.upcoming k.before.store.clock)
@@ -230,19 +230,19 @@ module _ {S C : Type 0} (sees : SeesFolder S) (times : SeesTime C) (start : Log)
     abbrev tries_by : Came → History
     tries_by came = record { notes = notes; tries = with_failed k.before.tries t came }
 
-    steps_refused : (came : Came) → HasOutcome start old.number x c m notes now came → (ending : Ending) → MayEnd ending came g → Steps start (tries_by came) w (ended ending) old.number first
+    steps_refused : (came : Came) → HasOutcome start old.number x c m notes now came → (ending : Ending) → MayEnd ending came → Steps start (tries_by came) w (ended ending) old.number first
     steps_refused came by_rules Unwritten may =
         subst (λ (ts : List Try). Steps start (record { notes = notes; tries = ts }) w (ended Unwritten) old.number first) (sym (added_is k.before.tries t came))
         (steps_unwritten start (history_of k.before) old answers rest others w is_at c received healed (added t came))
     steps_refused came by_rules Done may = absurd may
     steps_refused (Err (fault.Disk faults)) by_rules Failed may =
-        steps_failed start (history_of k.before) old answers rest others w is_at is.fresh c m is.write met_there by_rules received healed (k.before.tries ++ t ∷ []) may tried
+        steps_failed start (history_of k.before) old answers rest others w is_at is.fresh c m is.write met_there by_rules.0 received healed (k.before.tries ++ t ∷ []) by_rules.1 tried
     steps_refused (Ok v) by_rules Failed may = absurd may
     steps_refused (Err fault.NoMemory) by_rules Failed may = absurd may
     steps_refused (Err fault.UidsUsedUp) by_rules Failed may = absurd may
     steps_refused (Err (fault.TooLong bytes)) by_rules Failed may = absurd may
 
-    steps_kept : (ending : Ending) → MayEnd ending k.came g → Steps start (tries_by k.came) w (ended ending) old.number first
+    steps_kept : (ending : Ending) → MayEnd ending k.came → Steps start (tries_by k.came) w (ended ending) old.number first
     steps_kept ending may = steps_refused k.came (is.commit.outcome is.told) ending may
 
     at_kept : now ≡ notes → (y : Conversation) (v : World) → IsAtWorld start (tries_by k.came) (y ∷ rest) v → IsAtWorld start (history_of k.behind) (y ∷ rest) v
@@ -254,14 +254,14 @@ module _ {S C : Type 0} (sees : SeesFolder S) (times : SeesTime C) (start : Log)
     stands_kept ending = stands_on w (CommitCall old.number c received healed ending) ((mine start (history_of k.before) old answers rest others w is_at).number, is.servable.command) is_at.stands
 
     -- memory ran out
-    write_untold : (ending : Ending) → MayEnd ending k.came g → now ≡ notes → (refused : ℕ) → IsAsBefore (record old { refused = refused }) new → IsAtWorld start (history_of k.behind) (with new answers ∷ rest) (ended ending)
+    write_untold : (ending : Ending) → MayEnd ending k.came → now ≡ notes → (refused : ℕ) → IsAsBefore (record old { refused = refused }) new → IsAtWorld start (history_of k.behind) (with new answers ∷ rest) (ended ending)
     write_untold ending may same refused as_before =
         at_kept same (with new answers) (ended ending)
         (lead start (history_of k.before) old answers rest others w is_at (tries_by k.came) (ended ending) (with new answers) first (prefix_self notes) (steps_kept ending may) (stands_kept ending) (ap (λ (s : Member). s.number) as_before.now)
         (same_of notes w refused old new answers (mine start (history_of k.before) old answers rest others w is_at) as_before))
 
     -- a limit or the disk's failure was told
-    write_refused : (e : StoreFault) (ending : Ending) → MayEnd ending k.came g → now ≡ notes → HasSeen now new → HasMet e old new
+    write_refused : (e : StoreFault) (ending : Ending) → MayEnd ending k.came → now ≡ notes → HasSeen now new → HasMet e old new
         → IsAtWorld start (history_of k.behind) (with new answers ∷ rest) (all_called (ended ending) (Refresh old.number ∷ []))
     write_refused e ending may same sees_all met =
         let one = mine start (history_of k.before) old answers rest others w is_at in
@@ -294,7 +294,7 @@ module _ {S C : Type 0} (sees : SeesFolder S) (times : SeesTime C) (start : Log)
   refused_write_loads old new c k e received healed ending holds is came may w answers rest others is_at =
       let same : notes_in k.behind ≡ notes_in k.before = subst (λ (r : Came). NotesBehind honest times.tells (log_of start (notes_in k.before)) (given old.number c old.follower.state.view k.before (times.upcoming k.before.store.clock)) k.before.store.chain.live.mailbox (notes_in k.before) (notes_in k.behind) r) came is.commit.value.notes in
       let met : HasMet e old new = subst (λ (r : Came). EndsBy (length (notes_in k.before)) r old new) came is.leaves.1 in
-      let may_end = subst (λ (r : Came). MayEnd ending r (group_at start old c k)) (sym came) may in
+      let may_end = subst (λ (r : Came). MayEnd ending r) (sym came) may in
       none_more start (history_of k.behind) new answers rest _
       (write_refused sees times start moment past honest old new c k holds (Ok tt) is received healed w answers rest others is_at e ending may_end same is.leaves.0 met)
 

@@ -1,14 +1,12 @@
 -- Writes under the lock.
-use Rattle.std.specs.Prelude.{◌≡◌, ◌≤◌, ℕ, Bool, true, false, List, [], ◌∷◌, length, Result, Ok, Err, ⊤}
+use Rattle.std.specs.Prelude.{◌≡◌, ℕ, Bool, true, false, List, [], ◌∷◌, Result, Ok, Err, ⊤}
 use Rattle.dv_model.specs.declared.types.Command.{Command}
-use Rattle.dv_model.specs.declared.types.Group.{Group}
 use Rattle.dv_model.specs.declared.types.Reply.{Reply}
 use Rattle.dv_model.specs.Journals.{Log}
-use Rattle.dv_model.specs.Sessions.{group_of, is_write}
+use Rattle.dv_model.specs.Sessions.{is_write}
 use Rattle.dv_shelf.specs.Folders.{Folder}
 use Rattle.dv_shelf.specs.Sees.{SeesFolder, SeesTime}
 use Rattle.dv_schedules.specs.Calls.{Answer, Commit as CommitCall, Done, Ending, Failed, Refresh, Unwritten}
-use Rattle.dv_notes.specs.Logs.{log_of}
 use Rattle.dv_plans.specs.declared.fault.StoreFault.{StoreFault}
 use Rattle.dv_plans.specs.declared.fault.StoreFault.TheVariants as fault
 use Rattle.dv_serving.specs.Servable.{IsServable}
@@ -23,21 +21,16 @@ use Rattle.dv_events.specs.Worlds.{CallsLead, history_of}
 
 -- Of a commit that isn't answered by a mark nothing stands; or, where the disk failed it, its group
 -- may be pending.
-abbrev pub MayEnd : Ending → Result Written StoreFault → Group → Type 0
-MayEnd Unwritten came g = ⊤
-MayEnd Failed came g = failed came
+abbrev pub MayEnd : Ending → Result Written StoreFault → Type 0
+MayEnd Unwritten came = ⊤
+MayEnd Failed came = failed came
   where
     failed : Result Written StoreFault → Type 0
-    failed (Err (fault.Disk faults)) = 1 ≤ length g.records
+    failed (Err (fault.Disk faults)) = ⊤
     failed came = ⊥
-MayEnd Done came g = ⊥
+MayEnd Done came = ⊥
 
 module _ {S C : Type 0} where
-  -- the group of a session's command over what its commit met
-  abbrev pub group_at : Log → Member → Command → Commit S C → Group
-  group_at start s c k = group_of c s.follower.state.view
-      k.before.store.chain.live.mailbox (log_of start (notes_in k.before)).guid
-
   -- what a write's contract says of it, over a shelf that tells
   pub record IsWrite (sees : SeesFolder S) (times : SeesTime C) (start : Log) (honest : Type 0)
       (old new : Member) (c : Command) (k : Commit S C)
@@ -69,7 +62,7 @@ module _ {S C : Type 0} where
         (received : ℕ) (healed : Bool) (ending : Ending)
         → HoldsBoth sees times start moment past honest k
         → IsWrite sees times start honest old new c k (Ok tt)
-        → k.came ≡ Err e → MayEnd ending (Err e) (group_at start old c k)
+        → k.came ≡ Err e → MayEnd ending (Err e)
         → CallsLead start
         (CommitCall old.number c received healed ending ∷ Refresh old.number ∷ [])
         (history_of k.before) (history_of k.behind) old new []
@@ -80,7 +73,7 @@ module _ {S C : Type 0} where
         (healed : Bool) (ending : Ending)
         → HoldsBoth sees times start moment past honest k
         → IsWrite sees times start honest old new c k (Err session_fault.NoMemory)
-        → MayEnd ending k.came (group_at start old c k)
+        → MayEnd ending k.came
         → CallsLead start (CommitCall old.number c received healed ending ∷ [])
         (history_of k.before) (history_of k.behind) old new []
 

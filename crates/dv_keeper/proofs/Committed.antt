@@ -9,6 +9,7 @@ use Rattle.dv_model.specs.Journals.{Log, mark_of}
 use Rattle.dv_model.specs.Sessions.{Answer, State, answer, is_write}
 use Rattle.dv_model.specs.Transcripts.{HasLeft, IsTurn, unavailable_count}
 use Rattle.dv_shelf.specs.Sees.{SeesFolder, SeesTime}
+use Rattle.dv_logfile.specs.Settling.{StaysSettled}
 use Rattle.dv_answer.specs.Answers.{IsAnswered}
 use Rattle.dv_front.specs.declared.notes.Note.{Note}
 use Rattle.dv_front.proofs.Prefixes.{prefix_length}
@@ -47,14 +48,15 @@ both_ok (Err e) p q f = tt
 module _ {S C : Type 0} (sees : SeesFolder S) (times : SeesTime C) (start : Log) (honest : Type 0) (old f : Member) (as_before : IsAsBefore old f) (c : Command) (before : Kept S C) (begins : IsPrefix (notes_of f) (notes_in before)) where
   pub commit_of : (behind : Kept S C) (came : Came) → CommitsKept honest times.tells start (given f.number c f.follower.state.view before (times.upcoming before.store.clock)) before behind came
       → IfOk came (IsWritten start c before behind) → (honest → HasOutcome start f.number f.follower.state c before.store.chain.live.mailbox (notes_in before) (notes_in behind) came)
-      → HasStoreCause (sees.fault_count before.store.shelf) (sees.fault_count behind.store.shelf) came
+      → HasStoreCause (sees.fault_count before.store.shelf) (sees.fault_count behind.store.shelf) came → (sees.tells → StaysSettled sees before.store.shelf behind.store.shelf)
       → IsCommitOf sees times start honest old c (record { before = before; behind = behind; came = came })
-  commit_of behind came value told outcome cause = record {
+  commit_of behind came value told outcome cause settled = record {
     begins = subst (λ (ns : List Note). IsPrefix ns (notes_in before)) as_before.notes begins;
     value = subst (λ (x : Member). CommitsKept honest times.tells start (given x.number c x.follower.state.view before (times.upcoming before.store.clock)) before behind came) as_before.now value;
     told = told;
     outcome = λ h. subst (λ (x : Member). HasOutcome start x.number x.follower.state c before.store.chain.live.mailbox (notes_in before) (notes_in behind) came) as_before.now (outcome h);
     cause = cause;
+    settled = settled;
   }
 
   -- memory ran out before it
@@ -65,7 +67,7 @@ module _ {S C : Type 0} (sees : SeesFolder S) (times : SeesTime C) (start : Log)
     stays = λ none. stays_same before.store;
     words = λ is. record { parts = refl; left = refl; words = refl };
     pass = λ more. absurd (omega (arith, more));
-  }) tt (λ h. tt) (record { later = omega arith; rose = tt })
+  }) tt (λ h. tt) (record { later = omega arith; rose = tt }) (λ told stayed settled. settled)
 
 -- ---- what the session had seen
 

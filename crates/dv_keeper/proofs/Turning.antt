@@ -171,7 +171,7 @@ module _ {S C : Type 0} (start : Log) (notes : List Note) (store : StoreState S 
   denied base (fault.Disk faults) lines write allowed more is = inr (inl record {
     before = store.chain.live.mailbox;
     was_there = there start notes store stands;
-    allowed = allowed;
+    allowed = allowed.0;
     touches = ap (λ (b : Bool). b || reads_mail c) write;
     faults = faults;
     above = more;

@@ -5,6 +5,7 @@ use Rattle.dv_model.specs.declared.types.Command.{Command}
 use Rattle.dv_model.specs.Journals.{Log}
 use Rattle.dv_shelf.specs.Folders.{Folder}
 use Rattle.dv_shelf.specs.Sees.{SeesFolder, SeesTime}
+use Rattle.dv_logfile.specs.Settling.{StaysSettled}
 use Rattle.dv_plans.specs.declared.fault.StoreFault.{StoreFault}
 use Rattle.dv_plans.specs.Faults.{HasStoreCause}
 use Rattle.dv_member.specs.Members.{Member, notes_of}
@@ -22,7 +23,8 @@ pub record Commit (S C : Type 0) : Type 0 where
 
 module _ {S C : Type 0} where
   -- A session's command was committed, behind all that the session had seen: what that leaves of
-  -- notes and tries, over any shelf; which answer it is; and why the disk failed.
+  -- notes and tries, over any shelf; which answer it is; why the disk failed; and that a settled
+  -- folder is settled again, where no failure was counted.
   pub record IsCommitOf (sees : SeesFolder S) (times : SeesTime C) (start : Log) (honest : Type 0)
       (s : Member) (c : Command) (k : Commit S C) : Type 0 where
     pub begins : IsPrefix (notes_of s) (notes_in k.before)
@@ -34,6 +36,7 @@ module _ {S C : Type 0} where
         k.before.store.chain.live.mailbox (notes_in k.before) (notes_in k.behind) k.came
     pub cause : HasStoreCause (sees.fault_count k.before.store.shelf)
         (sees.fault_count k.behind.store.shelf) k.came
+    pub settled : sees.tells → StaysSettled sees k.before.store.shelf k.behind.store.shelf
 
   -- what is kept holds before it and behind it
   abbrev pub HoldsBoth : SeesFolder S → SeesTime C → Log → ℕ → (ℕ → Folder → Type 0) → Type 0

@@ -3,7 +3,7 @@ ghost use Rattle.std.specs.List.{sum_by};
 ghost use mathlib.Core.List.{IsPrefix};
 ghost use Rattle.dv_keeper.specs.Closing.{Settles};
 ghost use Rattle.dv_member.specs.Members.{Member, notes_of};
-ghost use Rattle.dv_shared.specs.Holding.{Holds};
+ghost use Rattle.dv_shared.specs.Holding.{Holds, KeepsSettled};
 ghost use Rattle.dv_shared.specs.Kept.{Kept, notes_in};
 ghost use Rattle.dv_shelf.specs.Folders.{Folder};
 ghost use Rattle.dv_tries.specs.Durable.{IsDurable};
@@ -41,13 +41,15 @@ fn settle_all<S: Shelf, C: Clock, K: Keeping, L: Tally, M: Tally>(
 impl<S: Shelf, C: Clock, K: Keeping, L: Tally, M: Tally> Keeper<S, C, K, L, M> {
     /// The store behind all calls, and how many entries its log has, with the sessions handed in.
     /// What each session has seen begins the one list of entries, which the folder gives, also
-    /// after a crash now or at any moment since the run began. It takes no lock and no memory.
+    /// after a crash now or at any moment since the run began. Where the shelf has counted no
+    /// failure since then it is settled. It takes no lock and no memory.
     pub fn close(self, sessions: Vec<Session<K, L, M>>) -> (Store<S, C>, u64)
         ensures { (k : Kept S C) × (result.0 ≡ k.store) × (result.1 ≡ length (notes_in k))
             × Holds S.sees C.sees.tells K.start K.moment K.past K.honest k
             × Settles S.sees K.count L.parts M.parts sessions.items k
             × (K.honest → (folder : Folder) → S.sees.may_leave k.store.shelf folder
-            → IsDurable K.start (notes_in k) folder) }
+            → IsDurable K.start (notes_in k) folder)
+            × KeepsSettled S.sees K.count K.honest k }
     {
         let Keeper { shared, .. } = self;
         let mut shared = shared.into_inner();

@@ -8,7 +8,7 @@ ghost use Rattle.dv_model.specs.Sessions.{reads_mail};
 ghost use Rattle.dv_plans.specs.declared.fault.StoreFault.{StoreFault};
 ghost use Rattle.dv_responses.specs.Depth.{IsShallow};
 ghost use Rattle.dv_serving.specs.Taking.{Takes};
-ghost use Rattle.dv_shared.specs.Holding.{Holds};
+ghost use Rattle.dv_shared.specs.Holding.{Holds, KeepsSettled};
 ghost use Rattle.dv_shared.specs.Kept.{Kept, notes_in};
 ghost use Rattle.dv_view.specs.Taken.{HasTaken};
 ghost use Rattle.dv_keeper.specs.Turns.{HasAnswered, LeavesReader};
@@ -41,7 +41,8 @@ fn serve_mail<S: Shelf, C: Clock, K: Keeping, L: Tally, M: Tally, R: Responses>(
     ensures begins { IsPrefix (notes_of s.old) (notes_of s.new) }
     ensures read { (k : Kept S C) × (came : Result (Listed ℕ) StoreFault) ×
         Holds S.sees C.sees.tells K.start K.moment K.past K.honest k
-        × LeavesReader (notes_in k) came s.old s.new result }
+        × LeavesReader (notes_in k) came s.old s.new result
+        × KeepsSettled S.sees K.count K.honest k }
     ensures turn { K.honest → Takes R.with replies.old replies.new result (λ told.
         IfOk told (λ lines. HasAnswered K.start K.count c.now lines s.old s.new)) }
     ensures replies { K.honest → OnErr result (HasTaken R.with replies.old replies.new) }
@@ -89,7 +90,8 @@ impl<S: Shelf, C: Clock, K: Keeping, L: Tally, M: Tally> Keeper<S, C, K, L, M> {
         // What was kept under the lock, what came of the reading, and what is left of the session.
         ensures read { (k : Kept S C) × (came : Result (Listed ℕ) StoreFault) ×
             Holds S.sees C.sees.tells K.start K.moment K.past K.honest k
-            × LeavesReader (notes_in k) came s.old s.new result }
+            × LeavesReader (notes_in k) came s.old s.new result
+            × KeepsSettled S.sees K.count K.honest k }
         // The turn, by the session rules.
         ensures turn { K.honest → Takes T.with replies.old replies.new result (λ told.
             IfOk told (λ lines. HasAnswered K.start K.count c.now lines s.old s.new)) }

@@ -15,7 +15,7 @@ use Rattle.dv_tries.specs.Standing.{StandsBehind}
 use Rattle.dv_tries.specs.Tries.{GivesLog, MayGive}
 use Rattle.dv_shared.specs.Beginning.{Begins, first_kept}
 use Rattle.dv_serving.proofs.Counting.{rose_none}
-use Rattle.dv_shared.specs.Holding.{Balances, Holds, HoldsFolder}
+use Rattle.dv_shared.specs.Holding.{Balances, Holds, HoldsFolder, KeepsSettled}
 use Rattle.dv_shared.specs.Kept.{Kept}
 
 -- the log of no notes is the start
@@ -59,6 +59,10 @@ module _ {S C : Type 0} (sees : SeesFolder S) (tells : Type 0) (start : Log) (mo
 
   pub holds_first : (k : Kept S C) → k ≡ first_kept store → Holds sees tells start moment past honest k
   holds_first k is = subst (λ (x : Kept S C). Holds sees tells start moment past honest x) (sym is) first_holds
+
+  -- its shelf is settled
+  pub settled_first : (count : ℕ) (k : Kept S C) → k ≡ first_kept store → KeepsSettled sees count honest k
+  settled_first count k is = subst (λ (x : Kept S C). KeepsSettled sees count honest x) (sym is) (λ h stayed. (begins.folder h).settled)
 
 -- and its ledgers have counted nothing
 pub balances_first : {S C : Type 0} (sees : SeesFolder S) (count wrote refused : ℕ) (store : State S C) (k : Kept S C) → k ≡ first_kept store → count ≤ sees.fault_count store.shelf → wrote ≡ 0 → refused ≡ 0

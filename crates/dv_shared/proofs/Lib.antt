@@ -3,4 +3,5 @@ pub mod Grown
 pub mod Outcomes
 pub mod Committed
 pub mod Looked
+pub mod Settled
 pub mod Numbers

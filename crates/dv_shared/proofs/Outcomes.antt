@@ -66,7 +66,7 @@ module _ {S C : Type 0} (start : Log) (notes : List Note) (old : State S C) (sta
   -- ---- an error
 
   pub error_outcome : (new : State S C) (e : StoreFault) → Commits c view old new (Err e) → HasOutcome {A = Written} start author (selected_with view) c m notes notes (Err e)
-  error_outcome new (fault.Disk faults) value = limit_is ∙ (value.limit log.guid sizes).0
+  error_outcome new (fault.Disk faults) value = let is = value.limit log.guid sizes in (limit_is ∙ is.0, is.1)
   error_outcome new fault.UidsUsedUp value = limit_is ∙ value.limit log.guid sizes
   error_outcome new (fault.TooLong bytes) value = limit_is ∙ value.limit log.guid sizes
   error_outcome new fault.NoMemory value = tt

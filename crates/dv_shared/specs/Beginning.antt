@@ -1,6 +1,7 @@
 -- What is kept when a run begins. The records take what a shelf shows.
 use Rattle.std.specs.Prelude.{◌≡◌, ℕ, [], None}
 use Rattle.dv_model.specs.Journals.{Log}
+use Rattle.dv_shelf.specs.Crashes.{IsSettled}
 use Rattle.dv_shelf.specs.Folders.{Folder}
 use Rattle.dv_shelf.specs.Sees.{SeesFolder}
 use Rattle.dv_generations.specs.Feeds.{new_feed}
@@ -18,11 +19,12 @@ abbrev pub table_words : ℕ
 table_words = 32768
 
 module _ {S C : Type 0} where
-  -- The shelf tells its files. The store is at rest with the start and owes nothing, and since the
-  -- moment a crash has left folders that give the start.
+  -- The shelf tells its files, and is settled. The store is at rest with the start and owes
+  -- nothing, and since the moment a crash has left folders that give the start.
   pub record BeginsFolder (sees : SeesFolder S) (start : Log) (moment : ℕ)
       (past : ℕ → Folder → Type 0) (store : State S C) : Type 0 where
     pub told : sees.tells
+    pub settled : IsSettled sees store.shelf
     pub rests : IsAtRest sees start Nothing store
     pub since : LeavesSince sees moment past store.shelf (GivesLog start)
 

@@ -2,6 +2,8 @@
 use Rattle.std.specs.Prelude.{◌≡◌, ◌≤◌, ℕ, length}
 use Rattle.dv_model.specs.Counts.{RoseBy}
 use Rattle.dv_model.specs.Journals.{Log}
+use Rattle.dv_shelf.specs.Causes.{Stayed}
+use Rattle.dv_shelf.specs.Crashes.{IsSettled}
 use Rattle.dv_shelf.specs.Folders.{Folder}
 use Rattle.dv_shelf.specs.Sees.{SeesFolder}
 use Rattle.dv_tries.specs.Images.{LeavesSince}
@@ -32,3 +34,8 @@ module _ {S C : Type 0} where
     pub wrote_all : wrote ≡ length (notes_in l.kept)
     pub few : RoseBy l.refused count (sees.fault_count l.kept.store.shelf)
     pub tries : length l.kept.tries ≤ l.refused
+
+  -- where the shelf has counted no failure since the run began, it is settled
+  abbrev pub KeepsSettled : SeesFolder S → ℕ → Type 0 → Kept S C → Type 0
+  KeepsSettled sees count honest k = honest → Stayed count (sees.fault_count k.store.shelf)
+      → IsSettled sees k.store.shelf

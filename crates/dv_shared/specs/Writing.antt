@@ -72,15 +72,16 @@ module _ {A : Type 0} where
 
   -- ---- what comes of it
 
-  -- By the session rules: a limit is told exactly where it is met; else the disk failed it, or its
-  -- group is the entry behind all that it met, or it has none to write.
+  -- By the session rules: a limit is told exactly where it is met; else the disk failed it, whose
+  -- group has a record, or its group is the entry behind all that it met, or it has none to write.
   abbrev pub HasOutcome : Log → ℕ → SessionState → Command → Mailbox → List Note → List Note
       → Result A StoreFault → Type 0
   HasOutcome start author x c m notes now (Ok done) =
       (refused_at (log_of start notes) (length notes) x c m ≡ None)
       × Wrote (log_of start now) author (length notes) (length now) x.view c m
   HasOutcome start author x c m notes now (Err (fault.Disk faults)) =
-      refused_at (log_of start notes) (length notes) x c m ≡ None
+      (refused_at (log_of start notes) (length notes) x c m ≡ None)
+      × (1 ≤ length (group_of c x.view m (log_of start notes).guid).records)
   HasOutcome start author x c m notes now (Err fault.UidsUsedUp) =
       refused_at (log_of start notes) (length notes) x c m ≡ Some reply.UidsUsedUp
   HasOutcome start author x c m notes now (Err (fault.TooLong bytes)) =

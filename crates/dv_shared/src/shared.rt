@@ -1,5 +1,6 @@
 ghost use Rattle.std.specs.Prelude.{◌≡◌, ◌⊎◌, ◌+◌, ◌≤◌, IfOk, length};
 ghost use Rattle.dv_chain.specs.Openings.{OnlyLooks};
+ghost use Rattle.dv_logfile.specs.Settling.{StaysSettled};
 ghost use Rattle.dv_model.specs.Counts.{RoseBy};
 ghost use Rattle.dv_plans.specs.Faults.{HasStoreCause};
 ghost use Rattle.dv_shelf.specs.Crashes.{LeavesOnly};
@@ -7,7 +8,7 @@ ghost use Rattle.dv_shelf.specs.Folders.{Folder};
 ghost use Rattle.dv_tries.specs.Durable.{IsDurable};
 ghost use Rattle.dv_tries.specs.Tries.{GivesLast};
 ghost use Rattle.dv_shared.specs.Committing.{CommitsKept, IsWritten, counted_behind, given, with_outcome};
-ghost use Rattle.dv_shared.specs.Holding.{Holds};
+ghost use Rattle.dv_shared.specs.Holding.{Holds, KeepsSettled};
 ghost use Rattle.dv_shared.specs.Kept.{notes_in};
 ghost use Rattle.dv_shared.specs.Writing.{HasOutcome, MayWrite, WroteNothing, refused_behind};
 
@@ -58,7 +59,7 @@ impl<S: Shelf, C: Clock, K: Keeping, L: Tally, M: Tally> Model for Shared<S, C, 
         (feed_code note_type.the_row.coded)
         (coded_list (try_code command_type.the_row.coded view_type.the_row.coded))) };
 
-    ghost use Rattle.dv_shared.specs.Holding.{Balances, Holds};
+    ghost use Rattle.dv_shared.specs.Holding.{Balances, Holds, KeepsSettled};
     ghost use Rattle.dv_shared.specs.Journals.{kept_of};
 
     ghost view = { λ s. record { kept = kept_of s.journal; refused = s.refusals.total } };
@@ -66,7 +67,8 @@ impl<S: Shelf, C: Clock, K: Keeping, L: Tally, M: Tally> Model for Shared<S, C, 
     ghost invariant = { λ s.
         Holds S.sees C.sees.tells K.start K.moment K.past K.honest (kept_of s.journal)
         × Balances S.sees K.count s.writes.total
-        (record { kept = kept_of s.journal; refused = s.refusals.total }) };
+        (record { kept = kept_of s.journal; refused = s.refusals.total })
+        × KeepsSettled S.sees K.count K.honest (kept_of s.journal) };
 }
 
 // Counts what came of a session's write, behind so many entries.
@@ -119,6 +121,9 @@ impl<S: Shelf, C: Clock, K: Keeping, L: Tally, M: Tally> Shared<S, C, K, L, M> {
             GivesLast C.sees.tells K.start (notes_in self.old.kept) self.old.kept.tries folder
             ⊎ GivesLast C.sees.tells K.start (notes_in self.new.kept) self.new.kept.tries
             folder) }
+        // What was settled is so again, where no failure was counted.
+        ensures settled { S.sees.tells →
+            StaysSettled S.sees self.old.kept.store.shelf self.new.kept.store.shelf }
         // The session counts it, and so does the lock.
         ensures session { s.new ≡ with_outcome (length (notes_in self.old.kept)) result s.old }
         ensures refused { self.new.refused ≡ refused_behind self.old.refused result }
@@ -134,13 +139,15 @@ impl<S: Shelf, C: Clock, K: Keeping, L: Tally, M: Tally> Shared<S, C, K, L, M> {
 
     /// What holds whenever the lock is free: the store stands behind the notes, and whatever a
     /// crash leaves now opens to a log that begins with all of them, each with its message and GUID
-    /// while that lives, and with the messages of the start. Nothing is computed.
+    /// while that lives, and with the messages of the start. Where the shelf has counted no failure
+    /// since the run began it is settled. Nothing is computed.
     pub fn knows(&self)
         ensures holds { Holds S.sees C.sees.tells K.start K.moment K.past K.honest
             self.now.kept }
         ensures few { RoseBy self.now.refused K.count
             (S.sees.fault_count self.now.kept.store.shelf) }
         ensures tries { length self.now.kept.tries ≤ self.now.refused }
+        ensures settled { KeepsSettled S.sees K.count K.honest self.now.kept }
         ensures durable { K.honest → (folder : Folder)
             → S.sees.may_leave self.now.kept.store.shelf folder
             → IsDurable K.start (notes_in self.now.kept) folder }

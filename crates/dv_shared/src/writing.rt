@@ -1,6 +1,7 @@
 ghost use Rattle.std.specs.Prelude.{◌≡◌, ◌⊎◌, IfOk, length};
 ghost use Rattle.dv_chain.specs.Openings.{OnlyLooks};
 ghost use Rattle.dv_generations.specs.Feeds.{journal};
+ghost use Rattle.dv_logfile.specs.Settling.{StaysSettled};
 ghost use Rattle.dv_plans.specs.Faults.{HasStoreCause};
 ghost use Rattle.dv_shelf.specs.Crashes.{LeavesOnly};
 ghost use Rattle.dv_tries.specs.Commits.{selected_with, try_of};
@@ -77,6 +78,8 @@ impl<S: Shelf, C: Clock, K: Keeping> Journal<S, C, K> {
             (λ folder.
             GivesLast C.sees.tells K.start (journal self.old.feed) self.old.tries folder
             ⊎ GivesLast C.sees.tells K.start (journal self.new.feed) self.new.tries folder) }
+        ensures settled { S.sees.tells →
+            StaysSettled S.sees self.old.store.shelf self.new.store.shelf }
         ensures cause { HasStoreCause (S.sees.fault_count self.old.store.shelf)
             (S.sees.fault_count self.new.store.shelf) result }
     {

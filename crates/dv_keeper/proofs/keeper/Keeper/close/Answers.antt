@@ -28,4 +28,5 @@ returns g c =
         tries = rose_fewer last.refused (length last.kept.tries) g.K.Keeping.count faults known.tries known.few;
       },
       known.durable,
+      known.settled,
     )

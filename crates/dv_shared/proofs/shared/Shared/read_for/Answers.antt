@@ -9,6 +9,7 @@ use Rattle.dv_shared.specs.Holding.{Balances}
 use Rattle.dv_shared.specs.Journals.{kept_of}
 use Rattle.dv_shared.specs.Kept.{Kept, Locked, notes_in}
 use Rattle.dv_shared.proofs.Looked.{looked_balances, looked_holds}
+use Rattle.dv_shared.proofs.Settled.{settled_looked}
 use Rattle.dv_shared.proofs.shared.Shared.read_for.Goals as goal
 
 pub invariant_of-self : goal.invariant_of-self
@@ -22,6 +23,7 @@ invariant_of-self g c =
       subst (λ (n : ℕ). Balances sees g.K.Keeping.count c.self.inside.writes.total (record { kept = record k { store = store }; refused = n })) (sym c.count_failure.ensures.total)
           (looked_balances sees g.C.Clock.sees.tells start g.K.Keeping.moment g.K.Keeping.past g.K.Keeping.honest k c.self.invariant.0 store e.stays e.reads g.K.Keeping.count c.self.inside.writes.total c.self.inside.refusals.total
           c.read_for-result.result e.cause c.self.invariant.1),
+      settled_looked sees g.C.Clock.sees.tells start g.K.Keeping.moment g.K.Keeping.past g.K.Keeping.honest g.K.Keeping.count c.self.inside.refusals.total k c.self.invariant.0 c.self.invariant.1.few c.self.invariant.2 store e.cause.later e.reads,
     )
 
 pub returns-clause-found : goal.returns-clause-found
