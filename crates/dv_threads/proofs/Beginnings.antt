@@ -96,6 +96,7 @@ module _ {S C : Type 0} (sees : SeesFolder S) (ticks : SeesTime C) (clock : ℕ 
   pub begins_folder : sees.tells → ((c : Folder) → sees.left_since store.shelf (sees.moment store.shelf) c → sees.may_leave store.shelf c) → BeginsFolder sees start (sees.moment store.shelf) (sees.left_since store.shelf) store
   begins_folder tells only = record {
     told = tells;
+    settled = begun.settled;
     rests = begun.rests;
     since = record {
       later = omega arith;

@@ -15,6 +15,7 @@ use Rattle.dv_model.specs.Transcripts.{Line, commands_of, unavailable_count}
 use Rattle.dv_stories.specs.Stories.{AreAll, Story, new_progress, total}
 use Rattle.dv_stories.proofs.Stories.{begins}
 use Rattle.dv_shelf.specs.Causes.{Stayed}
+use Rattle.dv_shelf.specs.Crashes.{IsSettled}
 use Rattle.dv_shelf.specs.Folders.{Folder}
 use Rattle.dv_shelf.specs.Sees.{SeesFolder}
 use Rattle.dv_formats.specs.Scripts.{NamedLine, sessions_of}
@@ -39,7 +40,7 @@ use Rattle.dv_tries.proofs.Durable.{last_is_durable}
 use Rattle.dv_tries.proofs.Keeping.{rest_gives_last}
 use Rattle.dv_shared.specs.Beginning.{Begins, BeginsFolder, first_kept}
 use Rattle.dv_shared.proofs.Beginnings.{first_holds}
-use Rattle.dv_shared.specs.Holding.{Holds}
+use Rattle.dv_shared.specs.Holding.{Holds, KeepsSettled}
 use Rattle.dv_shared.specs.Kept.{Kept, notes_in}
 use Rattle.dv_keeper.specs.Closing.{Settles}
 use Rattle.dv_keeper.proofs.Settles.{rose_fewer}
@@ -170,11 +171,11 @@ module _ {S C : Type 0} (sees : SeesFolder S) (tells : Type 0) (start : Log) (mo
   }
 
   -- what was answered so is served so
-  pub serves : (count : ℕ) (lines : List NamedLine) (e : ThreadsEnd) (out : Output) → Answers (faults_between count (sees.fault_count k.store.shelf)) start lines e out notes k.tries
+  pub serves : (count : ℕ) → (Stayed count (sees.fault_count k.store.shelf) → IsSettled sees k.store.shelf) → (lines : List NamedLine) (e : ThreadsEnd) (out : Output) → Answers (faults_between count (sees.fault_count k.store.shelf)) start lines e out notes k.tries
       → ServesSessions sees tells start moment past (faults_between count (sees.fault_count k.store.shelf)) lines e out k.store.shelf
-  serves count lines e out answers = record { notes = notes; tries = k.tries; answers = answers; gives = gives; since = (holds.folder h).since }
+  serves count settled lines e out answers = record { notes = notes; tries = k.tries; answers = answers; gives = gives; since = (holds.folder h).since; settled = settled }
 
-  module _ (count : ℕ) (lines : List NamedLine) (servable : All (λ (line : NamedLine). IsServable line.1) lines) (parts : List Part) (are_parts : AreParts lines parts) (small : IsU32 (length parts)) (sessions : List Member) (settles : Settles sees count (length parts) (length parts) sessions k) (whole failed : Bool) (out : Output)
+  module _ (count : ℕ) (settled : KeepsSettled sees count honest k) (lines : List NamedLine) (servable : All (λ (line : NamedLine). IsServable line.1) lines) (parts : List Part) (are_parts : AreParts lines parts) (small : IsU32 (length parts)) (sessions : List Member) (settles : Settles sees count (length parts) (length parts) sessions k) (whole failed : Bool) (out : Output)
       (hands : HandsIn start count honest parts sessions whole failed out) (mark : Mark) (mark_is : mark ≡ k.store.mark) (groups faults : ℕ) (groups_are : groups ≡ length notes) where
     abbrev handed : HasHanded start count parts sessions whole failed out
     handed = hands.handed h
@@ -215,7 +216,7 @@ module _ {S C : Type 0} (sees : SeesFolder S) (tells : Type 0) (start : Log) (mo
     }
 
     pub handed_serves : ServesSessions sees tells start moment past (faults_between count (sees.fault_count k.store.shelf)) lines ends_so out k.store.shelf
-    handed_serves = serves count lines ends_so out answers
+    handed_serves = serves count (settled h) lines ends_so out answers
 
     pub concluded : (e : ThreadsEnd) (shelf : S) → e ≡ ends_so → shelf ≡ k.store.shelf → ServesSessions sees tells start moment past (faults_between count (sees.fault_count shelf)) lines e out shelf
     concluded e shelf e_is shelf_is =
@@ -284,7 +285,7 @@ module _ {S C : Type 0} (sees : SeesFolder S) (tells : Type 0) (start : Log) (mo
 
   pub none_serves : (e : ThreadsEnd) → IsNone lines store.mark e → ServesSessions sees tells start moment past (faults_between count (sees.fault_count store.shelf)) lines e out store.shelf
   none_serves e is =
-      serves sees tells start moment past honest first holds h here count lines e out (record {
+      serves sees tells start moment past honest first holds h here count (λ stayed. (begins.folder h).settled) lines e out (record {
         are = holds.stands.notes_are;
         replies = none;
         count = length-replicate (session_count lines) [];

@@ -120,4 +120,5 @@ module _ {S C : Type 0} (sees : SeesFolder S) (ticks : SeesTime C) (clock : ℕ 
     crash = run_crash new serves.notes serves.tries serves.answers.are serves.gives serves.since;
     opens = run_opens new serves.notes serves.tries serves.answers.are serves.gives serves.since;
     next = run_next new serves.notes serves.tries serves.answers.are serves.gives serves.since;
+    settled = serves.settled;
   }

@@ -3,3 +3,4 @@ pub mod Scripts
 pub mod Sessions
 pub mod Serves
 pub mod Jobs
+pub mod NextRuns

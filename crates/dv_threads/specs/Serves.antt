@@ -8,7 +8,7 @@ use Rattle.dv_model.specs.Journals.{Log}
 use Rattle.dv_model.specs.Transcripts.{unavailable_count}
 use Rattle.dv_interleavings.specs.Promises.{GoesOn}
 use Rattle.dv_shelf.specs.Causes.{Stayed}
-use Rattle.dv_shelf.specs.Crashes.{LeavesOnly}
+use Rattle.dv_shelf.specs.Crashes.{IsSettled, LeavesOnly}
 use Rattle.dv_shelf.specs.Folders.{Folder, IsNew}
 use Rattle.dv_shelf.specs.Sees.{SeesFolder}
 use Rattle.dv_shelf.specs.Streams.{Appends, AppendsFront}
@@ -94,7 +94,8 @@ pub record GivesNotes {S : Type 0} (sees : SeesFolder S) (tells : Type 0) (start
   pub after : (c : Folder) → sees.may_leave new c → GivesLast tells start notes tries c
   pub durable : (c : Folder) → sees.may_leave new c → IsDurable start notes c
 
--- What sessions did since they were made over a store, and what a crash has left since a moment.
+-- What sessions did since they were made over a settled store, and what a crash has left since a
+-- moment. Where no failure was counted since, the folder is settled.
 pub record ServesSessions {S : Type 0} (sees : SeesFolder S) (tells : Type 0) (start : Log)
     (moment : ℕ) (past : ℕ → Folder → Type 0) (faults : Faults) (lines : List NamedLine)
     (e : ThreadsEnd) (out : Output) (new : S) : Type 0 where
@@ -103,6 +104,7 @@ pub record ServesSessions {S : Type 0} (sees : SeesFolder S) (tells : Type 0) (s
   pub answers : Answers faults start lines e out notes tries
   pub gives : GivesNotes sees tells start notes tries new
   pub since : LeavesSince sees moment past new (MayGive tells start notes tries)
+  pub settled : Stayed faults.before faults.now → IsSettled sees new
 
 -- ---- a run
 
@@ -128,7 +130,9 @@ pub record OpensFirst {S : Type 0} (sees : SeesFolder S) (tells : Type 0) (start
 -- and a number keeps its UID; and there is an order of the sessions' steps that is an interleaving
 -- with this log. The folder gives that log, or that with the group of a last write that the disk
 -- failed; so does what a crash behind the run leaves, and a crash during it leaves a front of it,
--- or a front with the group of a write that the disk failed there. A next run may begin from each.
+-- or a front with the group of a write that the disk failed there. A next run may begin from each of
+-- these, and from what is left as it is where the count of failures didn't rise, since that is
+-- settled then.
 pub record ServesThreads {S : Type 0} (sees : SeesFolder S) (clock : ℕ → ℕ) (tells : Type 0)
     (faults : Faults) (lines : List NamedLine) (e : ThreadsEnd) (out : Output) (old new : S)
     : Type 0 where
@@ -143,3 +147,4 @@ pub record ServesThreads {S : Type 0} (sees : SeesFolder S) (clock : ℕ → ℕ
   pub crash : LeavesOnly sees old new (MayLeave tells start notes tries (sees.files old))
   pub opens : OpensFirst sees tells start notes tries old new
   pub next : LeavesTrue sees old new
+  pub settled : Stayed faults.before faults.now → IsSettled sees new

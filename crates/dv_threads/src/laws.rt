@@ -1,10 +1,11 @@
-//! What holds of the transcripts of sessions that wrote one log.
+//! What holds of the transcripts of sessions that wrote one log, and of what they leave.
 
 ghost use Rattle.dv_shelf.specs.Folders.{Folder};
+ghost use Rattle.dv_threads.specs.NextRuns.{ThreadsGoOn};
 ghost use Rattle.dv_threads.specs.Sessions.{FewAreUnavailable, SessionsWriteOneLog};
 ghost use Rattle.dv_threads.specs.Transcripts.{StoriesAreTranscripts};
 
-use dv_shelf::Shelf;
+use dv_shelf::{Clock, Shelf, Sink};
 
 /// Where each session has a story over one log, and what they count of their entries makes it up,
 /// each entry is that of one answered command, or the last of a session whose command isn't
@@ -27,4 +28,10 @@ pub fn folder_laws<S: Shelf>()
     ensures files { (s : S) → S.sees.tells → S.sees.may_leave s (S.sees.files s) }
     ensures only { (s : S) (c : Folder) → S.sees.tells →
         S.sees.left_since s (S.sees.moment s) c → S.sees.may_leave s c }
+{}
+
+/// A next run may begin over the folder that sessions in threads left, as it is, where no failure
+/// of the folder was counted in the run, however that ended: it is settled, with a true cache file.
+pub fn runs_may_follow_threads<S: Shelf, O: Sink, C: Clock>()
+    ensures { ThreadsGoOn S.sees O.sees C.sees }
 {}

@@ -8,5 +8,7 @@ mod serving;
 mod threads;
 
 pub use ending::{Served, ThreadsEnd};
-pub use laws::{folder_laws, sessions_write_one_log, stories_are_transcripts};
+pub use laws::{
+    folder_laws, runs_may_follow_threads, sessions_write_one_log, stories_are_transcripts,
+};
 pub use threads::serve_threads;

@@ -45,7 +45,7 @@ returns-clause-serves g c = λ h lines are servable.
     subst (λ (n : ℕ). Settles S.sees count (length parts) n handed.sessions.items k) c.requires.ledgers.1
     (subst (λ (n : ℕ). Settles S.sees count n g.M.Ledger.parts handed.sessions.items k) c.requires.ledgers.0 closed.4) in
     let mark : c.close-store.result.0.mark ≡ k.store.mark = ap (λ s. s.mark) closed.1 in
-    concluded S.sees g.C.Clock.sees.tells start g.K.Keeping.moment g.K.Keeping.past honest k closed.3 h (λ tells. c.folder_laws.ensures.files k.store.shelf tells) count lines servable parts are (omega (arith, c.requires.ledgers.2)) handed.sessions.items settles handed.whole handed.failed
+    concluded S.sees g.C.Clock.sees.tells start g.K.Keeping.moment g.K.Keeping.past honest k closed.3 h (λ tells. c.folder_laws.ensures.files k.store.shelf tells) count closed.6 lines servable parts are (omega (arith, c.requires.ledgers.2)) handed.sessions.items settles handed.whole handed.failed
     (output_of O.sees c.args.out.now c.hand_in-sessions.new.out) hands c.close-store.result.0.mark mark c.close-store.result.1 (O.sees.fault_count c.hand_in-sessions.new.out) closed.2 c.conclude.result.end c.conclude.result.shelf c.conclude.ensures.end
     (c.conclude.ensures.shelf ∙ ap (λ s. s.shelf) closed.1)
 
