@@ -1,6 +1,7 @@
 pub mod Keys
 pub mod Counting
 pub mod Saving
+mod Placing
 pub mod Spelled
 mod Spans
 pub mod Moving

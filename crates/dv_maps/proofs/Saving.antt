@@ -33,7 +33,7 @@ keys_pushed : (rows : List Row) (row : Row) → keys (rows ++ row ∷ []) ≡ ke
 keys_pushed [] row = refl
 keys_pushed (r ∷ rows) row = ap (λ (ks : List Key). key r ∷ ks) (keys_pushed rows row)
 
-each_pushed : {X Y : Type 0} (f : X → Y) (xs : List X) (x : X) → each f (xs ++ x ∷ []) ≡ each f xs ++ f x ∷ []
+pub each_pushed : {X Y : Type 0} (f : X → Y) (xs : List X) (x : X) → each f (xs ++ x ∷ []) ≡ each f xs ++ f x ∷ []
 each_pushed f [] x = refl
 each_pushed f (y ∷ xs) x = ap (λ ys. f y ∷ ys) (each_pushed f xs x)
 
@@ -235,7 +235,7 @@ module _ (id : ℕ) (uid : id < 2 ^ 32) (place : Place) (after : Mailbox) where
             ∙ pushed_keys id uid ref_current (count_row id 1) count_here [] (place_part ∷ zeros 2 ∷ []) (tt {0});
       })
 
-  new_place : IsPlace place → place_of map_extensions (place_part ∷ count_part ∷ []) ≡ place
+  pub new_place : IsPlace place → place_of map_extensions (place_part ∷ count_part ∷ []) ≡ place
   new_place is = λ i. record {
     file = from_le_bytes-to_le_bytes_4 place.file is.file i;
     offset = from_le_bytes-to_le_bytes_4 place.offset is.offset i;
@@ -271,20 +271,20 @@ module _ (m after : Mailbox) (place : Place) (is : IsPlace place) (uid : m.next_
   abbrev id : ℕ
   id = m.next_uid
 
-  abbrev made_key : Key
+  abbrev pub made_key : Key
   made_key = new_key id uid place after
 
-  record IsSaved : Type 0 where
-    next : after.next_uid ≡ id + 1
-    extensions : after.extensions ≡ map_extensions
-    rows : keys after.rows ≡ keys m.rows ++ made_key ∷ []
+  pub record IsSaved : Type 0 where
+    pub next : after.next_uid ≡ id + 1
+    pub extensions : after.extensions ≡ map_extensions
+    pub rows : keys after.rows ≡ keys m.rows ++ made_key ∷ []
 
   appended : applied m (save_records id place) ≡ Some after → applied (stamped m.rows (with_row (with_higher m) (record { uid = id; flags = 0 }))) (rest id uid place after) ≡ Some after
   appended gives =
       let test : nat_lt id id ≡ false = grind (arith, nat_tests) in
       subst (λ (b : Bool). option_and_then (λ n. applied n (rest id uid place after)) (option_map (stamped m.rows) (cond b None (Some (with_row (with_higher m) (record { uid = id; flags = 0 }))))) ≡ Some after) test gives
 
-  saved_own : m.extensions ≡ map_extensions → IsValid m → applied m (save_records id place) ≡ Some after → IsSaved
+  pub saved_own : m.extensions ≡ map_extensions → IsValid m → applied m (save_records id place) ≡ Some after → IsSaved
   saved_own own valid gives =
       let one : Mailbox = stamped m.rows (with_row (with_higher m) (record { uid = id; flags = 0 })) in
       let is_one = appended_is m map_extensions own one refl in

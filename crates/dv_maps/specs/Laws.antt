@@ -1,5 +1,5 @@
 -- What the groups of a storage do to the storage of its map, and to what is kept of its texts.
-use Rattle.std.specs.Prelude.{◌≡◌, ◌⊎◌, ℕ, ◌-◌, ◌^◌, ◌<◌, ◌≤◌, List, [], ◌∷◌, All, Some, codes, length, IsSome, flat_map}
+use Rattle.std.specs.Prelude.{◌≡◌, ◌⊎◌, ℕ, ◌-◌, ◌^◌, ◌<◌, ◌≤◌, List, [], ◌∷◌, ◌++◌, All, Some, codes, length, IsSome, flat_map}
 use Rattle.dv_model.specs.declared.types.Extension.{Extension}
 use Rattle.dv_model.specs.declared.types.Mailbox.{Mailbox}
 use Rattle.dv_model.specs.Effects.{applied}
@@ -10,7 +10,7 @@ use Rattle.dv_model.specs.Spelling.{IsRecord, IsUid, written}
 use Rattle.dv_shelf.specs.Folders.{Folder}
 use Rattle.dv_maps.specs.declared.place.Place.{Place}
 use Rattle.dv_maps.specs.Groups.{count_records, save_records}
-use Rattle.dv_maps.specs.Maps.{row_count}
+use Rattle.dv_maps.specs.Maps.{places_of, row_count}
 use Rattle.dv_maps.specs.Storages.{saved, storage_of, with_count}
 use Rattle.dv_maps.specs.Texts.{KeepsTexts, Messages, text_at, with_message}
 
@@ -108,3 +108,23 @@ abbrev pub SavesAreWritten : Type 0
 SavesAreWritten =
     (m : Mailbox) (place : Place) → IsUid m.next_uid
     → AreWritten m (save_records m.next_uid place) 120
+
+-- ---- where the texts stand
+
+-- the map has its extensions, and the texts of its rows stand at these places
+abbrev pub HasPlaces : Mailbox → List Place → Type 0
+HasPlaces m places = (m.extensions ≡ map_extensions) × (places_of m ≡ places)
+
+-- A copy and a drop leave all places of a map with rows, and a save adds one behind them.
+pub record PlacesAre : Type 0 where
+  pub counts : (m after : Mailbox) (id count : ℕ)
+      → m.extensions ≡ map_extensions
+      → IsValid m
+      → applied m (count_records id count) ≡ Some after
+      → HasPlaces after (places_of m)
+  pub saves : (m after : Mailbox) (place : Place)
+      → m.extensions ≡ map_extensions
+      → IsValid m
+      → IsPlace place
+      → applied m (save_records m.next_uid place) ≡ Some after
+      → HasPlaces after (places_of m ++ place ∷ [])

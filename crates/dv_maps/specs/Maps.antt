@@ -1,5 +1,5 @@
 -- The rows of a storage's map (Dovecot's mdbox-map.c; the layout is this project's own).
-use Rattle.std.specs.Prelude.{ℕ, List, [], codes, unwrap_or}
+use Rattle.std.specs.Prelude.{ℕ, List, [], codes, map, unwrap_or}
 use Rattle.dv_model.specs.declared.types.Extension.{Extension}
 use Rattle.dv_model.specs.declared.types.Mailbox.{Mailbox}
 use Rattle.dv_model.specs.declared.types.Row.{Row}
@@ -24,3 +24,7 @@ row_place m row = place_of m.extensions row.parts
 
 abbrev pub row_count : Mailbox → Row → ℕ
 row_count m row = count_of m.extensions row.parts
+
+-- where the texts of all rows stand
+abbrev pub places_of : Mailbox → List Place
+places_of m = map (row_place m) m.rows

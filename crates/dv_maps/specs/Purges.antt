@@ -50,9 +50,13 @@ file_records file new rs =
     purge_records (moved new 0 (filter (is_kept file) rs))
     (map (λ r. r.id) (filter (is_gone file) rs))
 
+-- the bytes of these rows' texts
+abbrev pub size_of : List Mapped → ℕ
+size_of rows = sum_by (λ r. r.place.size) rows
+
 -- the bytes of the texts that a file keeps
 abbrev pub kept_size : ℕ → List Mapped → ℕ
-kept_size file rs = sum_by (λ r. r.place.size) (filter (is_kept file) rs)
+kept_size file rs = size_of (filter (is_kept file) rs)
 
 -- ---- the map behind it
 

@@ -1,6 +1,6 @@
 //! What the groups of a storage do to the storage of its map.
 
-ghost use Rattle.dv_maps.specs.Laws.{CountsAre, CountsAreWritten, SavesAre, SavesAreWritten};
+ghost use Rattle.dv_maps.specs.Laws.{CountsAre, CountsAreWritten, PlacesAre, SavesAre, SavesAreWritten};
 ghost use Rattle.dv_maps.specs.Purges.{RewritesAre, RewritesAreWritten, RewritesKeep, RewritesThin, ThinningsAre};
 
 /// A copy and a drop change the count of one id, and leave what is kept of the texts.
@@ -12,6 +12,11 @@ pub fn counts_are()
 /// kept with it.
 pub fn saves_are()
     ensures { SavesAre }
+{}
+
+/// A copy and a drop leave the places of all texts, and a save adds that of its own.
+pub fn places_are()
+    ensures { PlacesAre }
 {}
 
 /// The records of a copy, a drop and a save have a spelling, and apply to any map.

@@ -8,10 +8,9 @@ use Rattle.dv_model.specs.declared.types.Mailbox.{Mailbox}
 use Rattle.dv_shelf.specs.declared.shelf.Name.TheVariants as name
 use Rattle.dv_shelf.specs.Folders.{Folder}
 use Rattle.dv_maps.specs.declared.mapped.Mapped.{Mapped}
-use Rattle.dv_maps.specs.Purges.{all_mapped, is_kept, rewritten}
+use Rattle.dv_maps.specs.Purges.{all_mapped, is_kept, rewritten, size_of}
 use Rattle.dv_maps.specs.Texts.{text_in}
 use Rattle.dv_maps.proofs.Leaving.{Has, has_of, new_named, of_has, other_kept, row_stays, zero_left}
-use Rattle.dv_mdbox.specs.Gathering.{size_of}
 use Rattle.dv_mdbox.specs.Purging.{AllNamed, IsCleared, IsClearedTo, IsNamed, IsNextGone, IsPassedOver, IsTaken, IsTakenAway, NoneGoneFrom, kept_rows}
 use Rattle.dv_mdbox.proofs.Rewritten.{named_below}
 

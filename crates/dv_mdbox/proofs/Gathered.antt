@@ -15,10 +15,10 @@ use Rattle.dv_dbox.specs.Mails.{mail_in}
 use Rattle.dv_maps.specs.declared.mapped.Mapped.{Mapped}
 use Rattle.dv_maps.specs.declared.place.Place.{Place}
 use Rattle.dv_maps.specs.Maps.{count_of, place_of}
-use Rattle.dv_maps.specs.Purges.{all_mapped, bytes_in, is_gone, is_kept, mapped, texts_in}
+use Rattle.dv_maps.specs.Purges.{all_mapped, bytes_in, is_gone, is_kept, mapped, size_of, texts_in}
 use Rattle.dv_maps.specs.Texts.{text_in}
 use Rattle.dv_mdbox.specs.declared.gathering.FileRows.{FileRows}
-use Rattle.dv_mdbox.specs.Gathering.{AddsRow, AreRowsOf, Gathers, GathersFrom, IsLess, size_of}
+use Rattle.dv_mdbox.specs.Gathering.{AddsRow, AreRowsOf, Gathers, GathersFrom, IsLess}
 use Rattle.dv_mdbox.specs.Purging.{IsNamed, IsNextGone, NoneGoneFrom}
 
 -- ---- the first rows of a map

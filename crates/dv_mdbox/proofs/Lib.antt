@@ -8,6 +8,7 @@ pub mod Opened
 pub mod Torn
 pub mod Saved
 pub mod Tailing
+pub mod Ending
 pub mod Finding
 pub mod Thinning
 pub mod Stepping
@@ -15,6 +16,5 @@ pub mod Rewritten
 pub mod Gathered
 pub mod Clearing
 pub mod Orphaned
-pub mod Recorded
 pub mod Finished
 pub mod Moved

@@ -11,11 +11,11 @@ use Rattle.dv_shelf.specs.Folders.{Folder}
 use Rattle.dv_filing.specs.declared.steps.Files.TheVariants as kind
 use Rattle.dv_maps.specs.declared.mapped.Mapped.{Mapped}
 use Rattle.dv_maps.specs.Maps.{row_place}
-use Rattle.dv_maps.specs.Purges.{StandsIn, all_mapped, is_kept, mapped}
+use Rattle.dv_maps.specs.Purges.{StandsIn, all_mapped, is_kept, mapped, size_of}
 use Rattle.dv_maps.specs.Texts.{HasText, KeepsTexts, Messages, text_in}
 use Rattle.dv_maps.proofs.Rewriting.{kept_front}
 use Rattle.dv_mdbox.specs.declared.gathering.FileRows.{FileRows}
-use Rattle.dv_mdbox.specs.Gathering.{AreRowsOf, Gathers, size_of}
+use Rattle.dv_mdbox.specs.Gathering.{AreRowsOf, Gathers}
 use Rattle.dv_mdbox.specs.Purging.{IsPassedOver, IsRewriteOf, gone_ids, kept_rows}
 use Rattle.dv_mdbox.proofs.Gathered.{IsInside}
 

@@ -65,7 +65,7 @@ module _ (m after : Mailbox) (valid : IsValid m) (target : Target) (free : IsFre
   stays_at d c before step keeps = λ k row inside some saved is. step (row_place m (get_or m.rows k row)) saved (before k row inside) (keeps k row inside some saved is)
 
   before_all : (k : ℕ) (row : Row) → k < length m.rows → (row_place m (get_or m.rows k row)).file ≡ file → end_of (row_place m (get_or m.rows k row)) ≤ target.offset
-  before_all k row inside = free k row inside
+  before_all k row inside = (free k row inside).ends
 
   pub through_save : KeepsThrough messages next m after (files.Text file target.offset text)
   through_save = record {

@@ -1,5 +1,5 @@
 -- Where the text of the next message goes.
-use Rattle.std.proofs.Common.{◌≡◌, ⊎_elim, ℕ, ◌+◌, ◌<◌, ◌≤◌, max, List, [], ◌∷◌, ◌++◌, length, take, get_or, Option, Some, None, sym, ◌∙◌, ap, subst, arith}
+use Rattle.std.proofs.Common.{◌≡◌, ⊎_elim, ℕ, ◌+◌, ◌<◌, max, List, [], ◌∷◌, ◌++◌, length, take, get_or, Option, Some, None, sym, ◌∙◌, ap, subst, arith}
 use Rattle.std.specs.Prelude.{All, Contains, slice_get}
 use Rattle.std.proofs.lemmas.Bool.{cases_lt}
 use Rattle.std.proofs.lemmas.List.{take_more}
@@ -13,7 +13,7 @@ use Rattle.dv_maps.specs.declared.place.Place.{Place}
 use Rattle.dv_maps.specs.Maps.{row_place}
 use Rattle.dv_mdbox.specs.declared.tails.Tail.{Tail}
 use Rattle.dv_mdbox.specs.declared.tails.Target.{Target}
-use Rattle.dv_mdbox.specs.Tails.{Extends, IsBefore, IsFreeFrom, IsHighest, IsTail, IsTailOf, end_of, larger, mail_number, number_behind, tail_file}
+use Rattle.dv_mdbox.specs.Tails.{Extends, IsBefore, IsFreeFrom, IsHighest, IsTail, IsTailOf, larger, mail_number, number_behind, tail_file}
 
 -- ---- the last text of the last file
 
@@ -118,7 +118,7 @@ highest_more names i d old new number less is now was =
 pub free_behind : (m : Mailbox) (tail : Option Tail) (target : Target) → IsTailOf m m.rows tail → tail ≡ Some (record { file = target.file; end = target.offset }) → IsFreeFrom m target
 free_behind m tail target is same =
     let last : IsTail m m.rows (record { file = target.file; end = target.offset }) = subst (IsTailOf m m.rows) same is in
-    λ k row inside at. (last.each k row inside).ends at
+    last.each
 
 module _ (m : Mailbox) (file : ℕ) where
   above : (t : Tail) (highest : Option ℕ) → file ≡ number_behind (larger (Some t.file) highest) → t.file < file
@@ -127,9 +127,9 @@ module _ (m : Mailbox) (file : ℕ) where
 
   pub free_new : (tail : Option Tail) (highest : Option ℕ) → IsTailOf m m.rows tail → file ≡ number_behind (larger (tail_file tail) highest) → IsFreeFrom m (record { file = file; offset = 0 })
   free_new None highest none is =
-      let Free : Row → Type 0 = λ row. (row_place m row).file ≡ file → end_of (row_place m row) ≤ 0 in
+      let Free : Row → Type 0 = λ row. IsBefore (record { file = file; end = 0 }) (row_place m row) in
       subst (All Free) (sym none) (All-nil Free)
-  free_new (Some t) highest last is = λ k row inside at.
+  free_new (Some t) highest last is = λ k row inside.
       let least = (last.each k row inside).highest in
       let more = above t highest is in
-      absurd (omega (arith, least, more, at))
+      record { highest = omega (arith, least, more); ends = λ at. absurd (omega (arith, least, more, at)) }

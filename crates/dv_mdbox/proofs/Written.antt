@@ -62,6 +62,15 @@ marked_equal mark chain old owed same stands = subst (λ (p : Mark). StandsAt ma
 
 -- ---- the map, the entries and the mark
 
+-- behind the steps the map is that with the records applied
+pub map_written : (records : List Record) (owed left : Option Turn) (old chain : Chain) → AreEqual chain old → (files : Files) (text : List ℕ) (steps : Steps) → IsReadyFor owed chain records files text steps
+    → IsSome (applied old.live.mailbox records) → (next : Chain) (done : Committed) {E : Type 0} → CarriesOut owed left text steps chain next {E = E} (Ok done)
+    → applied old.live.mailbox records ≡ Some next.live.mailbox
+map_written records owed left old chain same files text steps is applies next done value =
+    let one = some_of (applied old.live.mailbox records) applies in
+    let gives : applied chain.live.mailbox records ≡ Some one.0 = ap (λ (m : Mailbox). applied m records) same.mailbox ∙ one.1 in
+    one.1 ∙ ap (λ (m : Mailbox). Some m) (sym (value.mailbox one.0 (is.pending one.0 gives)))
+
 module _ {S C : Type 0} (records : List Record) (old : State S C) (chain : Chain) (same : AreEqual chain old.chain) where
   -- nothing was written
   pub group_unwritten : {T E : Type 0} (e : E) (shelf : S) → WritesGroup records old (record old { shelf = shelf; chain = chain }) {T = T} {E = E} (Err e)
@@ -80,10 +89,8 @@ module _ {S C : Type 0} (records : List Record) (old : State S C) (chain : Chain
         → WritesGroup records old (record old { shelf = shelf; chain = next; owed = left; mark = done.mark; entries = entries }) {T = Unit {0}} {E = F} (Ok tt)
     group_written done entries stands added value =
         let here = marked_equal old.mark chain old.chain old.owed same stands in
-        let one = some_of (applied old.chain.live.mailbox records) applies in
-        let gives : applied chain.live.mailbox records ≡ Some one.0 = ap (λ (m : Mailbox). applied m records) same.mailbox ∙ one.1 in
         record {
-          map = one.1 ∙ ap (λ (m : Mailbox). Some m) (sym (value.mailbox one.0 (is.pending one.0 gives)));
+          map = map_written records old.owed left old.chain chain same files text steps is applies next done value;
           entries = added;
           mark = (value.mark.1, value.mark.0 ∙ place_behind records old.owed chain files text steps is ∙ behind_group old.mark old.owed chain records here);
           kept = tt;

@@ -1,12 +1,12 @@
 -- What a purge finds in the rows of a map and in a file.
-use Rattle.std.specs.Prelude.{◌≡◌, ◌⊎◌, ℕ, ◌+◌, ◌^◌, ◌<◌, ◌≤◌, List, [], ◌∷◌, ◌++◌, All, Contains, IfSome, IsSomeAnd, Option, Some, None, filter, length, map, sum_by}
+use Rattle.std.specs.Prelude.{◌≡◌, ◌⊎◌, ℕ, ◌+◌, ◌^◌, ◌<◌, ◌≤◌, List, [], ◌∷◌, ◌++◌, All, Contains, IfSome, IsSomeAnd, Option, Some, None, filter, length, map}
 use Rattle.dv_model.specs.declared.types.Mailbox.{Mailbox}
 use Rattle.dv_model.specs.Journals.{Damaged}
 use Rattle.dv_shelf.specs.declared.shelf.Name.{Name}
 use Rattle.dv_shelf.specs.declared.shelf.Name.TheVariants as name
 use Rattle.dv_maps.specs.declared.mapped.Mapped.{Mapped}
 use Rattle.dv_maps.specs.declared.place.Place.{Place}
-use Rattle.dv_maps.specs.Purges.{bytes_in, is_gone, is_kept, texts_in}
+use Rattle.dv_maps.specs.Purges.{bytes_in, is_gone, is_kept, size_of, texts_in}
 use Rattle.dv_maps.specs.Texts.{text_in}
 use Rattle.dv_mdbox.specs.declared.gathering.FileRows.{FileRows}
 use Rattle.dv_mdbox.specs.Purging.{IsNamed, gone_ids, kept_rows}
@@ -29,10 +29,6 @@ abbrev pub GathersFrom : List ℕ → Place → Option (List ℕ) → Type 0
 GathersFrom bytes place None = text_in (Some bytes) place ≡ Damaged
 GathersFrom bytes place (Some text) =
     (text ≡ bytes_in bytes place) × (place.offset + place.size ≤ length bytes)
-
--- the bytes of these rows' texts
-abbrev pub size_of : List Mapped → ℕ
-size_of rows = sum_by (λ r. r.place.size) rows
 
 -- The texts of some rows in a file, one behind another; none where one is damaged, or where they
 -- are too long together.

@@ -4,6 +4,7 @@ use Rattle.std.specs.Option.{option_and_then}
 use Rattle.dv_model.specs.declared.types.Mailbox.{Mailbox}
 use Rattle.dv_model.specs.declared.types.Row.{Row}
 use Rattle.dv_model.specs.Journals.{Damaged, Held, Mail}
+use Rattle.dv_shelf.specs.Folders.{counted}
 use Rattle.dv_maps.specs.declared.place.Place.{Place}
 use Rattle.dv_maps.specs.Maps.{row_count, row_place}
 use Rattle.dv_mdbox.specs.declared.looking.Reference.{Reference}
@@ -41,3 +42,8 @@ GetsMessage m id Is (Err fault.None) = reference_of m id ≡ None
 GetsMessage m id Is (Err (fault.Disk faults)) = IsSome (reference_of m id)
 GetsMessage m id Is (Err fault.NoMemory) = ⊤
 GetsMessage m id Is (Err other) = ⊥
+
+-- message files are read once for an id that has a reference, and else not
+abbrev pub CountsRead : Option Reference → ℕ → ℕ → Type 0
+CountsRead None old new = new ≡ old
+CountsRead (Some reference) old new = new ≡ counted old 1

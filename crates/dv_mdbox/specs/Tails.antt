@@ -1,11 +1,14 @@
 -- Where the text of the next message goes (own, after Dovecot's mdbox_rotate_size).
 use Rattle.std.specs.Prelude.{◌≡◌, ◌⊎◌, ℕ, ◌+◌, ◌^◌, ◌<◌, ◌≤◌, max, List, [], All, Contains, Option, Some, None, IfSome, option_map, Result, Ok, Err, ⊤}
 use Rattle.dv_model.specs.declared.types.Mailbox.{Mailbox}
+use Rattle.dv_model.specs.declared.types.Record.{Record}
 use Rattle.dv_model.specs.declared.types.Row.{Row}
+use Rattle.dv_model.specs.Effects.{applied}
 use Rattle.dv_shelf.specs.declared.shelf.Name.{Name}
 use Rattle.dv_shelf.specs.declared.shelf.Name.TheVariants as name
 use Rattle.dv_shelf.specs.Folders.{Folder, Lists}
 use Rattle.dv_maps.specs.declared.place.Place.{Place}
+use Rattle.dv_maps.specs.Laws.{map_extensions}
 use Rattle.dv_maps.specs.Maps.{row_place}
 use Rattle.dv_mdbox.specs.declared.fault.StorageFault.{StorageFault}
 use Rattle.dv_mdbox.specs.declared.fault.StorageFault.TheVariants as fault
@@ -31,6 +34,22 @@ pub record IsTail (m : Mailbox) (rows : List Row) (t : Tail) : Type 0 where
 abbrev pub IsTailOf : Mailbox → List Row → Option Tail → Type 0
 IsTailOf m rows None = rows ≡ []
 IsTailOf m rows (Some t) = IsTail m rows t
+
+-- Where the end of the last file is kept, it is the map's, which has the extensions of a storage.
+abbrev pub KeepsEnd : Mailbox → Option Tail → Type 0
+KeepsEnd m None = ⊤
+KeepsEnd m (Some t) = (m.extensions ≡ map_extensions) × IsTail m m.rows t
+
+-- so it is behind these records
+abbrev pub KeepsEndBehind : Mailbox → List Record → Option Tail → Type 0
+KeepsEndBehind m records tail =
+    (after : Mailbox) → applied m records ≡ Some after → KeepsEnd after tail
+
+-- it is the end of a text at this place, where the map has the extensions
+abbrev pub IsEndBehind : Mailbox → Place → Option Tail → Type 0
+IsEndBehind m place None = ⊤
+IsEndBehind m place (Some t) =
+    (m.extensions ≡ map_extensions) × (t.file ≡ place.file) × (t.end ≡ end_of place)
 
 -- the tail with one place more
 pub record Extends (tail : Option Tail) (place : Place) (t : Tail) : Type 0 where
@@ -75,13 +94,13 @@ abbrev pub GoesBehind : Option Tail → Type 0
 GoesBehind None = ⊥
 GoesBehind (Some t) = t.end < file_limit
 
--- no text of the map stands in the file from there on
+-- all texts of the map stand before there: in files of lower numbers, or in this one
 abbrev pub IsFreeFrom : Mailbox → Target → Type 0
 IsFreeFrom m target =
-    All (λ row. (row_place m row).file ≡ target.file → end_of (row_place m row) ≤ target.offset)
+    All (λ row. IsBefore (record { file = target.file; end = target.offset }) (row_place m row))
     m.rows
 
--- a text of so many bytes may stand at the place: none of the map's stands there or behind, and its
+-- a text of so many bytes may stand at the place: all of the map's stand before there, and its
 -- numbers have 32 bits
 pub record IsPlaceFor (m : Mailbox) (long : ℕ) (place : Place) : Type 0 where
   pub free : IsFreeFrom m (record { file = place.file; offset = place.offset })

@@ -12,11 +12,11 @@ ghost use Rattle.dv_mdbox.specs.States.{IsAtRest};
 ghost use Rattle.dv_mdbox.specs.Writes.{CountsQuietly, WritesGroup};
 
 use crate::looking::reference_of;
-use crate::records::count_records;
 use crate::writing::{is_full, is_valid, turn_time};
 use crate::{Storage, StorageFault};
 use dv_filing::Files;
-use dv_maps::{counts_are, records_are_written};
+use dv_map_groups::count_records;
+use dv_maps::{counts_are, places_are, records_are_written};
 use dv_shelf::{Clock, Shelf};
 
 /// The bytes of the group that gives an id another count.
@@ -44,6 +44,7 @@ impl<S: Shelf, C: Clock> Storage<S, C> {
         is_valid(&self.chain.live);
         records_are_written();
         counts_are();
+        places_are();
         if is_full(&self.chain, COUNT_SIZE) {
             return Err(StorageFault::TooLong {
                 bytes: u64::from(COUNT_SIZE),
@@ -51,7 +52,8 @@ impl<S: Shelf, C: Clock> Storage<S, C> {
         }
         let time = turn_time(&mut self.clock, &self.chain, &self.owed);
         let records = count_records(self.alloc, id, count)?;
-        self.write(records, Files::Nothing, time)
+        let tail = self.tail;
+        self.write(records, Files::Nothing, time, tail)
     }
 
     /// Adds a reference to an id. `None` comes exactly where the id isn't there or has no

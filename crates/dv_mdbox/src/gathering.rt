@@ -2,10 +2,11 @@
 
 ghost use Rattle.std.specs.Prelude.{◌≡◌, ◌^◌, ◌<◌, ◌≤◌, IfOk, IfSome, MatchBool, MatchOption, OnOk, Some, length};
 ghost use Rattle.std.specs.Option.{option_copied};
+ghost use Rattle.dv_maps.specs.Purges.{size_of};
 ghost use Rattle.dv_chain.specs.Openings.{OnlyLooks};
 ghost use Rattle.dv_shelf.specs.Causes.{HasCauseOf};
 ghost use Rattle.dv_shelf.specs.declared.shelf.Name.TheVariants as name;
-ghost use Rattle.dv_mdbox.specs.Gathering.{AddsRow, AreOrphans, AreRowsOf, Gathers, GathersFrom, IsLess, size_of};
+ghost use Rattle.dv_mdbox.specs.Gathering.{AddsRow, AreOrphans, AreRowsOf, Gathers, GathersFrom, IsLess};
 ghost use Rattle.dv_mdbox.specs.Purging.{IsNamed, IsNextGone, NoneGoneFrom};
 
 use crate::Got;

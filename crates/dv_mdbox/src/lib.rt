@@ -10,7 +10,6 @@ mod looking;
 mod opening;
 mod purging;
 mod readying;
-mod records;
 mod rewriting;
 mod saving;
 mod settling;

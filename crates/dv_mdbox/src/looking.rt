@@ -9,7 +9,7 @@ ghost use Rattle.dv_chain.specs.Openings.{OnlyLooks};
 ghost use Rattle.dv_maps.specs.Texts.{text_at, text_in};
 ghost use Rattle.dv_mdbox.specs.Answers.{HasStorageCause};
 ghost use Rattle.dv_mdbox.specs.Looks as looks;
-ghost use Rattle.dv_mdbox.specs.Looks.{GetsMessage, got_mail, reference_in, row_of};
+ghost use Rattle.dv_mdbox.specs.Looks.{CountsRead, GetsMessage, got_mail, reference_in, row_of};
 ghost use Rattle.dv_mdbox.specs.States.{IsLookedAt};
 
 use crate::fault::told;
@@ -132,7 +132,9 @@ impl<S: Shelf, C> Storage<S, C> {
         // Nothing is changed.
         ensures stays { IsLookedAt self.old self.new }
         ensures looks { S.sees.tells → OnlyLooks S.sees self.old.shelf self.new.shelf }
-        // A fault of the disk has its cause.
+        // The file is read once; a fault of the disk has its cause.
+        ensures mail_reads { CountsRead (looks.reference_of self.old.chain.live.mailbox id)
+            (S.sees.mail_reads self.old.shelf) (S.sees.mail_reads self.new.shelf) }
         ensures cause { HasStorageCause (S.sees.fault_count self.old.shelf)
             (S.sees.fault_count self.new.shelf) result }
     {

@@ -5,10 +5,10 @@ ghost use Rattle.dv_logfile.specs.Settling.{StaysSettled};
 ghost use Rattle.dv_shelf.specs.declared.shelf.Name.TheVariants as name;
 ghost use Rattle.dv_chain.specs.Openings.{OnlyLooks};
 ghost use Rattle.dv_chain.specs.Rest.{Nothing, Owed};
-ghost use Rattle.dv_maps.specs.Purges.{StandsIn, texts_in};
+ghost use Rattle.dv_maps.specs.Purges.{StandsIn, size_of, texts_in};
 ghost use Rattle.dv_maps.specs.Texts.{Messages};
 ghost use Rattle.dv_mdbox.specs.Answers.{HasStorageCause, IsFailure};
-ghost use Rattle.dv_mdbox.specs.Gathering.{AreRowsOf, Gathers, size_of};
+ghost use Rattle.dv_mdbox.specs.Gathering.{AreRowsOf, Gathers};
 ghost use Rattle.dv_mdbox.specs.Purging.{AllNamed, AnswersPurge, IsCleared, IsNextGone, IsTaken, IsTakenAway, NoneGoneFrom, NumbersFile, PurgesMap, PurgesQuietly, TakesFile, TakesSome};
 ghost use Rattle.dv_mdbox.specs.States.{IsAtRest, IsLookedAt};
 

@@ -8,22 +8,21 @@ ghost use Rattle.dv_logfile.specs.Settling.{StaysSettled};
 ghost use Rattle.dv_chain.specs.Rest.{Nothing};
 ghost use Rattle.dv_filing.specs.Files as filing;
 ghost use Rattle.dv_maps.specs.Groups.{purge_records as records_of};
-ghost use Rattle.dv_maps.specs.Purges.{AreSpelled, moved};
+ghost use Rattle.dv_maps.specs.Purges.{AreSpelled, moved, size_of as bytes_of};
 ghost use Rattle.dv_maps.specs.Texts.{Messages};
 ghost use Rattle.dv_mdbox.specs.Answers.{HasRoom, HasStorageCause, IsFull};
-ghost use Rattle.dv_mdbox.specs.Gathering.{size_of as bytes_of};
 ghost use Rattle.dv_mdbox.specs.Purging.{AnswersPurge, IsNextGone, IsRewriteOf, IsTakenAway, PurgesQuietly, TakesFile, TakesSome, WritesKept, WritesLater};
 ghost use Rattle.dv_mdbox.specs.States.{IsAtRest};
 ghost use Rattle.dv_mdbox.specs.Writes.{WritesGroup};
 
 use crate::gathering::FileRows;
-use crate::records::purge_records;
 use crate::saving::is_number;
 use crate::writing::{is_full, is_valid, turn_time};
 use crate::{Storage, StorageFault};
 use dv_chain::Chain;
 use dv_filing::Files;
 use dv_logfile::group_text;
+use dv_map_groups::purge_records;
 use dv_maps::{rewrites_are, rewrites_are_written, rewrites_lose_nothing, thinnings_are};
 use dv_model::{Group, List, NoMemory, Record};
 use dv_shelf::{Clock, Shelf};
@@ -69,7 +68,7 @@ impl<S, C> Storage<S, C> {
         ensures { IfOk result (λ records. records
             ≡ records_of (moved new 0 rows.now.kept.items) rows.now.gone.items) }
     {
-        purge_records(self.alloc, rows, new)
+        purge_records(self.alloc, rows.kept.as_slice(), rows.gone.as_slice(), new)
     }
 }
 
@@ -96,7 +95,7 @@ impl<S: Shelf, C: Clock> Storage<S, C> {
             return Err(StorageFault::TooLong { bytes: size });
         }
         let time = turn_time(&mut self.clock, &self.chain, &self.owed);
-        self.write(group.records, files, time)
+        self.write(group.records, files, time, None)
     }
 
     /// Rewrites a file: its kept texts go into a new one, where there are some.

@@ -15,15 +15,15 @@ ghost use Rattle.dv_mdbox.specs.States.{IsAtRest, IsLookedAt};
 ghost use Rattle.dv_mdbox.specs.Tails.{IsFreeFrom, IsPlaceFor};
 ghost use Rattle.dv_mdbox.specs.Writes.{SavesGroup, SavesQuietly, WritesGroup};
 
-use crate::records::save_records;
-use crate::tails::{Target, find_target};
+use crate::tails::{Target, end_behind, find_target};
 use crate::writing::{is_full, is_valid, turn_time};
 use crate::{Storage, StorageFault};
 use dv_apply::Live;
 use dv_chain::Chain;
 use dv_filing::Files;
 use dv_mails::mail_text;
-use dv_maps::{Place, records_are_written, saves_are};
+use dv_map_groups::save_records;
+use dv_maps::{Place, places_are, records_are_written, saves_are};
 use dv_model::{Bytes, NoMemory};
 use dv_plans::message_guid;
 use dv_shelf::{Clock, Shelf};
@@ -108,10 +108,13 @@ impl<S: Shelf, C: Clock> Storage<S, C> {
         is_valid(&self.chain.live);
         records_are_written();
         saves_are();
+        places_are();
         is_number(place.file);
         let id = self.chain.live.next_uid();
         let records = save_records(self.alloc, id, place)?;
-        match self.write(records, Files::Text(place.file, place.offset, text), time) {
+        let tail = end_behind(&self.chain.live, place);
+        let files = Files::Text(place.file, place.offset, text);
+        match self.write(records, files, time, tail) {
             Ok(()) => Ok(id),
             Err(e) => Err(e),
         }
@@ -149,7 +152,8 @@ impl<S: Shelf, C: Clock> Storage<S, C> {
     /// and `Files` exactly where a new file is needed and no number is left for it. `Disk` comes
     /// only where the shelf's count of faults rose: where it doesn't, the answer is one of the
     /// others, whatever was owed. After an error the ids are as before. The clock is read once
-    /// where the log is rotated, and then once for the message.
+    /// where the log is rotated, and then once for the message. The end of the last file is kept:
+    /// only behind an opening, a purge or an error it takes time by the number of ids to find it.
     pub fn save(&mut self, message: &[u8]) -> Result<u32, StorageFault>
         // Which answer it is, and what becomes of the map, over any shelf.
         ensures answers { AnswersSave S.sees.tells (S.sees.files self.old.shelf)
@@ -180,7 +184,7 @@ impl<S: Shelf, C: Clock> Storage<S, C> {
                 bytes: u64::from(SAVE_SIZE),
             });
         }
-        match find_target(self.alloc, &self.chain.live, &mut self.shelf) {
+        match find_target(self.alloc, &self.chain.live, self.tail, &mut self.shelf) {
             Ok(target) => self.put_message(message, target),
             Err(e) => Err(e),
         }

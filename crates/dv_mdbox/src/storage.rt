@@ -5,6 +5,7 @@ ghost use Rattle.dv_chain.specs.Openings.{HasBounds};
 ghost use Rattle.dv_rotation.specs.Texts.{place_of};
 ghost use Rattle.dv_mdbox.specs.States.{StandsAt, fresh_state};
 
+use crate::tails::Tail;
 use dv_chain::Chain;
 use dv_model::{Entry, List, Mark};
 use dv_rotation::Turn;
@@ -24,6 +25,8 @@ pub struct Storage<S, C> {
     pub(crate) start: Mark,
     pub(crate) entries: Vec<Entry>,
     pub(crate) mark: Mark,
+    /// The end of the last message file, where it is kept.
+    pub(crate) tail: Option<Tail>,
 }
 
 impl<S, C> Model for Storage<S, C> {
@@ -35,6 +38,7 @@ impl<S, C> Model for Storage<S, C> {
     ghost use Rattle.dv_rotation.specs.Texts.{place_of};
     ghost use Rattle.dv_writing.specs.Repairing.{IsOwing};
     ghost use Rattle.dv_mdbox.specs.States.{StandsAt, State, state_code};
+    ghost use Rattle.dv_mdbox.specs.Tails.{KeepsEnd};
 
     ghost Value = { State S C };
 
@@ -52,7 +56,8 @@ impl<S, C> Model for Storage<S, C> {
       mark = s.mark;
     } };
 
-    ghost invariant = { λ s. IsOwing s.chain s.owed × StandsAt s.mark (place_of s.chain) s.owed };
+    ghost invariant = { λ s. IsOwing s.chain s.owed × StandsAt s.mark (place_of s.chain) s.owed
+        × KeepsEnd s.chain.live.mailbox s.tail };
 }
 
 /// Where the log of a chain ends.
@@ -80,6 +85,7 @@ pub(crate) fn fresh<S, C>(alloc: Global, shelf: S, clock: C, chain: Chain) -> St
         start: mark,
         entries: Vec::new(alloc),
         mark,
+        tail: None,
     }
 }
 

@@ -4,12 +4,12 @@ ghost use Rattle.std.specs.Prelude.{◌≡◌, ◌<◌, IfOk, MatchOption, Some}
 ghost use Rattle.dv_chain.specs.Openings.{OnlyLooks};
 ghost use Rattle.dv_mdbox.specs.Answers.{HasStorageCause};
 ghost use Rattle.dv_mdbox.specs.Tails as tails;
-ghost use Rattle.dv_mdbox.specs.Tails.{Extends, FindsFile, FindsTarget, GoesBehind, IsFreeFrom, IsHighest, IsTailOf, larger, mail_number};
+ghost use Rattle.dv_mdbox.specs.Tails.{Extends, FindsFile, FindsTarget, GoesBehind, IsEndBehind, IsFreeFrom, IsHighest, IsTailOf, KeepsEnd, larger, mail_number};
 
 use crate::StorageFault;
 use crate::fault::told;
 use dv_apply::Live;
-use dv_maps::{Place, place_of};
+use dv_maps::{Place, is_map, place_of};
 use dv_shelf::{Name, Shelf};
 use std::alloc::Global;
 
@@ -69,6 +69,31 @@ pub(crate) fn tail_of(live: &Live) -> Option<Tail>
         tail = Some(extended(tail, place));
     }
     tail
+}
+
+/// The same, which isn't looked for where it is kept.
+fn last_tail(live: &Live, kept: Option<Tail>) -> Option<Tail>
+    requires { KeepsEnd live.now.mailbox kept }
+    ensures { IsTailOf live.now.mailbox live.now.mailbox.rows result }
+{
+    match kept {
+        Some(tail) => Some(tail),
+        None => tail_of(live),
+    }
+}
+
+/// The end of the last file once a text stands at this place, behind all others. It can be kept
+/// where the map has its extensions, as it has from its first id on.
+pub(crate) fn end_behind(live: &Live, place: Place) -> Option<Tail>
+    ensures { IsEndBehind live.now.mailbox place result }
+{
+    if !is_map(live.extensions().list().as_slice()) {
+        return None;
+    }
+    Some(Tail {
+        file: place.file,
+        end: u64::from(place.offset) + u64::from(place.size),
+    })
 }
 
 /// The larger of two numbers, where there is one.
@@ -154,14 +179,17 @@ fn new_file<S: Shelf>(alloc: Global, shelf: &mut S, tail: Option<Tail>) -> Resul
     }
 }
 
-/// Where the text of the next message goes. The folder is listed where it goes to a new file.
+/// Where the text of the next message goes. Time by the rows where the end of the last file isn't
+/// kept; the folder is listed where the text goes to a new file.
 pub(crate) fn find_target<S: Shelf>(
     alloc: Global,
     live: &Live,
+    kept: Option<Tail>,
     shelf: &mut S,
 ) -> Result<Target, StorageFault>
+    requires { KeepsEnd live.now.mailbox kept }
     ensures finds { FindsTarget S.sees.tells (S.sees.files shelf.old) live.now.mailbox result }
-    // No text of the map stands there.
+    // All texts of the map stand before there.
     ensures free { IfOk result (IsFreeFrom live.now.mailbox) }
     ensures small { IfOk result (λ target. target.offset < 2097152) }
     // Nothing is changed; a fault of the disk has its cause.
@@ -169,7 +197,7 @@ pub(crate) fn find_target<S: Shelf>(
     ensures cause { HasStorageCause (S.sees.fault_count shelf.old) (S.sees.fault_count shelf.new)
         result }
 {
-    let tail = tail_of(live);
+    let tail = last_tail(live, kept);
     if let Some(target) = place_behind(tail) {
         return Ok(target);
     }

@@ -17,10 +17,12 @@ ghost use Rattle.dv_filing.specs.Writes.{KeepsThrough};
 ghost use Rattle.dv_maps.specs.Texts.{Messages};
 ghost use Rattle.dv_mdbox.specs.Answers.{HasStorageCause, IsFailure};
 ghost use Rattle.dv_mdbox.specs.Readying.{IsGroupFor};
+ghost use Rattle.dv_mdbox.specs.Tails.{KeepsEndBehind};
 ghost use Rattle.dv_mdbox.specs.Writes.{WritesBeside, WritesGroup};
 
 use crate::fault::disk;
 use crate::readying::{Ready, make_ready};
+use crate::tails::Tail;
 use crate::{Storage, StorageFault};
 use dv_apply::Live;
 use dv_chain::Chain;
@@ -69,16 +71,19 @@ pub(crate) fn is_valid(live: &Live)
 
 impl<S: Shelf, C> Storage<S, C> {
     /// Writes a group of these records, which take so many bytes, behind this file, and keeps it.
-    /// What is owed is repaired first, and the log rotated where a time was read for that.
+    /// What is owed is repaired first, and the log rotated where a time was read for that. The end
+    /// of the last file is kept behind Ok, and not behind an error.
     pub(crate) fn write(
         &mut self,
         records: List<Record>,
         files: Files,
         time: Option<u32>,
+        tail: Option<Tail>,
     ) -> Result<(), StorageFault>
         requires group { IsGroupFor self.old.chain records }
         requires time { is_some time ≡ turns self.old.owed self.old.chain }
         requires room { HasRoom files }
+        requires tail { KeepsEndBehind self.old.chain.live.mailbox records tail }
         // The map, the entries and the mark, over any shelf.
         ensures value { WritesGroup records self.old self.new result }
         ensures clock { self.new.clock ≡ self.old.clock }
@@ -96,6 +101,7 @@ impl<S: Shelf, C> Storage<S, C> {
         ensures cause { HasStorageCause (S.sees.fault_count self.old.shelf)
             (S.sees.fault_count self.new.shelf) result }
     {
+        self.tail = None;
         let group = Group { records };
         let Ready { text, steps } = make_ready(
             self.alloc,
@@ -116,6 +122,7 @@ impl<S: Shelf, C> Storage<S, C> {
         ) {
             Ok(committed) => {
                 self.mark = committed.mark;
+                self.tail = tail;
                 self.entries.push_reserved(Entry {
                     author: AUTHOR,
                     group,

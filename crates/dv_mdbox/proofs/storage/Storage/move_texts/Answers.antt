@@ -7,8 +7,8 @@ use Rattle.dv_logfile.proofs.Settling.{looked_settled, settled_then}
 use Rattle.dv_chain.specs.declared.chain.Chain.{Chain}
 use Rattle.dv_chain.specs.Rest.{Nothing}
 use Rattle.dv_maps.specs.declared.mapped.Mapped.{Mapped}
-use Rattle.dv_maps.specs.Purges.{StandsIn}
-use Rattle.dv_mdbox.specs.Gathering.{AreRowsOf, Gathers, size_of}
+use Rattle.dv_maps.specs.Purges.{StandsIn, size_of}
+use Rattle.dv_mdbox.specs.Gathering.{AreRowsOf, Gathers}
 use Rattle.dv_mdbox.specs.Purging.{IsTakenAway, TakesSome}
 use Rattle.dv_mdbox.proofs.Finished.{on_ok}
 use Rattle.dv_mdbox.proofs.Gathered.{IsInside}

@@ -3,10 +3,15 @@ use Rattle.std.proofs.lemmas.Result.{err_from_is_err_and}
 use Rattle.dv_model.specs.Effects.{applied}
 use Rattle.dv_mdbox.specs.Answers.{IsFailure}
 use Rattle.dv_mdbox.proofs.Counted.{count_group, counts_done, counts_stayed, failure_refused, finds_room, group_counted, is_counted, through_count}
+use Rattle.dv_mdbox.proofs.Ending.{end_counted}
 use Rattle.dv_mdbox.proofs.storage.Storage.put_count.Goals as goal
 
 pub write-requires-clause-group : goal.write-requires-clause-group
 write-requires-clause-group g c = count_group c.self.inside.chain c.args.id c.args.count c.records_are_written.ensures.counts c.in_ok-records.records c.in_ok-records.ensures (sym c.is_full.ensures ∙ c.if-is_full.false)
+
+pub write-requires-clause-tail : goal.write-requires-clause-tail
+write-requires-clause-tail g c =
+    end_counted c.places_are.ensures c.self.inside.chain.live.mailbox c.is_valid.ensures c.in_ok-records.records c.args.id c.args.count c.in_ok-records.ensures c.self.inside.tail c.self.invariant.2
 
 -- ---- nothing was written
 

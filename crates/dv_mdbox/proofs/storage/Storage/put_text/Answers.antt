@@ -3,6 +3,7 @@ use Rattle.std.proofs.lemmas.Result.{err_from_is_err_and}
 use Rattle.dv_model.specs.Effects.{applied}
 use Rattle.dv_maps.specs.Groups.{save_records}
 use Rattle.dv_maps.specs.Texts.{with_message}
+use Rattle.dv_mdbox.proofs.Ending.{end_saved}
 use Rattle.dv_mdbox.proofs.Saved.{group_err, group_ok, group_saved, is_saved, place_is, save_group, save_through, saves_done, saves_err, saves_ok, saves_stayed, small_place, uid_is}
 use Rattle.dv_mdbox.proofs.storage.Storage.put_text.Goals as goal
 
@@ -12,6 +13,14 @@ write-requires-clause-group g c = rw (← c.self.view_is) (
     let left = rw (← c.self.view_is) at c.requires.left in
     let room = rw (← c.self.view_is) at c.requires.room in
     save_group c.self.inside.chain c.args.place c.records_are_written.ensures.saves (uid_is m c.is_valid.ensures left) c.in_ok-records.records (c.in_ok-records.ensures ∙ ap (λ id. save_records id c.args.place) c.next_uid-id.ensures.is) room)
+
+pub write-requires-clause-tail : goal.write-requires-clause-tail
+write-requires-clause-tail g c = rw (← c.self.view_is) (
+    let m = c.self.inside.chain.live.mailbox in
+    let place = c.args.place in
+    let is = c.in_ok-records.ensures ∙ ap (λ id. save_records id place) c.next_uid-id.ensures.is in
+    let free = (rw (← c.self.view_is) at c.requires.place).free in
+    end_saved c.places_are.ensures m c.is_valid.ensures c.in_ok-records.records place is (small_place place c.is_number.ensures c.requires.place.end) free c.end_behind-tail.result c.end_behind-tail.ensures)
 
 -- ---- the group
 

@@ -2,8 +2,7 @@ use Rattle.std.proofs.Common.{◌∙◌, ◌^◌, ◌<◌, List, Err, inl, inr, 
 use Rattle.std.specs.Prelude.{All}
 use Rattle.std.proofs.lemmas.Result.{err_from_is_err_and}
 use Rattle.dv_maps.specs.declared.mapped.Mapped.{Mapped}
-use Rattle.dv_maps.specs.Purges.{StandsIn, texts_in}
-use Rattle.dv_mdbox.specs.Gathering.{size_of}
+use Rattle.dv_maps.specs.Purges.{StandsIn, size_of, texts_in}
 use Rattle.dv_mdbox.proofs.Moved.{some_items}
 use Rattle.dv_mdbox.proofs.Stepping.{none_taken}
 use Rattle.dv_mdbox.proofs.Thinning.{quiet_stays, takes_none}

@@ -4,8 +4,7 @@ use Rattle.dv_model.specs.declared.types.Record.{Record}
 use Rattle.dv_logfile.proofs.Settling.{settled_then}
 use Rattle.dv_maps.specs.declared.mapped.Mapped.{Mapped}
 use Rattle.dv_maps.specs.Groups.{purge_records}
-use Rattle.dv_maps.specs.Purges.{AreSpelled, moved}
-use Rattle.dv_mdbox.specs.Gathering.{size_of}
+use Rattle.dv_maps.specs.Purges.{AreSpelled, moved, size_of}
 use Rattle.dv_mdbox.specs.Purging.{TakesSome}
 use Rattle.dv_mdbox.proofs.Finished.{file_quiet, file_taken, group_quiet, on_ok, spared, taken_away}
 use Rattle.dv_mdbox.proofs.Rewritten.{apart, rewritten_by, some_records}

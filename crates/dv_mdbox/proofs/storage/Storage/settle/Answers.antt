@@ -1,7 +1,19 @@
-use Rattle.std.proofs.Common.{refl}
+use Rattle.std.proofs.Common.{refl, subst, sym}
+use Rattle.dv_model.specs.declared.types.Mailbox.{Mailbox}
+use Rattle.dv_mdbox.specs.Tails.{KeepsEnd}
+use Rattle.dv_mdbox.proofs.Marked.{paid_at}
 use Rattle.dv_mdbox.proofs.Stepping.{none_taken}
 use Rattle.dv_mdbox.proofs.Thinning.{outcome_failure, paid_then, quiet_settled, repaired_id}
 use Rattle.dv_mdbox.proofs.storage.Storage.settle.Goals as goal
+
+pub invariant_of-self : goal.invariant_of-self
+invariant_of-self g c =
+    let value = c.pay-paid.ensures.value in
+    let old = c.self.inside in (
+      value.owing,
+      paid_at old.mark old.owed c.pay-paid.new.turn old.chain c.pay-paid.new.chain c.pay-paid.result c.self.invariant.1 value,
+      subst (λ (m : Mailbox). KeepsEnd m old.tail) (sym (λ i. (value.live i).mailbox)) c.self.invariant.2,
+    )
 
 pub returns-clause-value : goal.returns-clause-value
 returns-clause-value g c = rw (← c.self.view_is) (none_taken 0 _ _ (λ i. (c.pay-paid.ensures.value.live i).mailbox) refl refl refl (repaired_id _ _ _ c.pay-paid.result c.pay-paid.ensures.value.chain))

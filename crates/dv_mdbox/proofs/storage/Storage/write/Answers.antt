@@ -1,11 +1,11 @@
-use Rattle.std.proofs.Common.{List, ◌∙◌, ◌++◌, ◌∷◌, [], refl, sym, ap, subst}
+use Rattle.std.proofs.Common.{rules, List, ◌∙◌, ◌++◌, ◌∷◌, [], refl, sym, ap, subst}
 use Rattle.std.proofs.lemmas.Result.{err_from_is_err_and}
 use Rattle.dv_model.specs.declared.types.Entry.{Entry}
 use Rattle.dv_model.specs.declared.types.Mailbox.{Mailbox}
 use Rattle.dv_filing.specs.Standing.{Fits}
 use Rattle.dv_mdbox.specs.Writes.{entry_of}
 use Rattle.dv_mdbox.proofs.Equal.{owing_equal, stands_equal, stands_looked}
-use Rattle.dv_mdbox.proofs.Written.{group_written, mails_looked, mails_written, marked_equal, quiet_entries, quiet_failed, quiet_unwritten, quiet_written, write_of}
+use Rattle.dv_mdbox.proofs.Written.{group_written, mails_looked, mails_written, map_written, marked_equal, quiet_entries, quiet_failed, quiet_unwritten, quiet_written, write_of}
 use Rattle.dv_mdbox.proofs.storage.Storage.write.Goals as goal
 
 pub invariant_of-self-in_err-reserve : goal.invariant_of-self-in_err-reserve
@@ -13,7 +13,7 @@ invariant_of-self-in_err-reserve g c =
     let chain = c.make_ready.new.chain in
     let old = c.self.inside in
     let same = c.in_ok-text.ensures.chain in
-    (owing_equal chain old.chain old.owed same c.self.invariant.0, marked_equal old.mark chain old.chain old.owed same c.self.invariant.1)
+    (owing_equal chain old.chain old.owed same c.self.invariant.0, marked_equal old.mark chain old.chain old.owed same c.self.invariant.1, tt)
 
 pub carry_out-requires-clause-owing : goal.carry_out-requires-clause-owing
 carry_out-requires-clause-owing g c = owing_equal c.make_ready.new.chain c.self.inside.chain c.self.inside.owed c.in_ok-text.ensures.chain c.self.invariant.0
@@ -78,6 +78,18 @@ returns-in-Ok-clause-gives g c = rw (← c.self.view_is) (λ tells messages next
       quiet_written S.sees messages next debt after c.args.records _ chain same mid looks stands c.args.files made.text made.steps steps new.owed new.chain new.shelf c.in-Ok.committed _ refl refl refl c.in-Ok.ensures.value.paid.1 done,
       mails_written S.sees c.args.files made.steps steps.file old.shelf mid new.shelf looks done.others,
     ))
+
+pub invariant_of-self-in-Ok-1 : goal.invariant_of-self-in-Ok-1
+invariant_of-self-in-Ok-1 g c =
+    let made = c.in_ok-text.field-0 in
+    let group = rw (← c.self.view_is) at c.requires.group in
+    let value = c.in-Ok.ensures.value in
+    let map = map_written c.args.records c.self.inside.owed c.carry_out.new.owed c.self.inside.chain c.make_ready.new.chain c.in_ok-text.ensures.chain c.args.files made.text made.steps c.in_ok-text.ensures.ready
+    group.are.applies c.carry_out.new.chain c.in-Ok.committed value in (
+      value.owing,
+      search rules,
+      (rw (← c.self.view_is) at c.requires.tail) c.carry_out.new.chain.live.mailbox map,
+    )
 
 -- ---- or that failed
 

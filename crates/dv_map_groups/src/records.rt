@@ -5,10 +5,8 @@ ghost use Rattle.dv_model.specs.declared.types.Body.TheVariants as body;
 ghost use Rattle.dv_model.specs.Sessions.{external_record, pieces, ranges_of as ranges};
 ghost use Rattle.dv_maps.specs.Groups as groups;
 ghost use Rattle.dv_maps.specs.Groups.{count_row, place_row};
-ghost use Rattle.dv_maps.specs.Purges.{moved};
-ghost use Rattle.dv_mdbox.specs.Gathering.{size_of};
+ghost use Rattle.dv_maps.specs.Purges.{moved, size_of};
 
-use crate::gathering::FileRows;
 use dv_groups::{external, internal, next_piece, ranges_of};
 use dv_maps::{Mapped, Place, Placed};
 use dv_model::{Body, Bytes, Intro, List, NewRow, NoMemory, Record};
@@ -67,7 +65,7 @@ fn add_count(alloc: Global, id: u32, count: u16, records: &mut List<Record>) -> 
 }
 
 /// The records that give an id this count. `NoMemory` is the only error.
-pub(crate) fn count_records(alloc: Global, id: u32, count: u16) -> Result<List<Record>, NoMemory>
+pub fn count_records(alloc: Global, id: u32, count: u16) -> Result<List<Record>, NoMemory>
     ensures { IfOk result (λ records. records ≡ groups.count_records id count) }
 {
     let mut records = List::new(alloc);
@@ -77,7 +75,7 @@ pub(crate) fn count_records(alloc: Global, id: u32, count: u16) -> Result<List<R
 
 /// The records of a message that is saved under this id, whose text stands at this place.
 /// `NoMemory` is the only error.
-pub(crate) fn save_records(alloc: Global, id: u32, place: Place) -> Result<List<Record>, NoMemory>
+pub fn save_records(alloc: Global, id: u32, place: Place) -> Result<List<Record>, NoMemory>
     ensures { IfOk result (λ records. records ≡ groups.save_records id place) }
 {
     let mut records = List::new(alloc);
@@ -154,20 +152,21 @@ fn add_expunges(alloc: Global, ids: &[u32], records: &mut List<Record>) -> Resul
     Ok(())
 }
 
-/// The records of the purge of a file, whose kept texts go into a new one. `NoMemory` is the only
-/// error.
-pub(crate) fn purge_records(
+/// The records of the purge of a file: of the rows that it keeps, whose texts go one behind another
+/// into a new file, and of the ids that are gone. `NoMemory` is the only error.
+pub fn purge_records(
     alloc: Global,
-    rows: &FileRows,
+    kept: &[Mapped],
+    gone: &[u32],
     new: u32,
 ) -> Result<List<Record>, NoMemory>
-    requires { size_of rows.now.kept.items < 2 ^ 32 }
+    requires { size_of kept.now < 2 ^ 32 }
     ensures { IfOk result (λ records. records
-        ≡ groups.purge_records (moved new 0 rows.now.kept.items) rows.now.gone.items) }
+        ≡ groups.purge_records (moved new 0 kept.now) gone.now) }
 {
     let mut records = List::new(alloc);
-    let placed = moved(alloc, rows.kept.as_slice(), new)?;
+    let placed = moved(alloc, kept, new)?;
     add_places(alloc, placed.as_slice(), &mut records)?;
-    add_expunges(alloc, rows.gone.as_slice(), &mut records)?;
+    add_expunges(alloc, gone, &mut records)?;
     Ok(records)
 }

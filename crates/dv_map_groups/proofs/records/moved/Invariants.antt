@@ -1,7 +1,7 @@
 use Rattle.std.proofs.Common.{◌≡◌, ◌+◌, ◌++◌, drop}
 use Rattle.dv_maps.specs.Purges.{moved}
-use Rattle.dv_mdbox.specs.Gathering.{size_of}
-use Rattle.dv_mdbox.proofs.records.moved.Given as goal
+use Rattle.dv_maps.specs.Purges.{size_of}
+use Rattle.dv_map_groups.proofs.records.moved.Given as goal
 
 abbrev pub invariant-loop-row : goal.invariant-loop-row
 invariant-loop-row l = record {

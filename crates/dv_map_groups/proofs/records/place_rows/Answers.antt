@@ -1,6 +1,6 @@
 use Rattle.std.proofs.Common.{◌∙◌, ◌++◌, List, ℕ, ap, arith}
-use Rattle.dv_mdbox.proofs.Recorded.{places_all, places_more}
-use Rattle.dv_mdbox.proofs.records.place_rows.Goals as goal
+use Rattle.dv_map_groups.proofs.Recorded.{places_all, places_more}
+use Rattle.dv_map_groups.proofs.records.place_rows.Goals as goal
 
 pub loop-row-preserved : goal.loop-row-preserved
 loop-row-preserved c =

@@ -1,7 +1,7 @@
 use Rattle.std.proofs.Common.{arith}
 use Rattle.dv_maps.specs.declared.mapped.Mapped.{Mapped}
-use Rattle.dv_mdbox.proofs.Recorded.{moved_all, moved_more, room_fits, room_more}
-use Rattle.dv_mdbox.proofs.records.moved.Goals as goal
+use Rattle.dv_map_groups.proofs.Recorded.{moved_all, moved_more, room_fits, room_more}
+use Rattle.dv_map_groups.proofs.records.moved.Goals as goal
 
 pub loop-row-preserved : goal.loop-row-preserved
 loop-row-preserved c =

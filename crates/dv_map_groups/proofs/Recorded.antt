@@ -11,7 +11,7 @@ use Rattle.dv_maps.specs.declared.mapped.Placed.{Placed}
 use Rattle.dv_maps.specs.Groups.{map_intro, move_records, place_row}
 use Rattle.dv_maps.specs.Purges.{moved}
 use Rattle.dv_maps.proofs.Moving.{place_update}
-use Rattle.dv_mdbox.specs.Gathering.{size_of}
+use Rattle.dv_maps.specs.Purges.{size_of}
 
 -- ---- new places
 
