@@ -7,6 +7,8 @@ use mathlib.Core.List.{IsPrefix}
 use Rattle.dv_model.specs.declared.types.Mark.{Mark}
 use Rattle.dv_model.specs.Counts.{RoseBy}
 use Rattle.dv_model.specs.Journals.{Log}
+use Rattle.dv_shelf.specs.Causes.{Stayed}
+use Rattle.dv_shelf.specs.Crashes.{IsSettled}
 use Rattle.dv_shelf.specs.Folders.{Folder}
 use Rattle.dv_shelf.specs.Sees.{SeesFolder}
 use Rattle.dv_front.specs.declared.notes.Note.{Note}
@@ -59,7 +61,7 @@ end_caused before now (Err (fault.Disk faults)) mark groups cause = tt
 
 -- ---- it is handed in
 
-module _ {S C : Type 0} (sees : SeesFolder S) (tells : Type 0) (start : Log) (moment : ℕ) (past : ℕ → Folder → Type 0) (honest : Type 0) (k : Kept S C) (holds : Holds sees tells start moment past honest k) (h : honest) (here : sees.tells → sees.may_leave k.store.shelf (sees.files k.store.shelf)) (count : ℕ) (lines : List PopLine) (out : Output) where
+module _ {S C : Type 0} (sees : SeesFolder S) (tells : Type 0) (start : Log) (moment : ℕ) (past : ℕ → Folder → Type 0) (honest : Type 0) (k : Kept S C) (holds : Holds sees tells start moment past honest k) (h : honest) (here : sees.tells → sees.may_leave k.store.shelf (sees.files k.store.shelf)) (count : ℕ) (settled : Stayed count (sees.fault_count k.store.shelf) → IsSettled sees k.store.shelf) (lines : List PopLine) (out : Output) where
   abbrev notes : List Note
   notes = notes_in k
 
@@ -98,6 +100,7 @@ module _ {S C : Type 0} (sees : SeesFolder S) (tells : Type 0) (start : Log) (mo
       };
       gives = gives sees tells start moment past honest k holds h here;
       since = (holds.folder h).since;
+      settled = settled;
     }
 
     pub concluded : (e : PopEnd) (mark : Mark) (groups : ℕ) (shelf : S) → e ≡ end_of came mark groups → mark ≡ k.store.mark → groups ≡ length notes → shelf ≡ k.store.shelf
@@ -126,4 +129,5 @@ module _ {S C : Type 0} (sees : SeesFolder S) (tells : Type 0) (start : Log) (mo
         };
         gives = gives sees tells start moment past honest first holds h here;
         since = (holds.folder h).since;
+        settled = λ stayed. (begins.folder h).settled;
       }

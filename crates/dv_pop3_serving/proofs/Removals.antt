@@ -1,5 +1,5 @@
 -- One session that has a log for itself writes one entry at most.
-use Rattle.std.proofs.Common.{◌≡◌, ◌⊎◌, ◌∙◌, inl, inr, ℕ, ◌+◌, ◌<◌, ◌≤◌, List, [], ◌∷◌, Some, Result, Ok, Err, ap, arith, length, refl, subst, sym}
+use Rattle.std.proofs.Common.{◌≡◌, ◌⊎◌, ◌∙◌, inl, inr, ℕ, ◌<◌, List, [], ◌∷◌, Some, Result, Ok, Err, ap, arith, length, refl, subst, sym}
 use Rattle.std.specs.Prelude.{slice_get}
 use Rattle.std.proofs.lemmas.Option.{same_Some, slice_get_within}
 use mathlib.Core.List.{IsPrefix}
@@ -19,7 +19,7 @@ use Rattle.dv_keeper.specs.Sessions.{IsNewSession}
 use Rattle.dv_pop3.specs.declared.entering.PopFault.{PopFault}
 use Rattle.dv_pop3.specs.declared.entering.PopFault.TheVariants as fault
 use Rattle.dv_pop3.specs.declared.lines.LinesEnd.{LinesEnd}
-use Rattle.dv_pop3.specs.Entries.{IsEntry, WritesMarked, WritesOnce}
+use Rattle.dv_pop3.specs.Entries.{IsEntry, WritesOnce}
 use Rattle.dv_pop3.specs.Findings.{removal_of}
 use Rattle.dv_pop3.specs.Logins.{IsUnlisted}
 use Rattle.dv_pop3.specs.Servings.{HasConversed, HasServed}

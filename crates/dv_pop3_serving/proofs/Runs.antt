@@ -23,5 +23,6 @@ module _ {S C : Type 0} (sees : SeesFolder S) (ticks : SeesTime C) (clock : ℕ 
     gives = serves.gives;
     crash = run_crash sees ticks clock old store begun tells new serves.notes serves.tries serves.answers.are serves.gives serves.since;
     opens = run_opens sees ticks clock old store begun tells new serves.notes serves.tries serves.answers.are serves.gives serves.since;
+    settled = serves.settled;
     next = run_next sees ticks clock old store begun tells new serves.notes serves.tries serves.answers.are serves.gives serves.since;
   }

@@ -1,3 +1,4 @@
 pub mod Ends
 pub mod Removals
 pub mod Serves
+pub mod NextRuns

@@ -6,7 +6,7 @@ use Rattle.dv_model.specs.Counts.{RoseBy}
 use Rattle.dv_model.specs.Journals.{Log}
 use Rattle.dv_interleavings.specs.Promises.{GoesOn}
 use Rattle.dv_shelf.specs.Causes.{Stayed}
-use Rattle.dv_shelf.specs.Crashes.{LeavesOnly}
+use Rattle.dv_shelf.specs.Crashes.{IsSettled, LeavesOnly}
 use Rattle.dv_shelf.specs.Folders.{Folder}
 use Rattle.dv_shelf.specs.Sees.{SeesFolder}
 use Rattle.dv_front.specs.declared.notes.Note.{Note}
@@ -64,7 +64,8 @@ pub record Answers (faults : Faults) (start : Log) (lines : List PopLine) (e : P
 
 -- ---- what the folder gives
 
--- What the session did since it was made over a store, and what a crash has left since a moment.
+-- What the session did since it was made over a settled store, and what a crash has left since a
+-- moment. Where no failure was counted since, the folder is settled.
 pub record ServesSession {S : Type 0} (sees : SeesFolder S) (tells : Type 0) (start : Log)
     (moment : ℕ) (past : ℕ → Folder → Type 0) (faults : Faults) (lines : List PopLine)
     (e : PopEnd) (out : Output) (new : S) : Type 0 where
@@ -73,13 +74,15 @@ pub record ServesSession {S : Type 0} (sees : SeesFolder S) (tells : Type 0) (st
   pub answers : Answers faults start lines e out notes tries
   pub gives : GivesNotes sees tells start notes tries new
   pub since : LeavesSince sees moment past new (MayGive tells start notes tries)
+  pub settled : Stayed faults.before faults.now → IsSettled sees new
 
 -- The lines of a POP3 session are answered in the mailbox that was found or made. There is one log,
 -- which goes on from what the run started from, by at most one entry of the session. Each answer is
 -- by what the session has seen of it. The folder gives that log, or that with the group of a last
 -- write that the disk failed; so does what a crash behind the run leaves, and a crash during it
 -- leaves a front of it, or a front with the group of a write that the disk failed there. A next run
--- may begin from each.
+-- may begin from each of these, and from what is left as it is where the count of failures didn't
+-- rise, since that is settled then.
 pub record ServesPop {S : Type 0} (sees : SeesFolder S) (clock : ℕ → ℕ) (tells : Type 0)
     (faults : Faults) (lines : List PopLine) (e : PopEnd) (out : Output) (old new : S)
     : Type 0 where
@@ -94,3 +97,4 @@ pub record ServesPop {S : Type 0} (sees : SeesFolder S) (clock : ℕ → ℕ) (t
   pub crash : LeavesOnly sees old new (MayLeave tells start notes tries (sees.files old))
   pub opens : OpensFirst sees tells start notes tries old new
   pub next : LeavesTrue sees old new
+  pub settled : Stayed faults.before faults.now → IsSettled sees new

@@ -3,8 +3,10 @@
 #![tactic(auto)]
 
 mod ending;
+mod laws;
 mod serving;
 mod session;
 
 pub use ending::{PopEnd, Served};
+pub use laws::runs_may_follow_pop3;
 pub use serving::serve_pop3;

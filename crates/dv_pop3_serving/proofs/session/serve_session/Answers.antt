@@ -25,7 +25,7 @@ returns-clause-serves g c = λ h.
     subst (λ (ss : List Member). Settles S.sees count 1 1 ss k) handed
     (subst (λ n. Settles S.sees count 1 n c.push_reserved.new.self.items k) c.requires.ledgers.1
     (subst (λ n. Settles S.sees count n g.M.Ledger.parts c.push_reserved.new.self.items k) c.requires.ledgers.0 closed.4)) in
-    concluded S.sees g.C.Clock.sees.tells start g.K.Keeping.moment g.K.Keeping.past honest k closed.3 h (λ tells. c.folder_laws.ensures.files k.store.shelf tells) count c.args.lines (output_of O.sees c.args.out.now c.serve-last.new.out)
+    concluded S.sees g.C.Clock.sees.tells start g.K.Keeping.moment g.K.Keeping.past honest k closed.3 h (λ tells. c.folder_laws.ensures.files k.store.shelf tells) count (closed.6 h) c.args.lines (output_of O.sees c.args.out.now c.serve-last.new.out)
     first last (new_one start c.args.sessions.items front first c.requires.new c.requires.one is) c.serve-last.result.1 (c.serve-last.ensures.served h) settles
     c.conclude.result.end c.close-store.result.0.mark c.close-store.result.1 c.conclude.result.shelf (ap (λ s. s.end) c.conclude.ensures) (ap (λ s. s.mark) closed.1) closed.2 (ap (λ s. s.shelf) c.conclude.ensures ∙ ap (λ s. s.shelf) closed.1)
 
