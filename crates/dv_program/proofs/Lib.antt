@@ -1,4 +1,6 @@
 mod Served
 mod Opened
 mod Forms
+mod Maildrops
 mod Untelling
+mod NextRuns

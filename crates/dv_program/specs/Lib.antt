@@ -1,6 +1,9 @@
 pub mod Forms
+pub mod Readings
 pub mod Serving
+pub mod Pop3
 pub mod Moments
 pub mod Serial
 pub mod Words
 pub mod Obeying
+pub mod NextRuns

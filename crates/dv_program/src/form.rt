@@ -10,6 +10,8 @@ pub enum Form {
     Serial,
     /// The sessions of a script are served in threads.
     Threads,
+    /// A script is given to a POP3 session.
+    Pop3,
 }
 
 /// The form that the words ask for.
@@ -18,6 +20,7 @@ pub fn form_of(words: &[String]) -> Form
 {
     match words {
         [word, flag] if word.as_str() == "run" && flag.as_str() == "--threads" => Form::Threads,
+        [word] if word.as_str() == "pop3" => Form::Pop3,
         _ => Form::Serial,
     }
 }

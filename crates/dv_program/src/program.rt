@@ -33,6 +33,7 @@ const VERSION: &[u8] = b"sdbox 0.1.0\n";
 
 const USAGE: &[u8] = b"usage: sdbox FOLDER run < SCRIPT
        sdbox FOLDER run --threads < SCRIPT
+       sdbox FOLDER pop3 < LINES
        sdbox FOLDER watch KEY < SCRIPT
        sdbox FOLDER rebuild
        sdbox FOLDER gen SEED COUNT SESSIONS
@@ -42,6 +43,7 @@ const USAGE: &[u8] = b"usage: sdbox FOLDER run < SCRIPT
 
 const HELP: &[u8] = b"usage: sdbox FOLDER run < SCRIPT
        sdbox FOLDER run --threads < SCRIPT
+       sdbox FOLDER pop3 < LINES
        sdbox FOLDER watch KEY < SCRIPT
        sdbox FOLDER rebuild
        sdbox FOLDER gen SEED COUNT SESSIONS
@@ -72,6 +74,11 @@ SET is numbers, * and ranges with commas between, as 1,3:5,7:*. FLAGS are \\Answ
 run --threads answers the commands of each session in a thread of its own, all in one mailbox. The
 replies stay in memory and are written once all sessions have ended, session by session: large
 FETCHes belong to run.
+
+pop3 answers POP3 lines (RFC 1939) of one session in FOLDER's mailbox, up to the first QUIT: STAT,
+LIST, UIDL, RETR, DELE, NOOP, RSET and QUIT, in capitals. Numbers and sizes stay as they were when
+it began. QUIT removes the messages that DELE marked; without it none is removed. There is neither
+USER nor PASS nor TOP, and the mailbox isn't locked.
 
 watch answers a script as run does, of at most 63 sessions, and keeps a search beside it: behind the
 replies to each command that wrote a group a line WATCH has the UIDs of the messages that then meet

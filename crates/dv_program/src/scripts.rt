@@ -27,7 +27,7 @@ use std::sync::Wait;
 use std::thread::Threads;
 
 /// Each reading of a clock is a number of 32 bits. Nothing is computed.
-fn readings_are_small<C: Clock>()
+pub(crate) fn readings_are_small<C: Clock>()
     ensures { (c : C) (k : ℕ) → C.sees.tells → C.sees.upcoming c k < 2 ^ 32 }
 {}
 

@@ -1,3 +1,4 @@
+mod pop3;
 mod real;
 mod threads;
 

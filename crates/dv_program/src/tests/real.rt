@@ -46,7 +46,8 @@ fn a_script_without_lines_is_served_in_threads(rt: HostRuntime) -> Result<(), Fa
 
 const USAGE: &str =
     "usage: sdbox FOLDER run < SCRIPT\n       sdbox FOLDER run --threads < SCRIPT\n       \
-    sdbox FOLDER watch KEY < SCRIPT\n       sdbox FOLDER rebuild\n       \
+    sdbox FOLDER pop3 < LINES\n       sdbox FOLDER watch KEY < SCRIPT\n       \
+    sdbox FOLDER rebuild\n       \
     sdbox FOLDER gen SEED COUNT SESSIONS\n       sdbox FOLDER resync VALIDITY MODSEQ SET\n       \
     sdbox FOLDER mdbox < SCRIPT\n";
 
@@ -82,6 +83,11 @@ fn help_names_each_command(rt: HostRuntime) -> Result<(), Fail> {
         "STORE",
         "SEARCH",
         "UID REMOVE",
+        "UIDL",
+        "RETR",
+        "DELE",
+        "RSET",
+        "QUIT",
         "SAVE",
         "COPY",
         "DROP",
