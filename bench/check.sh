@@ -1,7 +1,7 @@
 #!/usr/bin/env bash
 # What is checked beside the test command: that the documents agree with the tree, and that the built
-# program keeps what it acknowledged where folders are spoilt, a disk is full or it is killed, and answers
-# random scripts by the rules of sessions.
+# program keeps what it acknowledged where folders are spoilt, a disk is full or it is killed, answers
+# random scripts by the rules of sessions, and is understood by a POP3 client.
 #
 # Usage: bench/check.sh [PROGRAM [DIRECTORY]]
 #
@@ -26,5 +26,6 @@ if [ $# -gt 0 ]; then
     check kill.py "$program" 20 "$@"
     check rules.py "$program" 20 1 "$@"
     check stress.py "$program" 20 1 "$@"
+    check pop3.py "$program" 1 "$@"
 fi
 exit "$status"

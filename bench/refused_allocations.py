@@ -6,7 +6,7 @@ Usage: bench/refused_allocations.py PROGRAM [DIRECTORY]
 PROGRAM is the built binary, crates/sdbox/out/sdbox. Folders are made in DIRECTORY (/dev/shm where none is
 given). gcc makes a library that answers the n-th allocation as one that the system refuses; it is loaded
 before the C library. The script has commands of every kind, over a mailbox of two messages: by two sessions for `run`, and by one
-for `run --threads`, so that the order of its allocations is always the same.
+for `run --threads`, so that the order of its allocations is always the same; for `pop3` it has every line.
 
 A refused run ends with status 4, behind a front of the replies of the run that nothing was refused; the
 next run then shows the mailbox behind the lines that were answered, or behind one line more. A run that can do
@@ -62,7 +62,8 @@ LINES = [
 
 
 ALONE = [b"a" + line[1:] for line in LINES if line != b"b SELECT\n"]
-FORMS = ((("run",), LINES), (("run", "--threads"), ALONE))
+POP3 = [b"STAT\n", b"LIST\n", b"UIDL\n", b"RETR 1\n", b"DELE 1\n", b"RSET\n", b"DELE 2\n", b"LIST 1\n", b"TOP 1 0\n", b"QUIT\n"]
+FORMS = ((("run",), LINES), (("run", "--threads"), ALONE), (("pop3",), POP3))
 
 
 class Bench:
@@ -94,8 +95,15 @@ class Bench:
 
     def behind(self, count):
         """The same behind so many lines, of which nothing was refused."""
-        self.run(self.fresh(), self.lines[:count])
+        self.run(self.fresh(), self.lines[:count], words=self.words[:1])
         return self.state()
+
+    def answered(self, front):
+        """How many lines have an answer in what was printed, but for the greeting of `pop3`."""
+        lines = front.split(b"\n")
+        if self.words == ("pop3",):
+            return max(sum(line.startswith((b"+OK", b"-ERR")) for line in lines) - 1, 0)
+        return sum(line[2:4] in (b"OK", b"NO") or line[2:5] == b"BAD" for line in lines)
 
     def allocations(self):
         """How many allocations a run makes that nothing is refused."""
@@ -124,7 +132,7 @@ def refuse_each(bench):
         front = output.removesuffix(b"FAULT 4 MEMORY\n")
         if status != 4 or front == output or not whole.startswith(front):
             sys.exit(f"allocation {n}: status {status}, output {output!r}")
-        answered = sum(line[2:4] in (b"OK", b"NO") or line[2:5] == b"BAD" for line in front.split(b"\n"))
+        answered = bench.answered(front)
         if bench.state() not in states[answered : answered + 2]:
             sys.exit(f"allocation {n}: behind {answered} lines the mailbox is neither as before nor with one line more")
     return number, without
