@@ -156,6 +156,50 @@ impl<K: Keeping, L: Tally, M: Tally> Player<K, L, M> {
             Ask::Select(at, offset) => self.select(rt, at, offset),
             Ask::Tell(at, step, word, offset) => self.move_on(rt, at, step, word, offset),
             Ask::Untold(at, offset, uids) => self.stay_untold(at, offset, uids),
+            Ask::Login(at) => self.log_in(rt, at),
+            Ask::Pop(text) => self.answer_client(rt, text),
         }
+    }
+
+    // Does what is asked, and once more where memory was refused.
+    fn ask_twice<R: Wait>(&mut self, rt: &R, ask: Ask<'_>) -> Result<(), Trouble> {
+        match self.ask(rt, ask) {
+            Err(Trouble::NoMemory) => {
+                self.refused = self.refused.saturating_add(1);
+                self.ask(rt, ask)
+            }
+            came => came,
+        }
+    }
+
+    /// Does all that is asked, one after another, until a session is spent, which was asked what
+    /// stands at this place.
+    pub(crate) fn ask_all<R: Wait>(
+        &mut self,
+        rt: &R,
+        asks: &[Ask<'_>],
+    ) -> Result<Option<usize>, Trouble> {
+        for at in 0..asks.len() {
+            let came = self.ask_twice(rt, asks[at]);
+            self.ends.push(self.out.taken().len())?;
+            match came {
+                Ok(()) => {}
+                Err(Trouble::NoMemoryAfter) => return Ok(Some(at)),
+                Err(trouble) => return Err(trouble),
+            }
+        }
+        Ok(None)
+    }
+
+    /// Does all that is asked of sessions that aren't spent.
+    pub(crate) fn ask_others<R: Wait>(&mut self, rt: &R, asks: &[Ask<'_>]) -> Result<(), Trouble> {
+        for ask in asks {
+            match self.ask_twice(rt, *ask) {
+                Ok(()) => {}
+                Err(Trouble::NoSession) => {}
+                Err(trouble) => return Err(trouble),
+            }
+        }
+        Ok(())
     }
 }

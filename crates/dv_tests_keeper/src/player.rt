@@ -3,6 +3,7 @@
 ghost use Rattle.std.specs.Option.{ForSome};
 ghost use Rattle.std.specs.Prelude.{◌≡◌, IfOk, false};
 
+use crate::clients::PopSeat;
 use crate::serving::MemKeeper;
 use dv_feed::Taken;
 use dv_member::{Met, Session};
@@ -35,6 +36,10 @@ pub enum Ask<'a> {
     Tell(usize, Step, Word, u32),
     /// A session was told all up to this place, and is yet to be told of these UIDs.
     Untold(usize, u32, &'a [u32]),
+    /// A session begins as a POP3 client's, which is greeted.
+    Login(usize),
+    /// A line of that client, without its end, is answered.
+    Pop(&'a [u8]),
 }
 
 /// Why it isn't done.
@@ -42,14 +47,14 @@ pub enum Ask<'a> {
 pub enum Trouble {
     /// Memory ran out, and nothing was written.
     NoMemory,
-    /// Memory ran out behind an entry, and the session is spent.
+    /// Memory ran out behind an entry, and the session is spent; or a POP3 client's answer has none.
     NoMemoryAfter,
     /// It isn't as it was asked.
     Unlike,
     /// There is no such session, or it is spent.
     NoSession,
-    /// The folder isn't made.
-    NotMade,
+    /// The folder isn't opened or made.
+    NotOpened,
 }
 
 impl<E: OutOfMemory> From<E> for Trouble {
@@ -70,13 +75,17 @@ pub struct Seat<K: Keeping, L: Tally, M: Tally> {
     ghost fresh: { ForSome session (λ s. s.spent ≡ false) },
 }
 
-/// A keeper with its sessions, and what they were answered.
+/// A keeper with its sessions, what they were answered, how long that was behind each of what was
+/// asked, and how much was asked once more.
 #[derive(Drop)]
 pub struct Player<K: Keeping, L: Tally, M: Tally> {
     pub(crate) alloc: Global,
     pub(crate) keeper: MemKeeper<K, L, M>,
     pub(crate) seats: Vec<Seat<K, L, M>>,
+    pub(crate) pop_seat: PopSeat<K, L, M>,
     pub(crate) out: MemSink,
+    pub(crate) ends: Vec<usize>,
+    pub(crate) refused: u32,
 }
 
 impl<K: Keeping, L: Tally, M: Tally> Player<K, L, M> {

@@ -1,6 +1,6 @@
-//! A keeper over a new folder is made, its sessions are asked, and it is closed.
+//! A keeper over a folder is made, its sessions are asked, and it is closed.
 
-ghost use Rattle.std.specs.Prelude.{◌≡◌, ◌≤◌, [], IfOk, IsTrue};
+ghost use Rattle.std.specs.Prelude.{◌≡◌, ◌≤◌, [], IfOk};
 ghost use Rattle.dv_keeper.specs.Sessions.{AreNewSessions};
 ghost use Rattle.dv_member.specs.Members.{IsStart};
 ghost use Rattle.dv_shared.specs.Beginning.{Begins};
@@ -8,13 +8,14 @@ ghost use Rattle.dv_shelf.specs.MemShelves.{faults_of, sees_memory};
 ghost use Rattle.dv_store.specs.Opening.{IsFresh};
 ghost use Rattle.dv_tests_keeper.specs.Starts.{first_log};
 
+use crate::clients::PopSeat;
 use crate::player::{Ask, Player, Seat, Trouble};
 use crate::serving::MemKeeper;
+use dv_beginning::open_folder;
 use dv_member::Session;
 use dv_model::{List, NoMemory, OpenFault};
 use dv_naming::{Keeping, Names, Tally, new_names};
-use dv_plans::is_number;
-use dv_shelf::{MemClock, MemShelf, MemSink, Shelf};
+use dv_shelf::{MemClock, MemShelf, MemSink};
 use dv_store::Store;
 use std::alloc::Global;
 use std::marker::Brand;
@@ -29,14 +30,15 @@ pub type MemStore = Store<MemShelf, MemClock>;
 /// What comes of asking.
 #[derive(Drop)]
 pub struct Played {
-    /// What was told.
+    /// What was told, and how many bytes of it behind each of what was asked.
     pub out: MemSink,
+    pub ends: Vec<usize>,
     /// The store behind all that was asked, and how many entries its log has.
     pub store: MemStore,
     pub entries: u64,
     /// How much was asked once more, since memory was refused.
     pub refused: u32,
-    /// What was asked last, by its place, where memory ran out behind its entry.
+    /// What was asked, by its place, when memory ran out behind its entry.
     pub spent: Option<usize>,
 }
 
@@ -75,19 +77,21 @@ fn rise_all<K: Keeping, L: Tally, M: Tally>(
 fn close<K: Keeping, L: Tally, M: Tally>(
     player: Player<K, L, M>,
     room: Vec<Session<K, L, M>>,
-    refused: u32,
     spent: Option<usize>,
 ) -> Result<Played, NoMemory> {
     let Player {
         keeper,
         seats,
         out,
+        ends,
+        refused,
         ..
     } = player;
     let sessions = rise_all(seats, room)?;
     let (store, entries) = keeper.close(sessions);
     Ok(Played {
         out,
+        ends,
         store,
         entries,
         refused,
@@ -95,27 +99,20 @@ fn close<K: Keeping, L: Tally, M: Tally>(
     })
 }
 
-// Asks for all, one after another, until a session is spent, and closes the keeper. What memory
-// refuses is asked once more.
+// Asks for all, one after another, and closes the keeper. Once a session is spent, the others are
+// asked for the rest instead.
 fn play_all<K: Keeping, L: Tally, M: Tally, R: Wait>(
     rt: &R,
     mut player: Player<K, L, M>,
     room: Vec<Session<K, L, M>>,
     asks: &[Ask<'_>],
+    rest: &[Ask<'_>],
 ) -> Result<Played, Trouble> {
-    let mut refused = 0u32;
-    for at in 0..asks.len() {
-        let mut came = player.ask(rt, asks[at]);
-        if came == Err(Trouble::NoMemory) {
-            refused = refused.saturating_add(1);
-            came = player.ask(rt, asks[at]);
-        }
-        if came == Err(Trouble::NoMemoryAfter) {
-            return Ok(close(player, room, refused, Some(at))?);
-        }
-        came?;
+    let spent = player.ask_all(rt, asks)?;
+    if spent.is_some() {
+        player.ask_others(rt, rest)?;
     }
-    Ok(close(player, room, refused, None)?)
+    Ok(close(player, room, spent)?)
 }
 
 // Makes a keeper under these names, asks for all, and closes it.
@@ -127,6 +124,7 @@ fn play_named<K: Keeping, L: Tally, M: Tally, R: Wait>(
     start_count: u64,
     sessions: u32,
     asks: &[Ask<'_>],
+    rest: &[Ask<'_>],
 ) -> Result<Played, Trouble>
     requires names { (names.roll.table ≡ K.roll) × (names.roll.items ≡ [])
         × (names.writes.name ≡ L.name) × (names.refusals.name ≡ M.name) }
@@ -138,6 +136,7 @@ fn play_named<K: Keeping, L: Tally, M: Tally, R: Wait>(
 {
     let out = MemSink::new(alloc, ROOM, List::new(alloc))?;
     let room = Vec::with_capacity(alloc, sessions as usize)?;
+    let ends = Vec::with_capacity(alloc, asks.len())?;
     let Ok((keeper, made)) = MemKeeper::<K, L, M>::new(alloc, names, store, start_count, sessions)
     else {
         return Err(Trouble::NoMemory);
@@ -146,54 +145,41 @@ fn play_named<K: Keeping, L: Tally, M: Tally, R: Wait>(
         alloc,
         keeper,
         seats: seat_all(alloc, made)?,
+        pop_seat: PopSeat::empty(),
         out,
+        ends,
+        refused: 0,
     };
-    play_all(rt, player, room, asks)
+    play_all(rt, player, room, asks, rest)
 }
 
-// Whether a mailbox has no extensions, as a new one: then a keeper's log may start with it.
-fn may_start(store: &MemStore) -> bool
-    ensures { IsTrue result → IsStart (first_log store.now) }
-{
-    let live = store.live();
-    let _next = live.next_uid();
-    let mark = store.mark();
-    is_number(mark.file_seq);
-    is_number(mark.offset);
-    is_number(store.indexid());
-    live.extensions().list().is_empty()
-}
-
-// The mailbox of a folder that has none is made at 1000.
-fn made(alloc: Global, shelf: MemShelf) -> Result<MemStore, Trouble>
+// The mailbox of a folder is opened, or made at 1000 where it has none.
+fn opened(alloc: Global, shelf: MemShelf) -> Result<MemStore, Trouble>
     ensures fresh { IfOk result IsFresh }
     ensures start { IfOk result (λ store. IsStart (first_log store)) }
 {
     let clock = MemClock::new(alloc, List::from_slice(alloc, &[1000])?);
-    match Store::create(alloc, shelf, clock) {
-        Ok(store) => {
-            if !may_start(&store) {
-                return Err(Trouble::NotMade);
-            }
-            Ok(store)
-        }
+    match open_folder(alloc, shelf, clock) {
+        Ok(store) => Ok(store),
         Err((_, _, OpenFault::NoMemory)) => Err(Trouble::NoMemory),
-        Err(_) => Err(Trouble::NotMade),
+        Err(_) => Err(Trouble::NotOpened),
     }
 }
 
-/// Makes a mailbox in a folder that has none, at 1000, and asks so many sessions of a keeper over
-/// it for all of this, one after another.
+/// Opens the mailbox of a folder, or makes it at 1000 where there is none, and asks so many sessions
+/// of a keeper over it for all of this, one after another. Once memory runs out behind an entry, the
+/// sessions that aren't spent are asked for the rest instead. What memory refuses is asked once more.
 pub fn play<R: Wait>(
     rt: &R,
     alloc: Global,
     shelf: MemShelf,
     sessions: u32,
     asks: &[Ask<'_>],
+    rest: &[Ask<'_>],
 ) -> Result<Played, Trouble>
     requires { (1 ≤ sessions) × (sessions ≤ 64) }
 {
-    let store = made(alloc, shelf)?;
+    let store = opened(alloc, shelf)?;
     let names = new_names(alloc, sessions as u64)?;
-    play_named::<Brand, Brand, Brand, R>(rt, alloc, names, store, 0, sessions, asks)
+    play_named::<Brand, Brand, Brand, R>(rt, alloc, names, store, 0, sessions, asks, rest)
 }

@@ -1,9 +1,9 @@
-use super::played;
-use crate::Ask;
-use crate::Ask::{Gather, Line, Meet, Refresh, Rejoin};
+use crate::plays::played;
 use dv_feed::Taken;
 use dv_member::Met;
 use dv_model::Bytes;
+use dv_tests_keeper::Ask;
+use dv_tests_keeper::Ask::{Gather, Line, Meet, Refresh, Rejoin};
 use std::alloc::Global;
 use std::test::Fail;
 

@@ -1,7 +1,7 @@
-use super::played;
-use crate::Ask;
-use crate::Ask::Line;
+use crate::plays::played;
 use dv_model::Bytes;
+use dv_tests_keeper::Ask;
+use dv_tests_keeper::Ask::Line;
 use std::alloc::Global;
 use std::test::Fail;
 

@@ -1,17 +1,17 @@
-use super::played;
-use crate::Ask;
-use crate::Ask::{Data, Line, Select, Tell, Untold};
+use crate::plays::played;
 use dv_model::{Step, Word};
+use dv_tests_keeper::Ask;
+use dv_tests_keeper::Ask::{Data, Line, Select, Tell, Untold};
 use std::alloc::Global;
 use std::process::Abort;
 use std::sync::Wait;
 use std::test::Fail;
 
 // What two sessions are asked, the end of what is told, and how many entries their log has.
-struct Row {
-    asks: &'static [Ask<'static>],
-    told: &'static str,
-    entries: u64,
+pub(super) struct Row {
+    pub(super) asks: &'static [Ask<'static>],
+    pub(super) told: &'static str,
+    pub(super) entries: u64,
 }
 
 const EXPUNGED: &str = "b * 1 EXISTS\nb * OK [UIDVALIDITY 1000]\nb * OK [UIDNEXT 2]\n\
@@ -125,7 +125,7 @@ fn play_row<R: Abort + Wait>(rt: &R, alloc: Global, row: &Row) -> Result<(), Fai
     Ok(())
 }
 
-fn play_rows<R: Abort + Wait>(rt: &R, alloc: Global, rows: &[Row]) -> Result<(), Fail> {
+pub(super) fn play_rows<R: Abort + Wait>(rt: &R, alloc: Global, rows: &[Row]) -> Result<(), Fail> {
     for row in rows {
         play_row(rt, alloc, row)?;
     }
