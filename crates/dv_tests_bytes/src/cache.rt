@@ -2,10 +2,11 @@ ghost use Rattle.std.specs.Prelude.{◌≡◌, ◌↔◌, All, IsTrue, length};
 ghost use Rattle.dv_cache.specs.Caches.{HasFive};
 ghost use Rattle.dv_cache.specs.declared.row.CacheRow.{CacheRow};
 
+use crate::ends::no_other;
 use dv_cache::{CacheRow, Known, find, write};
 use dv_model::{Bytes, List, NoMemory};
 use std::alloc::Global;
-use std::test::*;
+use std::test::Fail;
 
 fn is_send<T: Send>() {}
 
@@ -13,7 +14,7 @@ fn rows_are_send() {
     is_send::<CacheRow>();
 }
 
-type Fields<'a> = [Option<&'a [u8]>; 5];
+type Fields = [Option<&'static [u8]>; 5];
 
 // A file of indexid 7 and sequence 9 without rows.
 const EMPTY: &[u8] = b"dvca\x01\0\0\0\x07\0\0\0\x09\0\0\0\0\0\0\0\x20\0\0\0\0\0\0\0\0\0\0\0";
@@ -27,15 +28,52 @@ const UNKNOWN: &[u8] =
 const KNOWN: &[u8] =
     b"dvca\x01\0\0\0\x07\0\0\0\x09\0\0\0\x01\0\0\0\x4a\0\0\0\0\0\0\0\0\0\0\0\x05\0\0\0\x2c\x01\0\0\x36\x01\0\0\x30\0\0\0\x01\0\0\0d\x02\0\0\0ab\0\0\0\0\xff\xff\xff\xff\x03\0\0\0<1>";
 
-const FIELDS: &Fields<'static> = &[Some(b"d"), Some(b"ab"), Some(b""), None, Some(b"<1>")];
+const FIELDS: &Fields = &[Some(b"d"), Some(b"ab"), Some(b""), None, Some(b"<1>")];
 
 // A message's row: its UID, its sizes and its fields, unless it can't be read.
 #[derive(Clone, Copy)]
-struct Given<'a> {
+struct Given {
     uid: u32,
     sizes: (u32, u32),
-    fields: Option<&'a Fields<'a>>,
+    fields: Option<&'static Fields>,
 }
+
+const UNREADABLE: Given = Given {
+    uid: 5,
+    sizes: (0, 0),
+    fields: None,
+};
+
+const READABLE: Given = Given {
+    uid: 5,
+    sizes: (300, 310),
+    fields: Some(FIELDS),
+};
+
+// Rows with the file that is written of them, and the row that is found there first, of UID 5.
+struct Case {
+    rows: &'static [Given],
+    file: &'static [u8],
+    found: Option<Given>,
+}
+
+const CASES: [Case; 3] = [
+    Case {
+        rows: &[],
+        file: EMPTY,
+        found: None,
+    },
+    Case {
+        rows: &[UNREADABLE],
+        file: UNKNOWN,
+        found: None,
+    },
+    Case {
+        rows: &[READABLE],
+        file: KNOWN,
+        found: Some(READABLE),
+    },
+];
 
 fn field_of(alloc: Global, value: Option<&[u8]>) -> Result<Option<Bytes>, NoMemory> {
     match value {
@@ -84,11 +122,15 @@ fn is_value(field: &Option<Bytes>, value: Option<&[u8]>) -> bool {
 }
 
 fn are_fields(fields: &[Option<Bytes>], values: &Fields) -> bool {
-    fields.len() == 5
-        && fields
-            .iter()
-            .zip(values)
-            .all(|(field, value)| is_value(field, *value))
+    if fields.len() != 5 {
+        return false;
+    }
+    for (field, value) in fields.iter().zip(values) {
+        if !is_value(field, *value) {
+            return false;
+        }
+    }
+    true
 }
 
 // Whether the row has what was given of a message that can be read.
@@ -131,61 +173,41 @@ fn file_of(alloc: Global, rows: &[Given]) -> Result<Bytes, NoMemory> {
     written(alloc, &rows)
 }
 
-fn has_file(alloc: Global, rows: &[Given], wanted: &[u8]) -> Result<bool, NoMemory> {
-    let file = file_of(alloc, rows)?;
-    Ok(file.as_slice() == wanted)
-}
-
-// The indexid, the sequence, the UID and the offset of a row that is asked for.
-type Asked = (u32, u32, u32, u32);
-
-fn is_found(alloc: Global, file: &[u8], asked: Asked) -> Result<bool, NoMemory> {
-    let (indexid, seq, uid, offset) = asked;
-    Ok(find(alloc, file, indexid, seq, uid, offset)?.is_some())
-}
-
-// Whether the row is found as it was given; none, where no row is found.
-fn finds(alloc: Global, file: &[u8], offset: u32, given: &Given) -> Result<Option<bool>, NoMemory> {
-    match find(alloc, file, 7, 9, given.uid, offset)? {
-        Some(row) => Ok(Some(is_row(&row, given))),
-        None => Ok(None),
+fn has_file(alloc: Global, rows: &[Given], wanted: &[u8]) -> bool {
+    match file_of(alloc, rows) {
+        Ok(file) => file.as_slice() == wanted,
+        Err(_) => false,
     }
 }
 
-const FIRST: Asked = (7, 9, 5, 32);
+// Whether the row of UID 5 that stands first in the file is this one; whether none is found, where
+// none is given.
+fn finds(alloc: Global, file: &[u8], given: &Option<Given>) -> bool {
+    match (find(alloc, file, 7, 9, 5, 32), given) {
+        (Ok(Some(row)), Some(given)) => is_row(&row, given),
+        (Ok(None), None) => true,
+        _ => false,
+    }
+}
+
+fn first_other_file(alloc: Global, cases: &[Case]) -> Option<usize> {
+    for (at, case) in cases.iter().enumerate() {
+        if !has_file(alloc, case.rows, case.file) || !finds(alloc, case.file, &case.found) {
+            return Some(at);
+        }
+    }
+    None
+}
 
 #[test]
-fn worked_files_both_ways(rt: HostRuntime) {
-    let alloc = rt.alloc();
-    assert_eq!(rt; has_file(alloc, &[], EMPTY), Ok(true));
-    assert_eq!(rt; is_found(alloc, EMPTY, FIRST), Ok(false));
-    let unreadable = Given {
-        uid: 5,
-        sizes: (0, 0),
-        fields: None,
-    };
-    assert_eq!(rt; has_file(alloc, &[unreadable], UNKNOWN), Ok(true));
-    assert_eq!(rt; is_found(alloc, UNKNOWN, FIRST), Ok(false));
-    let row = Given {
-        uid: 5,
-        sizes: (300, 310),
-        fields: Some(FIELDS),
-    };
-    assert_eq!(rt; has_file(alloc, &[row], KNOWN), Ok(true));
-    assert_eq!(rt; finds(alloc, KNOWN, 32, &row), Ok(Some(true)));
-}
-
-// Whether a row is found in the file with one byte changed.
-fn is_found_with(alloc: Global, at: usize, byte: u8) -> Result<bool, NoMemory> {
-    let mut file = Vec::from_slice(alloc, KNOWN)?;
-    if at < file.len() {
-        file[at] = byte;
-    }
-    is_found(alloc, &file, FIRST)
+fn worked_files_both_ways(rt: HostRuntime) -> Result<(), Fail> {
+    no_other(first_other_file(rt.alloc(), &CASES))
 }
 
 // A place, another byte there, and whether a row is found all the same.
-const DAMAGES: [(usize, u8, bool); 5] = [
+type Damage = (usize, u8, bool);
+
+const DAMAGES: [Damage; 5] = [
     // `dvca`
     (0, b'D', false),
     // the place of the fields: behind the end, far behind it
@@ -197,13 +219,30 @@ const DAMAGES: [(usize, u8, bool); 5] = [
     (24, 1, true),
 ];
 
-#[test]
-fn damaged_file_has_no_row(rt: HostRuntime) {
-    for (at, byte, found) in DAMAGES {
-        assert_eq!(rt;
-            is_found_with(rt.alloc(), at, byte),
-            Ok(found),
-            "{at} {byte}"
-        );
+// The file of one row with one byte changed.
+fn damaged(alloc: Global, at: usize, byte: u8) -> Result<Bytes, NoMemory> {
+    let mut file = Vec::from_slice(alloc, KNOWN)?;
+    if at < file.len() {
+        file[at] = byte;
     }
+    Ok(List::from_vec(file))
+}
+
+fn is_found(alloc: Global, damage: &Damage) -> Result<bool, NoMemory> {
+    let file = damaged(alloc, damage.0, damage.1)?;
+    Ok(find(alloc, file.as_slice(), 7, 9, 5, 32)?.is_some())
+}
+
+fn first_other_damage(alloc: Global, damages: &[Damage]) -> Option<usize> {
+    for (at, damage) in damages.iter().enumerate() {
+        if is_found(alloc, damage) != Ok(damage.2) {
+            return Some(at);
+        }
+    }
+    None
+}
+
+#[test]
+fn damaged_file_has_no_row(rt: HostRuntime) -> Result<(), Fail> {
+    no_other(first_other_damage(rt.alloc(), &DAMAGES))
 }

@@ -1,7 +1,8 @@
+use crate::ends::{is_so, no_other};
 use dv_dbox::{BoxEnd, BoxFault, Message, read, write};
-use dv_model::NoMemory;
-use std::alloc::Global;
-use std::test::*;
+use dv_model::Bytes;
+use std::alloc::{AllocError, Global};
+use std::test::Fail;
 
 const HELLO: &[u8] = b"Subject: Hello\r\n world\r\n\r\nHi\n";
 
@@ -22,89 +23,117 @@ const FIRST_GUID: [u8; 16] = [
     0x00, 0x00, 0x03, 0xe8, 0x00, 0x00, 0x03, 0xe8, 0x00, 0x00, 0x00, 0x01, 0x00, 0x00, 0x03, 0xe9,
 ];
 
-// The numbers of a message: its stamp, its GUID, when it was received, both sizes, and how many
-// other lines its metadata has.
-type Numbers = (
-    u32,
-    Option<[u8; 16]>,
-    Option<u64>,
-    Option<u64>,
-    Option<u64>,
-    usize,
-);
+// The numbers of a message: its stamp, its GUID, when it was received, and both sizes.
+type Numbers = (u32, Option<[u8; 16]>, Option<u64>, Option<u64>, Option<u64>);
 
-fn numbers_of(m: &Message) -> Numbers {
-    (
-        m.stamp,
-        m.guid,
-        m.received,
-        m.physical,
-        m.virtual_size,
-        m.others.len(),
-    )
+// A file with the message that it holds: its bytes, its numbers, and the lines of other keys.
+struct Held {
+    file: &'static [u8],
+    bytes: &'static [u8],
+    numbers: Numbers,
+    others: &'static [&'static [u8]],
 }
 
-fn numbers_in(alloc: Global, file: &[u8]) -> Result<Numbers, BoxEnd> {
-    let m = read(alloc, file)?;
-    Ok(numbers_of(&m))
+const HELD: [Held; 2] = [
+    Held {
+        file: USUAL,
+        bytes: HELLO,
+        numbers: (
+            0x4a6f_7b2c,
+            Some(GUID),
+            Some(0x4a6f_7b2c),
+            Some(29),
+            Some(30),
+        ),
+        others: &[b"Xabc"],
+    },
+    Held {
+        file: FIRST,
+        bytes: b"hello",
+        numbers: (1001, Some(FIRST_GUID), Some(1001), Some(5), Some(5)),
+        others: &[],
+    },
+];
+
+fn are_lines(lines: &[Bytes], expected: &[&[u8]]) -> bool {
+    if lines.len() != expected.len() {
+        return false;
+    }
+    for (line, bytes) in lines.iter().zip(expected) {
+        if line.as_slice() != *bytes {
+            return false;
+        }
+    }
+    true
 }
 
-// Whether the message of the file has these bytes.
-fn holds(alloc: Global, file: &[u8], bytes: &[u8]) -> Result<bool, BoxEnd> {
-    let m = read(alloc, file)?;
-    Ok(m.bytes.as_slice() == bytes)
+fn has_numbers(m: &Message, numbers: &Numbers) -> bool {
+    m.stamp == numbers.0
+        && m.guid == numbers.1
+        && m.received == numbers.2
+        && m.physical == numbers.3
+        && m.virtual_size == numbers.4
 }
 
-// Whether the file's metadata has this one line of another key.
-fn has_line(alloc: Global, file: &[u8], line: &[u8]) -> Result<bool, BoxEnd> {
-    let m = read(alloc, file)?;
-    match m.others.as_slice() {
-        [other] => Ok(other.as_slice() == line),
-        _ => Ok(false),
+fn is_held(alloc: Global, held: &Held) -> bool {
+    match read(alloc, held.file) {
+        Ok(m) => {
+            m.bytes.as_slice() == held.bytes
+                && has_numbers(&m, &held.numbers)
+                && are_lines(m.others.as_slice(), held.others)
+        }
+        Err(_) => false,
     }
 }
 
-#[test]
-fn usual_file_is_read(rt: HostRuntime) {
-    let alloc = rt.alloc();
-    let stamp = 0x4a6f_7b2c;
-    let wanted = (stamp, Some(GUID), Some(0x4a6f_7b2c), Some(29), Some(30), 1);
-    assert_eq!(rt; numbers_in(alloc, USUAL), Ok(wanted));
-    assert_eq!(rt; holds(alloc, USUAL, HELLO), Ok(true));
-    assert_eq!(rt; has_line(alloc, USUAL, b"Xabc"), Ok(true));
-}
-
-fn writes(
-    alloc: Global,
-    time: u32,
-    guid: &[u8; 16],
-    message: &[u8],
-    wanted: &[u8],
-) -> Result<bool, NoMemory> {
-    let text = write(alloc, time, guid, time, message)?;
-    Ok(text.as_slice() == wanted)
+fn first_not_held(alloc: Global, files: &[Held]) -> Option<usize> {
+    for (at, held) in files.iter().enumerate() {
+        if !is_held(alloc, held) {
+            return Some(at);
+        }
+    }
+    None
 }
 
 #[test]
-fn first_append_is_written_and_read(rt: HostRuntime) {
-    let alloc = rt.alloc();
-    let wanted = (1001, Some(FIRST_GUID), Some(1001), Some(5), Some(5), 0);
-    assert_eq!(rt; writes(alloc, 1001, &FIRST_GUID, b"hello", FIRST), Ok(true));
-    assert_eq!(rt; numbers_in(alloc, FIRST), Ok(wanted));
-    assert_eq!(rt; holds(alloc, FIRST, b"hello"), Ok(true));
-    assert_eq!(rt; writes(alloc, 0x4a6f_7b2c, &GUID, HELLO, WRITTEN), Ok(true));
+fn files_are_read(rt: HostRuntime) -> Result<(), Fail> {
+    no_other(first_not_held(rt.alloc(), &HELD))
 }
 
-/// The fault of a file.
-fn fault_of(alloc: Global, file: &[u8]) -> Option<BoxFault> {
-    match read(alloc, file) {
-        Err(BoxEnd::Fault(fault)) => Some(fault),
-        _ => None,
+// When a message was received and saved, its GUID, its bytes, and its file.
+type Written = (u32, [u8; 16], &'static [u8], &'static [u8]);
+
+const FILES: [Written; 2] = [
+    (1001, FIRST_GUID, b"hello", FIRST),
+    (0x4a6f_7b2c, GUID, HELLO, WRITTEN),
+];
+
+fn is_written(alloc: Global, written: &Written) -> bool {
+    let (time, guid, message, file) = *written;
+    match write(alloc, time, &guid, time, message) {
+        Ok(text) => text.as_slice() == file,
+        Err(_) => false,
     }
 }
 
-// Files that each break the form at one place.
-const FAULTS: [(&[u8], BoxFault); 6] = [
+fn first_not_written(alloc: Global, files: &[Written]) -> Option<usize> {
+    for (at, written) in files.iter().enumerate() {
+        if !is_written(alloc, written) {
+            return Some(at);
+        }
+    }
+    None
+}
+
+#[test]
+fn files_are_written(rt: HostRuntime) -> Result<(), Fail> {
+    no_other(first_not_written(rt.alloc(), &FILES))
+}
+
+// A file that breaks the form at one place, and its fault.
+type Broken = (&'static [u8], BoxFault);
+
+const FAULTS: [Broken; 6] = [
     (b"2 M1f C1\n", BoxFault::BadHeader),
     (
         b"2 M1e C1\n\x01\x02N         x0000000000000000\n\n\x01\x03\n\n",
@@ -128,28 +157,50 @@ const FAULTS: [(&[u8], BoxFault); 6] = [
     ),
 ];
 
-#[test]
-fn first_broken_part_is_named(rt: HostRuntime) {
-    for (file, fault) in FAULTS {
-        assert_eq!(rt; fault_of(rt.alloc(), file), Some(fault), "{file:?}");
+fn has_fault(alloc: Global, broken: &Broken) -> bool {
+    match read(alloc, broken.0) {
+        Err(BoxEnd::Fault(fault)) => fault == broken.1,
+        _ => false,
     }
 }
 
-// Both sizes of a message of so many line feeds, where it is written and read.
-fn line_feeds(alloc: Global, count: usize) -> Result<Option<(Option<u64>, Option<u64>)>, BoxEnd> {
+fn first_other_fault(alloc: Global, files: &[Broken]) -> Option<usize> {
+    for (at, broken) in files.iter().enumerate() {
+        if !has_fault(alloc, broken) {
+            return Some(at);
+        }
+    }
+    None
+}
+
+#[test]
+fn first_broken_part_is_named(rt: HostRuntime) -> Result<(), Fail> {
+    no_other(first_other_fault(rt.alloc(), &FAULTS))
+}
+
+// Whether a message is read of its file with both of these sizes.
+fn is_read(alloc: Global, file: &[u8], message: &[u8], sizes: (u64, u64)) -> bool {
+    match read(alloc, file) {
+        Ok(m) => {
+            m.bytes.as_slice() == message
+                && m.physical == Some(sizes.0)
+                && m.virtual_size == Some(sizes.1)
+        }
+        Err(_) => false,
+    }
+}
+
+// Whether a message of so many line feeds is written and read, with these sizes.
+fn are_read(alloc: Global, count: usize, sizes: (u64, u64)) -> Result<bool, AllocError> {
     let message = vec![in alloc; b'\n'; count]?;
-    let text = write(alloc, 1001, &FIRST_GUID, 1001, &message)?;
-    let m = read(alloc, text.as_slice())?;
-    if m.bytes.as_slice() == message.as_slice() {
-        Ok(Some((m.physical, m.virtual_size)))
-    } else {
-        Ok(None)
+    match write(alloc, 1001, &FIRST_GUID, 1001, &message) {
+        Ok(text) => Ok(is_read(alloc, text.as_slice(), &message, sizes)),
+        Err(_) => Ok(false),
     }
 }
 
 // The longest message that is taken, of line feeds alone: sent, each has two bytes.
 #[test]
-fn message_of_32_mebibytes_both_ways(rt: HostRuntime) {
-    let sizes = (Some(33_554_432), Some(67_108_864));
-    assert_eq!(rt; line_feeds(rt.alloc(), 33_554_432), Ok(Some(sizes)));
+fn message_of_32_mebibytes_both_ways(rt: HostRuntime) -> Result<(), Fail> {
+    is_so(are_read(rt.alloc(), 33_554_432, (33_554_432, 67_108_864)))
 }

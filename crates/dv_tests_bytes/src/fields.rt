@@ -1,7 +1,7 @@
+use crate::ends::no_other;
 use dv_fields::{field_of, physical, virtual_size};
-use dv_model::NoMemory;
 use std::alloc::Global;
-use std::test::*;
+use std::test::Fail;
 
 const HELLO: &[u8] = b"Subject: Hello\r\n world\r\n\r\nHi\n";
 
@@ -11,59 +11,70 @@ const FOLDED: &[u8] = b"A: one\n\ttwo\r\n \tthree \nSub\r\n ject: x\n \nE:\t \n\
 
 const LONE: &[u8] = b" G: 0\nA: 1\rB: 2\r\r\n\r\r\nC: 3";
 
-/// The value of a field, or nothing where the message has none.
-fn value(alloc: Global, message: &[u8], name: &[u8]) -> Result<Vec<u8>, NoMemory> {
-    match field_of(alloc, message, name)? {
-        Some(value) => Ok(value.into_vec()),
-        None => Ok(b"(none)".to_vec(alloc)?),
-    }
-}
+// A message, the name of a field, and its value where the message has it.
+type Field = (&'static [u8], &'static [u8], Option<&'static [u8]>);
 
-// Whether the message has a field of this value; `(none)` where it has no such field.
-fn has_value(alloc: Global, message: &[u8], name: &[u8], wanted: &[u8]) -> Result<bool, NoMemory> {
-    let value = value(alloc, message, name)?;
-    Ok(value.as_slice() == wanted)
-}
-
-// A message, the name of a field and its value.
-const VALUES: [(&[u8], &[u8], &[u8]); 12] = [
-    (HELLO, b"subject", b"Hello world"),
-    (HELLO, b"Hi", b"(none)"),
-    (MIXED, b"from me thu", b"(none)"),
-    (MIXED, b"b", b"2"),
-    (MIXED, b"C", b"(none)"),
-    (FOLDED, b"A", b"one\ttwo \tthree"),
-    (FOLDED, b"Sub ject", b"x"),
-    (FOLDED, b"E", b""),
-    (LONE, b"A", b"1\rB: 2\r"),
-    (LONE, b"C", b"3"),
-    (b"\nA: 1\n", b"A", b"(none)"),
-    (b"", b"", b"(none)"),
+const FIELDS: [Field; 12] = [
+    (HELLO, b"subject", Some(b"Hello world")),
+    (HELLO, b"Hi", None),
+    (MIXED, b"from me thu", None),
+    (MIXED, b"b", Some(b"2")),
+    (MIXED, b"C", None),
+    (FOLDED, b"A", Some(b"one\ttwo \tthree")),
+    (FOLDED, b"Sub ject", Some(b"x")),
+    (FOLDED, b"E", Some(b"")),
+    (LONE, b"A", Some(b"1\rB: 2\r")),
+    (LONE, b"C", Some(b"3")),
+    (b"\nA: 1\n", b"A", None),
+    (b"", b"", None),
 ];
 
-#[test]
-fn fields_of_mail(rt: HostRuntime) {
-    for (message, name, wanted) in VALUES {
-        assert_eq!(rt;
-            has_value(rt.alloc(), message, name, wanted),
-            Ok(true),
-            "{wanted:?}"
-        );
+fn is_field(alloc: Global, field: &Field) -> bool {
+    match (field_of(alloc, field.0, field.1), field.2) {
+        (Ok(Some(found)), Some(value)) => found.as_slice() == value,
+        (Ok(None), None) => true,
+        _ => false,
     }
 }
 
-#[test]
-fn sizes_of_line_ends(rt: HostRuntime) {
-    let cases: [(&[u8], u64, u64); 4] = [
-        (HELLO, 29, 30),
-        (b"", 0, 0),
-        (b"a\nb\r\nc\r", 7, 8),
-        (b"\r\r\n\n", 4, 5),
-    ];
-    for (message, bytes, as_sent) in cases {
-        assert_eq!(rt;
-            (physical(message), virtual_size(message)),
-            (bytes, as_sent)
-        );
+fn first_other_field(alloc: Global, fields: &[Field]) -> Option<usize> {
+    for (at, field) in fields.iter().enumerate() {
+        if !is_field(alloc, field) {
+            return Some(at);
+        }
     }
+    None
+}
+
+#[test]
+fn fields_of_mail(rt: HostRuntime) -> Result<(), Fail> {
+    no_other(first_other_field(rt.alloc(), &FIELDS))
+}
+
+// A message, with its size as it is and as it is sent.
+type Sizes = (&'static [u8], u64, u64);
+
+const SIZES: [Sizes; 4] = [
+    (HELLO, 29, 30),
+    (b"", 0, 0),
+    (b"a\nb\r\nc\r", 7, 8),
+    (b"\r\r\n\n", 4, 5),
+];
+
+fn are_sizes(sizes: &Sizes) -> bool {
+    physical(sizes.0) == sizes.1 && virtual_size(sizes.0) == sizes.2
+}
+
+fn first_other_sizes(messages: &[Sizes]) -> Option<usize> {
+    for (at, sizes) in messages.iter().enumerate() {
+        if !are_sizes(sizes) {
+            return Some(at);
+        }
+    }
+    None
+}
+
+#[test]
+fn sizes_of_line_ends() -> Result<(), Fail> {
+    no_other(first_other_sizes(&SIZES))
 }

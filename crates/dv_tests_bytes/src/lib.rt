@@ -6,6 +6,8 @@ mod cache;
 #[cfg(test)]
 mod dbox;
 #[cfg(test)]
+mod ends;
+#[cfg(test)]
 mod fields;
 #[cfg(test)]
 mod num;

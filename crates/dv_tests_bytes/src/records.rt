@@ -3,11 +3,12 @@ ghost use Rattle.dv_model.specs.Spelling.{IsRecord};
 mod numbers;
 mod worked;
 
+use crate::ends::{is_so, no_other};
 use dv_model::{Body, Bytes, List, NoMemory, Record};
 use dv_records::{DecodeEnd, RecordFault, check, decode, encode};
 use numbers::numbers_of;
 use std::alloc::Global;
-use std::test::*;
+use std::test::Fail;
 use worked::{EXPUNGE, WORKED, Worked};
 
 // These bytes with two bytes before them and three behind.
@@ -41,76 +42,58 @@ fn goes_both_ways(
     at: usize,
     end: usize,
     wanted: &[u8],
-) -> Result<bool, DecodeEnd> {
+) -> Result<bool, NoMemory> {
     if at > text.len() {
         return Ok(false);
     }
-    let (record, behind) = decode(alloc, text, at)?;
-    let is_same = is_written(alloc, &record, wanted)?;
-    Ok(is_same && behind == end && check(text, at) == Ok(end))
+    let is_same = match decode(alloc, text, at) {
+        Ok((record, behind)) => behind == end && is_written(alloc, &record, wanted)?,
+        Err(_) => false,
+    };
+    Ok(is_same && check(text, at) == Ok(end))
 }
 
 // Whether a record with these highest bits and these numbers stands at this place.
-fn says(
-    alloc: Global,
-    text: &[u8],
-    at: usize,
-    top: u8,
-    numbers: &[u32],
-) -> Result<bool, DecodeEnd> {
+fn says(alloc: Global, text: &[u8], at: usize, top: u8, numbers: &[u32]) -> Result<bool, NoMemory> {
     if at > text.len() {
         return Ok(false);
     }
-    let (record, _) = decode(alloc, text, at)?;
-    Ok(record.top == top && has_numbers(alloc, &record.body, numbers)?)
+    match decode(alloc, text, at) {
+        Ok((record, _)) => Ok(record.top == top && has_numbers(alloc, &record.body, numbers)?),
+        Err(_) => Ok(false),
+    }
 }
 
-fn is_worked(alloc: Global, worked: &Worked) -> Result<bool, DecodeEnd> {
+fn is_worked(alloc: Global, worked: &Worked) -> Result<bool, NoMemory> {
     let (bytes, top, numbers) = *worked;
     let text = framed(alloc, bytes)?;
-    let text = text.as_slice();
     let behind = bytes.len().saturating_add(2);
-    Ok(goes_both_ways(alloc, text, 2, behind, bytes)? && says(alloc, text, 2, top, numbers)?)
+    Ok(
+        goes_both_ways(alloc, text.as_slice(), 2, behind, bytes)?
+            && says(alloc, text.as_slice(), 2, top, numbers)?,
+    )
 }
 
 // The place of the first record that is read or written in another way.
-fn first_not_worked(alloc: Global) -> Result<Option<usize>, DecodeEnd> {
-    for (at, worked) in WORKED.iter().enumerate() {
-        if !is_worked(alloc, worked)? {
-            return Ok(Some(at));
+fn first_not_worked(alloc: Global, records: &[Worked]) -> Option<usize> {
+    for (at, worked) in records.iter().enumerate() {
+        if is_worked(alloc, worked) != Ok(true) {
+            return Some(at);
         }
     }
-    Ok(None)
+    None
 }
 
 #[test]
-fn worked_records_both_ways(rt: HostRuntime) {
-    assert_eq!(rt; first_not_worked(rt.alloc()), Ok(None));
+fn worked_records_both_ways(rt: HostRuntime) -> Result<(), Fail> {
+    no_other(first_not_worked(rt.alloc(), &WORKED))
 }
 
-// How many numbers the expunge has, where they begin so and the fifth row so.
-fn numbers_of_expunge(alloc: Global) -> Result<Option<usize>, DecodeEnd> {
-    let (record, _) = decode(alloc, &EXPUNGE, 0)?;
-    let numbers = numbers_of(alloc, &record.body)?;
-    match numbers.as_slice().split_at_checked(69) {
-        Some((front, rest))
-            if front.starts_with(&[0xed90, 5, 0, 0, 3, 0xe8])
-                && rest.starts_with(&[9, 0, 0, 3, 0xe8]) => { Ok(Some(numbers.len())) }
-        _ => Ok(None),
-    }
-}
+// A text that is a record, and what is written of that.
+type Spelling = (&'static [u8], &'static [u8]);
 
-#[test]
-fn expunge_with_guids_both_ways(rt: HostRuntime) {
-    assert_eq!(rt;
-        goes_both_ways(rt.alloc(), &EXPUNGE, 0, 108, &EXPUNGE),
-        Ok(true)
-    );
-    assert_eq!(rt; numbers_of_expunge(rt.alloc()), Ok(Some(86)));
-}
-
-// Padding of any kind and a short reset, and what is written of them.
-const OTHERS: [(&[u8], &[u8]); 5] = [
+// Padding of any kind and a short reset, and what is written so.
+const OTHERS: [Spelling; 6] = [
     (
         b"\x80\x80\x80\x84\x02\0\0\0\x01\0\0\0\x08\x07\x07\x07",
         b"\x80\x80\x80\x84\x02\0\0\0\x01\0\0\0\x08\0\0\0",
@@ -132,28 +115,26 @@ const OTHERS: [(&[u8], &[u8]); 5] = [
         b"\x80\x80\x80\x83\x80\0\0\0\x07\0\0\0",
         b"\x80\x80\x80\x84\x80\0\0\0\x07\0\0\0\0\0\0\0",
     ),
+    (&EXPUNGE, &EXPUNGE),
 ];
 
 // The place of the first spelling that isn't read or written so.
-fn first_other_spelling(alloc: Global) -> Result<Option<usize>, DecodeEnd> {
-    for (at, (bytes, canonical)) in OTHERS.iter().enumerate() {
-        if !goes_both_ways(alloc, bytes, 0, bytes.len(), canonical)? {
-            return Ok(Some(at));
+fn first_other_spelling(alloc: Global, spellings: &[Spelling]) -> Option<usize> {
+    for (at, (bytes, canonical)) in spellings.iter().enumerate() {
+        if goes_both_ways(alloc, bytes, 0, bytes.len(), canonical) != Ok(true) {
+            return Some(at);
         }
     }
-    Ok(None)
+    None
 }
 
 #[test]
-fn other_spellings_are_read(rt: HostRuntime) {
-    assert_eq!(rt; first_other_spelling(rt.alloc()), Ok(None));
+fn other_spellings_are_read(rt: HostRuntime) -> Result<(), Fail> {
+    no_other(first_other_spelling(rt.alloc(), &OTHERS))
 }
 
-// Whether the first bytes are no record, because of this fault.
-fn is_refused(alloc: Global, bytes: &[u8], fault: RecordFault) -> bool {
-    let read = decode(alloc, bytes, 0);
-    read.err() == Some(DecodeEnd::Fault(fault)) && check(bytes, 0) == Err(fault)
-}
+// What no record is, and why.
+type Refused = (&'static [u8], RecordFault);
 
 const CLOSED: RecordFault = RecordFault::Closed;
 
@@ -163,8 +144,7 @@ const GUARD: RecordFault = RecordFault::BadGuard;
 
 const PAYLOAD: RecordFault = RecordFault::BadPayload;
 
-// What no record is.
-const HOSTILE: [(&[u8], RecordFault); 10] = [
+const HOSTILE: [Refused; 10] = [
     (b"\0\0\0\0", CLOSED),
     (b"\x80\x80\0\x82\x02\0\0\0", CLOSED),
     (b"\x80\x80\x80\x82\x02\0\0", SIZE),
@@ -177,11 +157,27 @@ const HOSTILE: [(&[u8], RecordFault); 10] = [
     (b"\x80\x80\x80\x83\x90\xed\0\0\x01\0\0\0", PAYLOAD),
 ];
 
-#[test]
-fn hostile_bytes_are_refused(rt: HostRuntime) {
-    for (bytes, fault) in HOSTILE {
-        assert!(rt; is_refused(rt.alloc(), bytes, fault), "{bytes:?}");
+// Whether the first bytes are no record, because of this fault.
+fn is_refused(alloc: Global, refused: &Refused) -> bool {
+    let (bytes, fault) = *refused;
+    match decode(alloc, bytes, 0) {
+        Err(DecodeEnd::Fault(found)) => found == fault && check(bytes, 0) == Err(fault),
+        _ => false,
     }
+}
+
+fn first_not_refused(alloc: Global, hostile: &[Refused]) -> Option<usize> {
+    for (at, refused) in hostile.iter().enumerate() {
+        if !is_refused(alloc, refused) {
+            return Some(at);
+        }
+    }
+    None
+}
+
+#[test]
+fn hostile_bytes_are_refused(rt: HostRuntime) -> Result<(), Fail> {
+    no_other(first_not_refused(rt.alloc(), &HOSTILE))
 }
 
 // The longest record.
@@ -202,15 +198,16 @@ fn longest_append(alloc: Global) -> Result<Bytes, NoMemory> {
     Ok(text)
 }
 
-fn is_kept(alloc: Global, text: Result<Bytes, NoMemory>) -> Result<bool, DecodeEnd> {
-    let text = text?;
+fn is_kept(alloc: Global, text: &Bytes) -> Result<bool, NoMemory> {
     let bytes = text.as_slice();
     goes_both_ways(alloc, bytes, 0, bytes.len(), bytes)
 }
 
+fn are_kept(alloc: Global) -> Result<bool, NoMemory> {
+    Ok(is_kept(alloc, &longest(alloc)?)? && is_kept(alloc, &longest_append(alloc)?)?)
+}
+
 #[test]
-fn long_records_both_ways(rt: HostRuntime) {
-    let alloc = rt.alloc();
-    assert_eq!(rt; is_kept(alloc, longest(alloc)), Ok(true));
-    assert_eq!(rt; is_kept(alloc, longest_append(alloc)), Ok(true));
+fn long_records_both_ways(rt: HostRuntime) -> Result<(), Fail> {
+    is_so(are_kept(rt.alloc()))
 }

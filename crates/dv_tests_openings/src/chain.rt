@@ -1,5 +1,7 @@
+use crate::ends::{is_so, no_other};
+use crate::folders::{File, has_file, shelf_of};
 use dv_chain::{Chain, create, open};
-use dv_model::{Bytes, List, Mark, OpenFault};
+use dv_model::{Mark, NoMemory, OpenFault};
 use dv_shelf::{MemShelf, Name, Shelf};
 use std::alloc::Global;
 use std::test::Fail;
@@ -12,6 +14,23 @@ pub const LOG: [u8; 96] = [
     0x80, 0x80, 0x80, 0x84, 0x20, 0, 0, 0, 24, 0, 4, 0, 0xe8, 3, 0, 0, //
     0x80, 0x80, 0x80, 0x84, 2, 0, 0, 0x10, 1, 0, 0, 0, 0, 0, 0, 0, //
     0x80, 0x80, 0x80, 0x85, 4, 0, 0, 0x10, 1, 0, 0, 0, 1, 0, 0, 0, 8, 0, 0, 0, //
+    0, 0, 0, 0,
+];
+
+// The same without the four bytes behind its end.
+const BARE: [u8; 92] = [
+    1, 3, 40, 0, 0xe8, 3, 0, 0, 1, 0, 0, 0, 0, 0, 0, 0, 0, 0, 0, 0, //
+    0xe8, 3, 0, 0, 1, 0, 0, 0, 0, 0, 0, 0, 1, 0, 0, 0, 0, 0, 0, 0, //
+    0x80, 0x80, 0x80, 0x84, 0x20, 0, 0, 0, 24, 0, 4, 0, 0xe8, 3, 0, 0, //
+    0x80, 0x80, 0x80, 0x84, 2, 0, 0, 0x10, 1, 0, 0, 0, 0, 0, 0, 0, //
+    0x80, 0x80, 0x80, 0x85, 4, 0, 0, 0x10, 1, 0, 0, 0, 1, 0, 0, 0, 8, 0, 0, 0,
+];
+
+// The same with its first record alone, as it is made at 1000.
+const NEW: [u8; 60] = [
+    1, 3, 40, 0, 0xe8, 3, 0, 0, 1, 0, 0, 0, 0, 0, 0, 0, 0, 0, 0, 0, //
+    0xe8, 3, 0, 0, 1, 0, 0, 0, 0, 0, 0, 0, 1, 0, 0, 0, 0, 0, 0, 0, //
+    0x80, 0x80, 0x80, 0x84, 0x20, 0, 0, 0, 24, 0, 4, 0, 0xe8, 3, 0, 0, //
     0, 0, 0, 0,
 ];
 
@@ -34,75 +53,41 @@ const OLD_INDEX: [u8; 128] = [
     0, 0, 0, 0, 0, 0, 0, 0, 1, 0, 0, 0, 0, 0, 0, 0,
 ];
 
-// What makes a snapshot one at 1:92 with the flag Seen: mark, number of rows with it, and row.
-const SEEN: [(usize, u8); 3] = [(40, 92), (60, 1), (124, 8)];
+// The same at 1:92 with the flag Seen: another mark, number of rows with the flag, and row.
+const SEEN_INDEX: [u8; 128] = [
+    201, 1, 120, 0, 120, 0, 0, 0, 8, 0, 0, 0, 0, 0, 0, 0, //
+    0xe8, 3, 0, 0, 0, 0, 0, 0, 0xe8, 3, 0, 0, 2, 0, 0, 0, //
+    1, 0, 0, 0, 1, 0, 0, 0, 92, 0, 0, 0, 0, 0, 0, 0, //
+    0, 0, 0, 0, 0, 0, 0, 0, 0, 0, 0, 0, 1, 0, 0, 0, //
+    0, 0, 0, 0, 0, 0, 0, 0, 0, 0, 0, 0, 0, 0, 0, 0, //
+    0, 0, 0, 0, 0, 0, 0, 0, 0, 0, 0, 0, 0, 0, 0, 0, //
+    0, 0, 0, 0, 0, 0, 0, 0, 0, 0, 0, 0, 0, 0, 0, 0, //
+    0, 0, 0, 0, 0, 0, 0, 0, 1, 0, 0, 0, 8, 0, 0, 0,
+];
 
-// What is found in a folder: the end of its log; flags and modification sequence of its row, where
-// that is UID 1 alone; the highest one; and how long the log is behind opening.
-#[derive(Clone, Copy, PartialEq, Eq)]
+// What is found in a folder: the number of its log's file, and where the records there end; flags
+// and modification sequence of its row, where that is UID 1 alone; the highest one; and how long
+// the log is behind opening.
+#[derive(Clone, Copy)]
 struct Told {
-    end: Mark,
+    file_seq: u32,
+    end: u32,
     row: Option<(u8, u64)>,
     highest: u64,
     length: usize,
 }
 
-// An answer, for a table.
-fn found(
-    file_seq: u32,
-    offset: u32,
-    row: Option<(u8, u64)>,
-    highest: u64,
-    length: usize,
-) -> Result<Told, OpenFault> {
+// The folder's mailbox, or why there is none.
+type Answer = Result<Told, OpenFault>;
+
+fn found(file_seq: u32, end: u32, row: Option<(u8, u64)>, highest: u64, length: usize) -> Answer {
     Ok(Told {
-        end: Mark { file_seq, offset },
+        file_seq,
+        end,
         row,
         highest,
         length,
     })
-}
-
-// These bytes with some changed.
-fn changed(alloc: Global, bytes: &[u8], changes: &[(usize, u8)]) -> Result<Bytes, Fail> {
-    let mut made = Vec::from_slice(alloc, bytes)?;
-    for (place, byte) in changes {
-        if *place < made.len() {
-            made[*place] = *byte;
-        }
-    }
-    Ok(List::from_vec(made))
-}
-
-// The first bytes of the first log, and others behind them.
-fn log_with(alloc: Global, end: usize, behind: &[u8]) -> Result<Bytes, Fail> {
-    let (front, _) = LOG.split_at(end.min(96));
-    let mut log = List::from_slice(alloc, front)?;
-    log.extend(behind)?;
-    Ok(log)
-}
-
-// A folder with the log and, where they are there, the rotated log and the snapshot.
-fn folder(
-    alloc: Global,
-    log: &[u8],
-    log2: Option<&[u8]>,
-    index: Option<&[u8]>,
-) -> Result<MemShelf, Fail> {
-    let mut files = List::new(alloc);
-    files.push((Name::Log, List::from_slice(alloc, log)?))?;
-    if let Some(log2) = log2 {
-        files.push((Name::Log2, List::from_slice(alloc, log2)?))?;
-    }
-    if let Some(index) = index {
-        files.push((Name::Index, List::from_slice(alloc, index)?))?;
-    }
-    Ok(MemShelf::of(alloc, &files, 2000, List::new(alloc), None)?)
-}
-
-fn log_of(alloc: Global, shelf: &mut MemShelf) -> Result<Bytes, Fail> {
-    let log = shelf.read(alloc, Name::Log).ok().ok_or("memory")?;
-    Ok(log.ok_or("absent")?)
 }
 
 fn only_row(chain: &Chain) -> Option<(u8, u64)> {
@@ -117,34 +102,31 @@ fn only_row(chain: &Chain) -> Option<(u8, u64)> {
     }
 }
 
-fn look_at(alloc: Global, chain: &Chain, shelf: &mut MemShelf) -> Result<Told, Fail> {
-    Ok(Told {
-        end: Mark {
-            file_seq: chain.log.file_seq,
-            offset: chain.log.end,
-        },
-        row: only_row(chain),
-        highest: chain.live.highest(),
-        length: log_of(alloc, shelf)?.len(),
-    })
+fn log_length(alloc: Global, shelf: &mut MemShelf) -> Option<usize> {
+    match shelf.read(alloc, Name::Log) {
+        Ok(Some(log)) => Some(log.len()),
+        _ => None,
+    }
 }
 
-// What opening answers.
-fn opened(
-    alloc: Global,
-    log: &[u8],
-    log2: Option<&[u8]>,
-    index: Option<&[u8]>,
-) -> Result<Result<Told, OpenFault>, Fail> {
-    let mut shelf = folder(alloc, log, log2, index)?;
-    match open(alloc, &mut shelf) {
-        Ok(chain) => Ok(Ok(look_at(alloc, &chain, &mut shelf)?)),
-        Err(fault) => Ok(Err(fault)),
+fn is_told(alloc: Global, chain: &Chain, shelf: &mut MemShelf, told: &Told) -> bool {
+    chain.log.file_seq == told.file_seq
+        && chain.log.end == told.end
+        && only_row(chain) == told.row
+        && chain.live.highest() == told.highest
+        && log_length(alloc, shelf) == Some(told.length)
+}
+
+fn opens(alloc: Global, shelf: &mut MemShelf, answer: &Answer) -> bool {
+    match (open(alloc, shelf), answer) {
+        (Ok(chain), Ok(told)) => is_told(alloc, &chain, shelf, told),
+        (Err(fault), Err(other)) => fault == *other,
+        _ => false,
     }
 }
 
 // What is found of the log's first bytes.
-fn cut(length: usize) -> Result<Told, OpenFault> {
+fn cut(length: usize) -> Answer {
     match length {
         0..=39 => Err(OpenFault::BadLogHeader),
         40..=43 => found(1, 40, None, 1, 44),
@@ -158,84 +140,193 @@ fn cut(length: usize) -> Result<Told, OpenFault> {
     }
 }
 
+fn is_cut(alloc: Global, length: usize) -> Result<bool, NoMemory> {
+    let (log, _) = LOG.split_at(length.min(96));
+    let mut shelf = shelf_of(alloc, &[(Name::Log, log)], &[], None)?;
+    Ok(opens(alloc, &mut shelf, &cut(length)))
+}
+
+// Whether that is so up to this length.
+fn are_cut(alloc: Global, longest: usize) -> Result<bool, NoMemory> {
+    for length in 0..=longest {
+        if !is_cut(alloc, length)? {
+            return Ok(false);
+        }
+    }
+    Ok(true)
+}
+
 #[test]
 fn a_cut_log_ends_behind_its_last_whole_record(rt: HostRuntime) -> Result<(), Fail> {
-    for length in 0..97 {
-        let (log, _) = LOG.split_at(length);
-        assert!(rt; opened(rt.alloc(), log, None, None)? == cut(length));
+    is_so(are_cut(rt.alloc(), 96))
+}
+
+// Something that is done with a folder, and its answer.
+#[derive(Clone, Copy)]
+enum Step {
+    // It is made at 1000, by one call.
+    Creates(Answer),
+    Opens(Answer),
+    // The log has these bytes.
+    Log(&'static [u8]),
+}
+
+// A folder's files, the calls of it that fail, and what is done then.
+struct Case {
+    name: &'static str,
+    files: &'static [File<'static>],
+    fails: &'static [u32],
+    steps: &'static [Step],
+}
+
+const MADE: Answer = Ok(Told {
+    file_seq: 1,
+    end: 56,
+    row: None,
+    highest: 2,
+    length: 60,
+});
+
+const FIRST: Answer = Ok(Told {
+    file_seq: 1,
+    end: 92,
+    row: Some((8, 4)),
+    highest: 4,
+    length: 96,
+});
+
+const BOTH: Answer = Ok(Told {
+    file_seq: 2,
+    end: 40,
+    row: Some((8, 4)),
+    highest: 4,
+    length: 44,
+});
+
+const GAP: Answer = Err(OpenFault::Gap {
+    index: Mark {
+        file_seq: 1,
+        offset: 72,
+    },
+    log: Mark {
+        file_seq: 2,
+        offset: 40,
+    },
+});
+
+const CASES: [Case; 9] = [
+    Case {
+        name: "a closed end has four zero bytes",
+        files: &[(Name::Log, &BARE)],
+        fails: &[],
+        steps: &[Step::Opens(FIRST), Step::Log(&LOG)],
+    },
+    // files are joined in five ways
+    Case {
+        name: "log, rotated log and snapshot",
+        files: &[
+            (Name::Log, &SECOND),
+            (Name::Log2, &LOG),
+            (Name::Index, &OLD_INDEX),
+        ],
+        fails: &[],
+        steps: &[Step::Opens(BOTH)],
+    },
+    Case {
+        name: "a rotated log that isn't before the log",
+        files: &[
+            (Name::Log, &LOG),
+            (Name::Log2, &LOG),
+            (Name::Index, &OLD_INDEX),
+        ],
+        fails: &[],
+        steps: &[Step::Opens(FIRST)],
+    },
+    Case {
+        name: "a gap",
+        files: &[(Name::Log, &SECOND), (Name::Index, &OLD_INDEX)],
+        fails: &[],
+        steps: &[Step::Opens(GAP)],
+    },
+    Case {
+        name: "a snapshot at the end of the file before",
+        files: &[(Name::Log, &SECOND), (Name::Index, &SEEN_INDEX)],
+        fails: &[],
+        steps: &[Step::Opens(BOTH)],
+    },
+    Case {
+        name: "no snapshot",
+        files: &[(Name::Log, &SECOND), (Name::Log2, &LOG)],
+        fails: &[],
+        steps: &[Step::Opens(BOTH)],
+    },
+    Case {
+        name: "the second log alone",
+        files: &[(Name::Log, &SECOND)],
+        fails: &[],
+        steps: &[Step::Opens(Err(OpenFault::BadIndex))],
+    },
+    Case {
+        name: "a folder is made by one replace",
+        files: &[],
+        fails: &[],
+        steps: &[Step::Creates(MADE), Step::Log(&NEW)],
+    },
+    Case {
+        name: "a failed replace makes no folder",
+        files: &[],
+        fails: &[1, 3],
+        steps: &[
+            Step::Creates(Err(OpenFault::Disk(1))),
+            Step::Opens(Err(OpenFault::NoLog)),
+            Step::Opens(Err(OpenFault::Disk(2))),
+        ],
+    },
+];
+
+// Whether a chain has the first record alone, and its mailbox the number of its index.
+fn is_new(chain: &Chain) -> bool {
+    chain.log.count == 1 && chain.records == 1 && chain.indexid == chain.live.uid_validity()
+}
+
+fn creates(alloc: Global, shelf: &mut MemShelf, answer: &Answer) -> bool {
+    match (create(alloc, shelf, 1000), answer) {
+        (Ok(chain), Ok(told)) => {
+            shelf.call_count() == 1 && is_new(&chain) && is_told(alloc, &chain, shelf, told)
+        }
+        (Err(fault), Err(other)) => fault == *other,
+        _ => false,
     }
-    Ok(())
 }
 
-#[test]
-fn a_closed_end_has_four_zero_bytes(rt: HostRuntime) -> Result<(), Fail> {
-    let alloc = rt.alloc();
-    let (bare, _) = LOG.split_at(92);
-    let mut shelf = folder(alloc, bare, None, None)?;
-    assert!(rt; open(alloc, &mut shelf).is_ok());
-    assert_eq!(rt; log_of(alloc, &mut shelf)?.as_slice(), LOG.as_slice());
-    Ok(())
-}
-
-#[test]
-fn files_are_joined_in_five_ways(rt: HostRuntime) -> Result<(), Fail> {
-    let alloc = rt.alloc();
-    let log = Some(LOG.as_slice());
-    let index = Some(OLD_INDEX.as_slice());
-    let seen = changed(alloc, &OLD_INDEX, &SEEN)?;
-    let gap = OpenFault::Gap {
-        index: Mark {
-            file_seq: 1,
-            offset: 72,
-        },
-        log: Mark {
-            file_seq: 2,
-            offset: 40,
-        },
-    };
-    let both = found(2, 40, Some((8, 4)), 4, 44);
-    assert!(rt; opened(alloc, &SECOND, log, index)? == both);
-    assert!(rt; opened(alloc, &LOG, log, index)? == found(1, 92, Some((8, 4)), 4, 96));
-    assert!(rt; opened(alloc, &SECOND, None, index)? == Err(gap));
-    assert!(rt; opened(alloc, &SECOND, None, Some(seen.as_slice()))? == both);
-    assert!(rt; opened(alloc, &SECOND, log, None)? == both);
-    assert!(rt; opened(alloc, &SECOND, None, None)? == Err(OpenFault::BadIndex));
-    Ok(())
-}
-
-// What making a folder at a clock's reading tells, and its log.
-fn created(alloc: Global, now: u32) -> Result<(Told, Bytes), Fail> {
-    let mut shelf = MemShelf::of(alloc, &List::new(alloc), 2000, List::new(alloc), None)?;
-    let chain = create(alloc, &mut shelf, now).ok().ok_or("a fault")?;
-    if shelf.call_count() != 1 || chain.log.count != 1 || chain.records != 1 {
-        return Err(Fail::from("another chain"));
+fn holds(alloc: Global, shelf: &mut MemShelf, step: &Step) -> bool {
+    match step {
+        Step::Creates(answer) => creates(alloc, shelf, answer),
+        Step::Opens(answer) => opens(alloc, shelf, answer),
+        Step::Log(bytes) => has_file(alloc, shelf, (Name::Log, bytes)),
     }
-    if chain.indexid != chain.live.uid_validity() {
-        return Err(Fail::from("another number"));
+}
+
+fn play(alloc: Global, case: &Case) -> Result<bool, NoMemory> {
+    let mut shelf = shelf_of(alloc, case.files, case.fails, None)?;
+    for step in case.steps {
+        if !holds(alloc, &mut shelf, step) {
+            return Ok(false);
+        }
     }
-    Ok((
-        look_at(alloc, &chain, &mut shelf)?,
-        log_of(alloc, &mut shelf)?,
-    ))
+    Ok(true)
+}
+
+fn first_other(alloc: Global, cases: &[Case]) -> Result<Option<&'static str>, NoMemory> {
+    for case in cases {
+        if !play(alloc, case)? {
+            return Ok(Some(case.name));
+        }
+    }
+    Ok(None)
 }
 
 #[test]
-fn a_folder_is_made_by_one_replace(rt: HostRuntime) -> Result<(), Fail> {
-    let alloc = rt.alloc();
-    let (new, log) = created(alloc, 1000)?;
-    let made = log_with(alloc, 56, &[0; 4])?;
-    assert_eq!(rt; log.as_slice(), made.as_slice());
-    assert!(rt; Ok(new) == found(1, 56, None, 2, 60));
-    Ok(())
-}
-
-#[test]
-fn a_failed_replace_makes_no_folder(rt: HostRuntime) -> Result<(), Fail> {
-    let alloc = rt.alloc();
-    let fails = List::from_slice(alloc, &[1, 3])?;
-    let mut shelf = MemShelf::of(alloc, &List::new(alloc), 2000, fails, None)?;
-    assert!(rt; create(alloc, &mut shelf, 1000).err() == Some(OpenFault::Disk(1)));
-    assert!(rt; open(alloc, &mut shelf).err() == Some(OpenFault::NoLog));
-    assert!(rt; open(alloc, &mut shelf).err() == Some(OpenFault::Disk(2)));
-    Ok(())
+fn folders_are_opened_and_made(rt: HostRuntime) -> Result<(), Fail> {
+    no_other(first_other(rt.alloc(), &CASES))
 }

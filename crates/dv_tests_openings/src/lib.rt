@@ -6,4 +6,8 @@ mod chain;
 #[cfg(test)]
 mod commits;
 #[cfg(test)]
+mod ends;
+#[cfg(test)]
+mod folders;
+#[cfg(test)]
 mod rotation;

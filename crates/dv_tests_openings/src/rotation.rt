@@ -3,10 +3,12 @@ ghost use Rattle.dv_chain.specs.Openings.{HasBounds};
 ghost use Rattle.dv_rotation.specs.Texts.{IsTurnOf};
 
 use crate::chain::LOG;
+use crate::ends::{is_so, no_other};
+use crate::folders::{File, copy_of, has_file, has_first, shelf_of};
 use dv_chain::{Chain, open};
-use dv_model::List;
+use dv_model::NoMemory;
 use dv_rotation::{ChainFault, Turn, TurnEnd, checkpoint, finish, rotate, snapshot, turn};
-use dv_shelf::{Folder, MemShelf, Name, Shelf};
+use dv_shelf::{MemShelf, Name};
 use std::alloc::Global;
 use std::test::Fail;
 
@@ -31,64 +33,119 @@ const INDEX: [u8; 136] = [
     4, 0, 0, 0, 0, 0, 0, 0,
 ];
 
-// A folder with this log alone. The calls of `fails` fail, and those behind `stop`: opening it has
-// the first three, a turn the fourth, a rotation the fifth to the seventh.
-fn folder(alloc: Global, log: &[u8], fails: &[u32], stop: Option<u32>) -> Result<MemShelf, Fail> {
-    let mut files = List::new(alloc);
-    files.push((Name::Log, List::from_slice(alloc, log)?))?;
-    let fails = List::from_slice(alloc, fails)?;
-    Ok(MemShelf::of(alloc, &files, 10_000, fails, stop)?)
+// What a rotation of the first log answers in a folder with that alone. The calls of `fails` fail,
+// and those behind `stop`: opening has the first three, a turn the fourth, a rotation the fifth to
+// the seventh. Where it is shown, reads see what a call that failed has made.
+#[derive(Clone, Copy)]
+struct Case {
+    name: &'static str,
+    fails: &'static [u32],
+    stop: Option<u32>,
+    shows_failed: bool,
+    end: Option<TurnEnd>,
+    // The files behind it. Where any are listed, the folder opens to the next file.
+    left: &'static [File<'static>],
 }
 
+const DONE: Case = Case {
+    name: "",
+    fails: &[],
+    stop: None,
+    shows_failed: false,
+    end: None,
+    left: &[],
+};
+
+const CASES: [Case; 8] = [
+    Case {
+        name: "a rotation writes three files",
+        left: &[
+            (Name::Index, &INDEX),
+            (Name::Log2, &LOG),
+            (Name::Log, &NEXT),
+        ],
+        ..DONE
+    },
+    Case {
+        name: "the snapshot fails",
+        fails: &[5],
+        shows_failed: true,
+        end: Some(TurnEnd::Before),
+        ..DONE
+    },
+    Case {
+        name: "the rotated log fails",
+        fails: &[6],
+        shows_failed: true,
+        end: Some(TurnEnd::Before),
+        ..DONE
+    },
+    Case {
+        name: "the log fails",
+        fails: &[7],
+        shows_failed: true,
+        end: Some(TurnEnd::Last),
+        ..DONE
+    },
+    Case {
+        name: "cut short behind the turn",
+        stop: Some(4),
+        end: Some(TurnEnd::Before),
+        ..DONE
+    },
+    Case {
+        name: "cut short behind the snapshot",
+        stop: Some(5),
+        end: Some(TurnEnd::Before),
+        ..DONE
+    },
+    Case {
+        name: "cut short behind the rotated log",
+        stop: Some(6),
+        end: Some(TurnEnd::Last),
+        ..DONE
+    },
+    Case {
+        name: "cut short behind the log",
+        stop: Some(7),
+        ..DONE
+    },
+];
+
 // The chain of a folder that opens, whose log can be rotated.
-fn chain_of(alloc: Global, shelf: &mut MemShelf) -> Result<Chain, Fail>
+fn chain_of(alloc: Global, shelf: &mut MemShelf) -> Result<Chain, NoMemory>
     ensures bounds { IfOk result HasBounds }
     ensures room { IfOk result (λ chain. chain.log.file_seq < 4294967295) }
 {
-    let chain = open(alloc, shelf).ok().ok_or("a fault")?;
+    let Ok(chain) = open(alloc, shelf) else {
+        return Err(NoMemory);
+    };
     if chain.log.file_seq == 4_294_967_295 {
-        return Err(Fail::from("no such chain"));
+        return Err(NoMemory);
     }
     Ok(chain)
 }
 
-// Whether the file has these bytes.
-fn has(alloc: Global, shelf: &mut MemShelf, name: Name, bytes: &[u8]) -> Result<bool, Fail> {
-    match shelf.read(alloc, name) {
-        Ok(Some(file)) => Ok(file.as_slice() == bytes),
-        _ => Ok(false),
-    }
-}
-
 // The texts of a rotation of the chain, made at 2000.
-fn texts_of(alloc: Global, chain: &Chain, shelf: &mut MemShelf) -> Result<Turn, Fail>
+fn texts_of(alloc: Global, chain: &Chain, shelf: &mut MemShelf) -> Result<Turn, NoMemory>
     requires bounds { HasBounds chain.now }
     requires room { chain.now.log.file_seq < 4294967295 }
     ensures { IfOk result (IsTurnOf chain.now) }
 {
     match turn(alloc, chain, shelf, 2000) {
         Ok(texts) => Ok(texts),
-        Err(_) => Err(Fail::from("a fault")),
+        Err(_) => Err(NoMemory),
     }
-}
-
-// Whether the mailbox is that of the first log.
-fn has_row(chain: &Chain) -> bool {
-    if chain.live.count() != 1 || chain.live.highest() != 4 {
-        return false;
-    }
-    let row = chain.live.row(0);
-    row.uid == 1 && row.flags == 8 && row.modseq == 4
 }
 
 // Whether the chain stands behind the first log's records.
 fn is_first(chain: &Chain) -> bool {
-    has_row(chain) && chain.log.file_seq == 1 && chain.log.end == 92 && chain.log.count == 3
+    has_first(chain) && chain.log.file_seq == 1 && chain.log.end == 92 && chain.log.count == 3
 }
 
 // Whether it stands at the first place of the file behind it.
 fn is_next(chain: &Chain) -> bool {
-    has_row(chain)
+    has_first(chain)
         && chain.log.file_seq == 2
         && chain.log.end == 40
         && chain.log.count == 0
@@ -96,81 +153,94 @@ fn is_next(chain: &Chain) -> bool {
 }
 
 // Whether the folder opens to the same mailbox, in the first file or in the next.
-fn opens(alloc: Global, image: &Folder) -> Result<bool, Fail> {
-    let mut shelf = MemShelf::of(alloc, image, 10_000, List::new(alloc), None)?;
-    let chain = chain_of(alloc, &mut shelf)?;
-    Ok(is_first(&chain) || is_next(&chain))
+fn opens(alloc: Global, shelf: &mut MemShelf) -> bool {
+    match chain_of(alloc, shelf) {
+        Ok(chain) => is_first(&chain) || is_next(&chain),
+        Err(_) => false,
+    }
 }
 
 // Whether each sample of what a crash may leave does.
-fn images_open(alloc: Global, shelf: &MemShelf) -> Result<bool, Fail> {
+fn images_open(alloc: Global, shelf: &MemShelf) -> Result<bool, NoMemory> {
     for image in shelf.images(alloc)?.as_slice() {
-        if !opens(alloc, image)? {
+        let mut copy = copy_of(alloc, image)?;
+        if !opens(alloc, &mut copy) {
             return Ok(false);
         }
     }
     Ok(true)
 }
 
-// What a rotation answers. Behind it each sample of what a crash may leave opens, and an error
-// leaves the chain where it was.
-fn rotated(alloc: Global, shelf: &mut MemShelf) -> Result<Option<TurnEnd>, Fail> {
+// Whether a rotation ends so. An error leaves the chain where it was.
+fn ends_so(alloc: Global, shelf: &mut MemShelf, end: Option<TurnEnd>) -> Result<bool, NoMemory> {
     let mut chain = chain_of(alloc, shelf)?;
     let texts = texts_of(alloc, &chain, shelf)?;
-    let end = rotate(&mut chain, shelf, &texts).err();
-    let stands = if end.is_some() {
+    let found = rotate(&mut chain, shelf, &texts).err();
+    let stands = if found.is_some() {
         is_first(&chain)
     } else {
         is_next(&chain)
     };
-    if !stands {
-        return Err(Fail::from("the chain is another"));
+    Ok(stands && found == end)
+}
+
+fn are_left(alloc: Global, shelf: &mut MemShelf, left: &[File]) -> bool {
+    for file in left {
+        if !has_file(alloc, shelf, *file) {
+            return false;
+        }
     }
-    if !images_open(alloc, shelf)? {
-        return Err(Fail::from("an image doesn't open"));
+    true
+}
+
+fn opens_next(alloc: Global, shelf: &mut MemShelf) -> bool {
+    match chain_of(alloc, shelf) {
+        Ok(chain) => is_next(&chain),
+        Err(_) => false,
     }
-    Ok(end)
 }
 
-#[test]
-fn a_rotation_writes_three_files(rt: HostRuntime) -> Result<(), Fail> {
-    let alloc = rt.alloc();
-    let mut shelf = folder(alloc, &LOG, &[], None)?;
-    assert!(rt; rotated(alloc, &mut shelf)? == None);
-    assert!(rt; has(alloc, &mut shelf, Name::Index, &INDEX)?);
-    assert!(rt; has(alloc, &mut shelf, Name::Log2, &LOG)?);
-    assert!(rt; has(alloc, &mut shelf, Name::Log, &NEXT)?);
-    assert!(rt; is_next(&chain_of(alloc, &mut shelf)?));
-    Ok(())
+fn folder_of(alloc: Global, case: &Case) -> Result<MemShelf, NoMemory> {
+    let shelf = shelf_of(alloc, &[(Name::Log, &LOG)], case.fails, case.stop)?;
+    Ok(if case.shows_failed {
+        shelf.showing_failed()
+    } else {
+        shelf
+    })
 }
 
-// What a rotation answers, of which the call with that number fails; reads see what it made.
-fn failing(alloc: Global, call: u32) -> Result<Option<TurnEnd>, Fail> {
-    let mut shelf = folder(alloc, &LOG, &[call], None)?.showing_failed();
-    rotated(alloc, &mut shelf)
+// Behind the rotation each sample of what a crash may leave opens.
+fn play(alloc: Global, case: &Case) -> Result<bool, NoMemory> {
+    let mut shelf = folder_of(alloc, case)?;
+    Ok(
+        ends_so(alloc, &mut shelf, case.end)?
+            && images_open(alloc, &shelf)?
+            && are_left(alloc, &mut shelf, case.left)
+            && (case.left.is_empty() || opens_next(alloc, &mut shelf)),
+    )
 }
 
-// What a rotation answers that is cut short behind the call with that number.
-fn stopped(alloc: Global, call: u32) -> Result<Option<TurnEnd>, Fail> {
-    let mut shelf = folder(alloc, &LOG, &[], Some(call))?;
-    rotated(alloc, &mut shelf)
+fn first_other(alloc: Global, cases: &[Case]) -> Result<Option<&'static str>, NoMemory> {
+    for case in cases {
+        if !play(alloc, case)? {
+            return Ok(Some(case.name));
+        }
+    }
+    Ok(None)
 }
 
 #[test]
 fn a_rotation_may_fail_or_be_cut_short_behind_each_call(rt: HostRuntime) -> Result<(), Fail> {
-    let alloc = rt.alloc();
-    assert!(rt; failing(alloc, 5)? == Some(TurnEnd::Before));
-    assert!(rt; failing(alloc, 6)? == Some(TurnEnd::Before));
-    assert!(rt; failing(alloc, 7)? == Some(TurnEnd::Last));
-    assert!(rt; stopped(alloc, 4)? == Some(TurnEnd::Before));
-    assert!(rt; stopped(alloc, 5)? == Some(TurnEnd::Before));
-    assert!(rt; stopped(alloc, 6)? == Some(TurnEnd::Last));
-    assert!(rt; stopped(alloc, 7)? == None);
-    Ok(())
+    no_other(first_other(rt.alloc(), &CASES))
 }
 
 // Whether the last replace fails once more, and is made then.
-fn again(alloc: Global, chain: &mut Chain, shelf: &mut MemShelf, texts: &Turn) -> Result<bool, Fail>
+fn again(
+    alloc: Global,
+    chain: &mut Chain,
+    shelf: &mut MemShelf,
+    texts: &Turn,
+) -> Result<bool, NoMemory>
     requires room { chain.old.log.file_seq < 4294967295 }
     requires turn { IsTurnOf chain.old texts.now }
 {
@@ -180,49 +250,83 @@ fn again(alloc: Global, chain: &mut Chain, shelf: &mut MemShelf, texts: &Turn) -
     Ok(finish(chain, shelf, texts).is_ok() && is_next(chain) && images_open(alloc, shelf)?)
 }
 
-// A rotation whose last replace fails leaves the chain.
-fn fails_last(chain: &mut Chain, shelf: &mut MemShelf, texts: &Turn) -> Result<(), Fail>
+// Whether a rotation's last replace fails, which leaves the chain.
+fn fails_last(chain: &mut Chain, shelf: &mut MemShelf, texts: &Turn) -> Result<(), NoMemory>
     requires room { chain.old.log.file_seq < 4294967295 }
     requires turn { IsTurnOf chain.old texts.now }
     ensures { OnOk result (chain.new ≡ chain.old) }
 {
     match rotate(chain, shelf, texts) {
         Err(TurnEnd::Last) => Ok(()),
-        _ => Err(Fail::from("another end")),
+        _ => Err(NoMemory),
     }
+}
+
+const LAST_TWICE: Case = Case {
+    fails: &[7, 8],
+    shows_failed: true,
+    ..DONE
+};
+
+fn is_made_again(alloc: Global) -> Result<bool, NoMemory> {
+    let mut shelf = folder_of(alloc, &LAST_TWICE)?;
+    let mut chain = chain_of(alloc, &mut shelf)?;
+    let texts = texts_of(alloc, &chain, &mut shelf)?;
+    fails_last(&mut chain, &mut shelf, &texts)?;
+    again(alloc, &mut chain, &mut shelf, &texts)
 }
 
 #[test]
 fn a_last_replace_is_made_again(rt: HostRuntime) -> Result<(), Fail> {
-    let alloc = rt.alloc();
-    let mut shelf = folder(alloc, &LOG, &[7, 8], None)?.showing_failed();
-    let mut chain = chain_of(alloc, &mut shelf)?;
-    let texts = texts_of(alloc, &chain, &mut shelf)?;
-    fails_last(&mut chain, &mut shelf, &texts)?;
-    assert!(rt; again(alloc, &mut chain, &mut shelf, &texts)?);
-    Ok(())
+    is_so(is_made_again(rt.alloc()))
+}
+
+// The turn's read.
+const READ: Case = Case {
+    fails: &[4],
+    ..DONE
+};
+
+fn is_failed_read_told(alloc: Global) -> Result<bool, NoMemory> {
+    let mut shelf = folder_of(alloc, &READ)?;
+    let chain = chain_of(alloc, &mut shelf)?;
+    Ok(turn(alloc, &chain, &mut shelf, 2000).err() == Some(ChainFault::Disk(1)))
 }
 
 #[test]
 fn a_failed_read_is_told(rt: HostRuntime) -> Result<(), Fail> {
-    let alloc = rt.alloc();
-    let mut shelf = folder(alloc, &LOG, &[4], None)?;
+    is_so(is_failed_read_told(rt.alloc()))
+}
+
+// A checkpoint's replace.
+const CHECKPOINT: Case = Case {
+    fails: &[4],
+    shows_failed: true,
+    ..DONE
+};
+
+// Whether a checkpoint that failed is made again, and puts the snapshot.
+fn is_snapshot_put(alloc: Global) -> Result<bool, NoMemory> {
+    let mut shelf = folder_of(alloc, &CHECKPOINT)?;
     let chain = chain_of(alloc, &mut shelf)?;
-    let fault = turn(alloc, &chain, &mut shelf, 2000).err();
-    assert!(rt; fault == Some(ChainFault::Disk(1)));
-    Ok(())
+    let text = snapshot(alloc, &chain)?;
+    Ok(
+        checkpoint(&chain, &mut shelf, &text).is_err()
+            && images_open(alloc, &shelf)?
+            && checkpoint(&chain, &mut shelf, &text).is_ok()
+            && has_file(alloc, &mut shelf, (Name::Index, &INDEX))
+            && opens_first(alloc, &mut shelf),
+    )
+}
+
+fn opens_first(alloc: Global, shelf: &mut MemShelf) -> bool {
+    match chain_of(alloc, shelf) {
+        Ok(chain) => is_first(&chain),
+        Err(_) => false,
+    }
 }
 
 #[test]
 fn a_checkpoint_puts_the_snapshot(rt: HostRuntime) -> Result<(), Fail> {
-    let alloc = rt.alloc();
-    let mut shelf = folder(alloc, &LOG, &[4], None)?.showing_failed();
-    let chain = chain_of(alloc, &mut shelf)?;
-    let text = snapshot(alloc, &chain)?;
-    assert!(rt; checkpoint(&chain, &mut shelf, &text).is_err());
-    assert!(rt; images_open(alloc, &shelf)?);
-    assert!(rt; checkpoint(&chain, &mut shelf, &text).is_ok());
-    assert!(rt; has(alloc, &mut shelf, Name::Index, &INDEX)?);
-    assert!(rt; is_first(&chain_of(alloc, &mut shelf)?));
-    Ok(())
+    is_so(is_snapshot_put(rt.alloc()))
 }

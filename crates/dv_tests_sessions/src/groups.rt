@@ -1,7 +1,7 @@
 ghost use Rattle.std.specs.Prelude.{IfOk};
 ghost use Rattle.dv_model.specs.Sessions.{IsCommand};
 
-use crate::ends::no_other;
+use crate::cases::{Case, all_hold};
 use crate::mailboxes::live_of;
 use dv_apply::Live;
 use dv_groups::{Limit, expunged_uids, group_of, limit_of, need};
@@ -26,42 +26,23 @@ const NINE: &[u8] = &[
 // The GUID of UID 1 that came at 1001 into the mailbox 1000 with the UIDVALIDITY 1000.
 const GUID_1: [u8; 16] = [0, 0, 3, 0xe8, 0, 0, 3, 0xe8, 0, 0, 0, 1, 0, 0, 3, 0xe9];
 
+/// A command that removes messages.
 #[derive(Clone, Copy)]
-enum Asked {
+pub enum Asked {
     Expunge,
-    // The first and the last UID.
+    /// The first and the last UID.
     Remove(u32, u32),
 }
 
-// The records of a mailbox and what is asked of it; the UIDs that leave then, how many bytes the
-// group has, and where that is looked at, the message of its only record, which has that GUID.
-struct Case {
-    name: &'static str,
-    records: &'static [&'static [u8]],
-    asked: Asked,
-    uids: &'static [u32],
-    bytes: u64,
-    removed: Option<u32>,
+/// The records of a mailbox and what is asked of it; the UIDs that leave then, how many bytes the
+/// group has, and where that is looked at, the message of its only record, which has that GUID.
+pub struct Removal {
+    pub records: &'static [&'static [u8]],
+    pub asked: Asked,
+    pub uids: &'static [u32],
+    pub bytes: u64,
+    pub removed: Option<u32>,
 }
-
-const CASES: [Case; 2] = [
-    Case {
-        name: "nine messages lose the deleted ones",
-        records: &[NINE],
-        asked: Asked::Expunge,
-        uids: &[5, 6, 7, 8, 9],
-        bytes: 108,
-        removed: None,
-    },
-    Case {
-        name: "a named message is removed",
-        records: &[APPEND_1, SEE_1],
-        asked: Asked::Remove(1, 5),
-        uids: &[1],
-        bytes: 28,
-        removed: Some(1),
-    },
-];
 
 fn command_of(alloc: Global, asked: Asked) -> Result<Command, NoMemory>
     ensures { IfOk result IsCommand }
@@ -125,49 +106,36 @@ fn is_group(
     c: &Command,
     view: &View,
     live: &Live,
-    case: &Case,
+    removal: &Removal,
 ) -> Result<bool, NoMemory>
     requires { IsCommand c.now }
 {
     Ok(
-        need(alloc, c, view, live)? == case.bytes
-            && are_expunged(alloc, c, view, live, case.uids)?
-            && removes(alloc, c, view, live, case.removed)?,
+        need(alloc, c, view, live)? == removal.bytes
+            && are_expunged(alloc, c, view, live, removal.uids)?
+            && removes(alloc, c, view, live, removal.removed)?,
     )
 }
 
 // Of a view, a mailbox and a command each has one owner, so that each is let go in one place.
-fn holds_of(alloc: Global, view: &View, live: &Live, case: &Case) -> Result<bool, NoMemory> {
-    let c = command_of(alloc, case.asked)?;
-    is_group(alloc, &c, view, live, case)
+fn leaves_of(alloc: Global, view: &View, live: &Live, removal: &Removal) -> Result<bool, NoMemory> {
+    let c = command_of(alloc, removal.asked)?;
+    is_group(alloc, &c, view, live, removal)
 }
 
-fn holds_in(alloc: Global, live: &Live, case: &Case) -> Result<bool, NoMemory> {
+fn leaves_in(alloc: Global, live: &Live, removal: &Removal) -> Result<bool, NoMemory> {
     let view = View::of(alloc, live)?;
-    holds_of(alloc, &view, live, case)
+    leaves_of(alloc, &view, live, removal)
 }
 
-fn holds(alloc: Global, case: &Case) -> Result<bool, NoMemory> {
-    let live = live_of(alloc, 1, case.records)?;
-    holds_in(alloc, &live, case)
+/// Whether these messages leave, in a group of so many bytes.
+pub fn leaves(alloc: Global, removal: &Removal) -> Result<bool, NoMemory> {
+    let live = live_of(alloc, 1, removal.records)?;
+    leaves_in(alloc, &live, removal)
 }
 
-fn first_other(alloc: Global, cases: &[Case]) -> Option<&'static str> {
-    for case in cases {
-        if holds(alloc, case) != Ok(true) {
-            return Some(case.name);
-        }
-    }
-    None
-}
-
-#[test]
-fn deleted_and_named_messages_are_removed(rt: HostRuntime) -> Result<(), Fail> {
-    no_other(first_other(rt.alloc(), &CASES))
-}
-
-// The limit that a CHECK of so many bytes meets near the end of the last file.
-fn limit_at(alloc: Global, bytes: u64) -> Option<Limit> {
+/// The limit that a CHECK of so many bytes meets near the end of the last file.
+pub fn limit_at(alloc: Global, bytes: u64) -> Option<Limit> {
     let live = Live::empty(alloc, 1000);
     let last = Mark {
         file_seq: 4_294_967_295,
@@ -176,18 +144,32 @@ fn limit_at(alloc: Global, bytes: u64) -> Option<Limit> {
     limit_of(&Command::Check, &live, true, last, bytes)
 }
 
-const LIMITS: [(u64, Option<Limit>); 2] = [(20, None), (21, Some(Limit::TooLong { bytes: 21 }))];
-
-fn first_other_limit(alloc: Global, cases: &[(u64, Option<Limit>)]) -> Option<u64> {
-    for (bytes, limit) in cases {
-        if limit_at(alloc, *bytes) != *limit {
-            return Some(*bytes);
-        }
-    }
-    None
-}
+const CASES: [(&str, Case); 4] = [
+    (
+        "nine messages lose the deleted ones",
+        Case::Removes(Removal {
+            records: &[NINE],
+            asked: Asked::Expunge,
+            uids: &[5, 6, 7, 8, 9],
+            bytes: 108,
+            removed: None,
+        }),
+    ),
+    (
+        "a named message is removed",
+        Case::Removes(Removal {
+            records: &[APPEND_1, SEE_1],
+            asked: Asked::Remove(1, 5),
+            uids: &[1],
+            bytes: 28,
+            removed: Some(1),
+        }),
+    ),
+    ("the longest group", Case::Fits(20)),
+    ("a group that is too long", Case::IsTooLong(21)),
+];
 
 #[test]
-fn longest_group_ends_at_the_limit(rt: HostRuntime) -> Result<(), Fail> {
-    no_other(first_other_limit(rt.alloc(), &LIMITS))
+fn groups_remove_messages_and_end_at_the_limit(rt: HostRuntime) -> Result<(), Fail> {
+    all_hold(rt.alloc(), &CASES)
 }

@@ -3,7 +3,7 @@
 #![tactic(auto)]
 
 #[cfg(test)]
-mod ends;
+mod cases;
 #[cfg(test)]
 mod groups;
 #[cfg(test)]

@@ -1,6 +1,6 @@
 ghost use Rattle.dv_responses.specs.Depth.{IsShallow};
 
-use crate::ends::{is_so, no_other};
+use crate::cases::{Case, all_hold};
 use crate::mailboxes::{command_of, live_of};
 use dv_apply::Live;
 use dv_model::{Bytes, Command, List, Mark, NoMemory, Reply};
@@ -26,18 +26,17 @@ const ADD_K1_TO_1: &[u8] = b"\x80\x80\x80\x86\0\x04\0\x10\0\0\x02\0k1\0\0\x01\0\
 
 const EXPUNGE_1: &[u8] = b"\x80\x80\x80\x84\x91\xcd\0\x10\x01\0\0\0\x01\0\0\0";
 
-// A command, with the message of an APPEND; the records of the mailbox when it came, and those
-// behind what was written since; the message of UID 1, which has no bytes where its file is
-// damaged; the end of the log; and the lines that answer the command.
-struct Case {
-    name: &'static str,
-    command: &'static str,
-    appended: &'static [u8],
-    met: &'static [&'static [u8]],
-    all: &'static [&'static [u8]],
-    message: &'static [u8],
-    end: u32,
-    says: &'static [u8],
+/// A command, with the message of an APPEND; the records of the mailbox when it came, and those
+/// behind what was written since; the message of UID 1, which has no bytes where its file is
+/// damaged; the end of the log; and the lines that answer the command.
+pub struct Asked {
+    pub command: &'static str,
+    pub appended: &'static [u8],
+    pub met: &'static [&'static [u8]],
+    pub all: &'static [&'static [u8]],
+    pub message: &'static [u8],
+    pub end: u32,
+    pub says: &'static [u8],
 }
 
 // The facts of the message of UID 1, where it is there; a damaged one has no bytes here.
@@ -121,144 +120,38 @@ fn answer(
     c: &Command,
     met: &Live,
     live: &Live,
-    case: &Case,
+    asked: &Asked,
 ) -> Result<Bytes, NoMemory> {
     if !is_shallow(c) {
         return Err(NoMemory);
     }
-    let facts = facts_of(alloc, c, live, case.message)?;
+    let facts = facts_of(alloc, c, live, asked.message)?;
     let mark = Mark {
         file_seq: 1,
-        offset: case.end,
+        offset: asked.end,
     };
     answer_with(alloc, c, met, live, &facts, mark)
 }
 
-fn answer_behind(alloc: Global, c: &Command, met: &Live, case: &Case) -> Result<Bytes, NoMemory> {
-    let live = live_of(alloc, 2, case.all)?;
-    answer(alloc, c, met, &live, case)
+fn answer_behind(alloc: Global, c: &Command, met: &Live, asked: &Asked) -> Result<Bytes, NoMemory> {
+    let live = live_of(alloc, 2, asked.all)?;
+    answer(alloc, c, met, &live, asked)
 }
 
-fn answer_of(alloc: Global, c: &Command, case: &Case) -> Result<Bytes, NoMemory> {
-    let met = live_of(alloc, 2, case.met)?;
-    answer_behind(alloc, c, &met, case)
+fn answer_of(alloc: Global, c: &Command, asked: &Asked) -> Result<Bytes, NoMemory> {
+    let met = live_of(alloc, 2, asked.met)?;
+    answer_behind(alloc, c, &met, asked)
 }
 
-fn holds(alloc: Global, case: &Case) -> Result<bool, NoMemory> {
-    let c = command_of(alloc, case.command.as_bytes(), case.appended)?;
-    let text = answer_of(alloc, &c, case)?;
-    Ok(text.as_slice() == case.says)
+/// Whether the command is answered so.
+pub fn is_answered(alloc: Global, asked: &Asked) -> Result<bool, NoMemory> {
+    let c = command_of(alloc, asked.command.as_bytes(), asked.appended)?;
+    let text = answer_of(alloc, &c, asked)?;
+    Ok(text.as_slice() == asked.says)
 }
 
-fn first_other(alloc: Global, cases: &[Case]) -> Option<&'static str> {
-    for case in cases {
-        if holds(alloc, case) != Ok(true) {
-            return Some(case.name);
-        }
-    }
-    None
-}
-
-const SEARCHED: &[&[u8]] = &[APPEND_1, SEE_1, DRAFT_1, ADD_K1_TO_1];
-
-const SEARCHES: [Case; 2] = [
-    Case {
-        name: "a flag or a keyword",
-        command: "SEARCH OR SEEN KEYWORD k1",
-        appended: b"",
-        met: SEARCHED,
-        all: SEARCHED,
-        message: b"hello",
-        end: 152,
-        says: b"a * SEARCH 1\na OK [MARK 1:152] SEARCH\n",
-    },
-    Case {
-        name: "no message is as large",
-        command: "UID SEARCH LARGER 5",
-        appended: b"",
-        met: SEARCHED,
-        all: SEARCHED,
-        message: b"hello",
-        end: 152,
-        says: b"a * SEARCH\na OK [MARK 1:152] UID SEARCH\n",
-    },
-];
-
-#[test]
-fn searches_name_the_rows_that_are_found(rt: HostRuntime) -> Result<(), Fail> {
-    no_other(first_other(rt.alloc(), &SEARCHES))
-}
-
-const FETCH: &str = "FETCH 1:1 (RFC822.SIZE BODY[])";
-
-const FETCHES: [Case; 3] = [
-    Case {
-        name: "a message",
-        command: FETCH,
-        appended: b"",
-        met: &[APPEND_1],
-        all: &[APPEND_1],
-        message: b"hello",
-        end: 72,
-        says: b"a * 1 FETCH (UID 1 RFC822.SIZE 5 BODY[] {5}\nhello)\na OK [MARK 1:72] FETCH\n",
-    },
-    Case {
-        name: "a damaged file",
-        command: FETCH,
-        appended: b"",
-        met: &[APPEND_1],
-        all: &[APPEND_1],
-        message: b"",
-        end: 72,
-        says: b"a NO [CORRUPTION] UID 1 MARK 1:72\n",
-    },
-    Case {
-        name: "a message that left",
-        command: FETCH,
-        appended: b"",
-        met: &[APPEND_1],
-        all: &[APPEND_1, EXPUNGE_1],
-        message: b"hello",
-        end: 88,
-        says: b"a NO [EXPUNGEISSUED] UID 1 MARK 1:88\n",
-    },
-];
-
-#[test]
-fn message_is_fetched_where_it_is_there(rt: HostRuntime) -> Result<(), Fail> {
-    no_other(first_other(rt.alloc(), &FETCHES))
-}
-
-const WRITES: [Case; 2] = [
-    Case {
-        name: "a STORE that keeps its hands off",
-        command: "STORE 1:1 (UNCHANGEDSINCE 3) +FLAGS (\\Flagged)",
-        appended: b"",
-        met: &[APPEND_1, SEE_1],
-        all: &[APPEND_1, SEE_1],
-        message: b"",
-        end: 92,
-        says: b"a OK [MODIFIED 1] [MARK 1:92] STORE\n",
-    },
-    Case {
-        name: "an APPEND",
-        command: "APPEND () {5}",
-        appended: b"hello",
-        met: &[],
-        all: &[APPEND_1],
-        message: b"",
-        end: 72,
-        says: b"a OK [APPENDUID 1000 1] [MARK 1:72] APPEND\n",
-    },
-];
-
-#[test]
-fn store_and_append_tell_what_they_did(rt: HostRuntime) -> Result<(), Fail> {
-    no_other(first_other(rt.alloc(), &WRITES))
-}
-
-// Whether a SELECT says this of the mailbox of these records.
-fn selects(alloc: Global, records: &[&[u8]], says: &[u8]) -> Result<bool, NoMemory> {
+/// Whether a SELECT says this of the mailbox of these records.
+pub fn selects(alloc: Global, records: &[&[u8]], says: &[u8]) -> Result<bool, NoMemory> {
     let live = live_of(alloc, 2, records)?;
     let view = View::of(alloc, &live)?;
     let mut lines = List::new(alloc);
@@ -267,10 +160,102 @@ fn selects(alloc: Global, records: &[&[u8]], says: &[u8]) -> Result<bool, NoMemo
     Ok(text.as_slice() == says)
 }
 
+const SEARCHED: &[&[u8]] = &[APPEND_1, SEE_1, DRAFT_1, ADD_K1_TO_1];
+
+const FETCH: &str = "FETCH 1:1 (RFC822.SIZE BODY[])";
+
 const SELECTED: &[u8] = b"a * 1 EXISTS\na * OK [UIDVALIDITY 1000]\na * OK [UIDNEXT 2]\n\
     a * 1 FETCH (UID 1 FLAGS ())\n";
 
+const CASES: [(&str, Case); 8] = [
+    (
+        "a flag or a keyword",
+        Case::Answer(Asked {
+            command: "SEARCH OR SEEN KEYWORD k1",
+            appended: b"",
+            met: SEARCHED,
+            all: SEARCHED,
+            message: b"hello",
+            end: 152,
+            says: b"a * SEARCH 1\na OK [MARK 1:152] SEARCH\n",
+        }),
+    ),
+    (
+        "no message is as large",
+        Case::Answer(Asked {
+            command: "UID SEARCH LARGER 5",
+            appended: b"",
+            met: SEARCHED,
+            all: SEARCHED,
+            message: b"hello",
+            end: 152,
+            says: b"a * SEARCH\na OK [MARK 1:152] UID SEARCH\n",
+        }),
+    ),
+    (
+        "a message",
+        Case::Answer(Asked {
+            command: FETCH,
+            appended: b"",
+            met: &[APPEND_1],
+            all: &[APPEND_1],
+            message: b"hello",
+            end: 72,
+            says: b"a * 1 FETCH (UID 1 RFC822.SIZE 5 BODY[] {5}\nhello)\na OK [MARK 1:72] FETCH\n",
+        }),
+    ),
+    (
+        "a damaged file",
+        Case::Answer(Asked {
+            command: FETCH,
+            appended: b"",
+            met: &[APPEND_1],
+            all: &[APPEND_1],
+            message: b"",
+            end: 72,
+            says: b"a NO [CORRUPTION] UID 1 MARK 1:72\n",
+        }),
+    ),
+    (
+        "a message that left",
+        Case::Answer(Asked {
+            command: FETCH,
+            appended: b"",
+            met: &[APPEND_1],
+            all: &[APPEND_1, EXPUNGE_1],
+            message: b"hello",
+            end: 88,
+            says: b"a NO [EXPUNGEISSUED] UID 1 MARK 1:88\n",
+        }),
+    ),
+    (
+        "a STORE that keeps its hands off",
+        Case::Answer(Asked {
+            command: "STORE 1:1 (UNCHANGEDSINCE 3) +FLAGS (\\Flagged)",
+            appended: b"",
+            met: &[APPEND_1, SEE_1],
+            all: &[APPEND_1, SEE_1],
+            message: b"",
+            end: 92,
+            says: b"a OK [MODIFIED 1] [MARK 1:92] STORE\n",
+        }),
+    ),
+    (
+        "an APPEND",
+        Case::Answer(Asked {
+            command: "APPEND () {5}",
+            appended: b"hello",
+            met: &[],
+            all: &[APPEND_1],
+            message: b"",
+            end: 72,
+            says: b"a OK [APPENDUID 1000 1] [MARK 1:72] APPEND\n",
+        }),
+    ),
+    ("a SELECT", Case::Select(&[APPEND_1], SELECTED)),
+];
+
 #[test]
-fn select_tells_sizes_and_flags(rt: HostRuntime) -> Result<(), Fail> {
-    is_so(selects(rt.alloc(), &[APPEND_1], SELECTED))
+fn commands_are_answered(rt: HostRuntime) -> Result<(), Fail> {
+    all_hold(rt.alloc(), &CASES)
 }

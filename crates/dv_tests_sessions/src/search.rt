@@ -1,4 +1,4 @@
-use crate::ends::no_other;
+use crate::cases::{Case, all_hold};
 use crate::mailboxes::{command_of, live_of};
 use dv_apply::Live;
 use dv_model::{Boxed, Bytes, Command, Key, List, NoMemory};
@@ -47,43 +47,11 @@ fn are_found(alloc: Global, key: &Key, live: &Live, expected: &[u32]) -> Result<
     Ok(found.as_slice() == expected)
 }
 
-// Whether these of the three rows are found; of the second and the third no message is known.
-fn finds(alloc: Global, search: &str, expected: &[u32]) -> Result<bool, NoMemory> {
+/// Whether these of the three rows are found; of the second and the third no message is known.
+pub fn finds(alloc: Global, search: &str, expected: &[u32]) -> Result<bool, NoMemory> {
     let key = key_of(alloc, search)?;
     let live = live_of(alloc, 1, &[APPEND, ADD_K1])?;
     are_found(alloc, &key, &live, expected)
-}
-
-type Found = (&'static str, &'static [u32]);
-
-fn first_other(alloc: Global, cases: &[Found]) -> Option<&'static str> {
-    for (search, numbers) in cases {
-        if finds(alloc, search, numbers) != Ok(true) {
-            return Some(*search);
-        }
-    }
-    None
-}
-
-const INSIDE: [Found; 2] = [
-    ("SEARCH NOT OR SEEN DRAFT", &[3]),
-    ("SEARCH OR SEEN (DRAFT KEYWORD k1)", &[1, 2]),
-];
-
-#[test]
-fn keys_stand_inside_keys(rt: HostRuntime) -> Result<(), Fail> {
-    no_other(first_other(rt.alloc(), &INSIDE))
-}
-
-const BY_FACTS: [Found; 3] = [
-    ("SEARCH LARGER 4", &[1]),
-    ("SEARCH HEADER Subject \"LO w\"", &[1]),
-    ("SEARCH HEADER Subject \"worlds\"", &[]),
-];
-
-#[test]
-fn messages_are_tried_by_their_facts(rt: HostRuntime) -> Result<(), Fail> {
-    no_other(first_other(rt.alloc(), &BY_FACTS))
 }
 
 // The key behind NOT so often.
@@ -95,35 +63,56 @@ fn behind_nots(alloc: Global, count: u32, key: Key) -> Result<Key, NoMemory> {
     Ok(key)
 }
 
-// Whether the key nests in its bounds, and whether it reads messages then.
-fn tried(alloc: Global, nots: u32, search: &str) -> Result<(bool, bool), NoMemory> {
+/// Whether the key behind so many NOTs nests in its bounds, and whether it reads messages then.
+pub fn nests(
+    alloc: Global,
+    nots: u32,
+    search: &str,
+    reads: Option<bool>,
+) -> Result<bool, NoMemory> {
     let key = behind_nots(alloc, nots, key_of(alloc, search)?)?;
-    if is_shallow(&key) {
-        Ok((true, needs_mail(&key)))
-    } else {
-        Ok((false, false))
+    if !is_shallow(&key) {
+        return Ok(reads.is_none());
+    }
+    match reads {
+        Some(reads) => Ok(needs_mail(&key) == reads),
+        None => Ok(false),
     }
 }
 
-// So many NOTs, the key behind them, and what is tried.
-type Nested = (u32, &'static str, (bool, bool));
-
-const NESTED: [Nested; 3] = [
-    (32, "SEARCH ALL", (true, false)),
-    (33, "SEARCH ALL", (false, false)),
-    (0, "SEARCH OR SEEN NOT (ALL LARGER 4)", (true, true)),
+const CASES: [(&str, Case); 8] = [
+    (
+        "NOT before OR",
+        Case::Finds("SEARCH NOT OR SEEN DRAFT", &[3]),
+    ),
+    (
+        "keys in parentheses",
+        Case::Finds("SEARCH OR SEEN (DRAFT KEYWORD k1)", &[1, 2]),
+    ),
+    ("a size", Case::Finds("SEARCH LARGER 4", &[1])),
+    (
+        "a part of a field",
+        Case::Finds("SEARCH HEADER Subject \"LO w\"", &[1]),
+    ),
+    (
+        "no part of a field",
+        Case::Finds("SEARCH HEADER Subject \"worlds\"", &[]),
+    ),
+    (
+        "the deepest key",
+        Case::Nests(32, "SEARCH ALL", Some(false)),
+    ),
+    (
+        "a key that is too deep",
+        Case::Nests(33, "SEARCH ALL", None),
+    ),
+    (
+        "a size inside keys",
+        Case::Nests(0, "SEARCH OR SEEN NOT (ALL LARGER 4)", Some(true)),
+    ),
 ];
 
-fn first_other_nested(alloc: Global, cases: &[Nested]) -> Option<(u32, &'static str)> {
-    for (nots, search, expected) in cases {
-        if tried(alloc, *nots, search) != Ok(*expected) {
-            return Some((*nots, *search));
-        }
-    }
-    None
-}
-
 #[test]
-fn keys_nest_so_deep_and_read_messages(rt: HostRuntime) -> Result<(), Fail> {
-    no_other(first_other_nested(rt.alloc(), &NESTED))
+fn keys_find_rows_and_nest(rt: HostRuntime) -> Result<(), Fail> {
+    all_hold(rt.alloc(), &CASES)
 }

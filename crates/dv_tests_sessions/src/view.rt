@@ -2,7 +2,7 @@ ghost use Rattle.std.specs.Prelude.{◌≡◌, [], IfOk, IsSomeAnd, true};
 ghost use Rattle.dv_model.specs.Fresh.{AreFresh};
 ghost use Rattle.dv_model.specs.Views.{View as Rows, empty_view, shows_uid};
 
-use crate::ends::{is_so, no_other};
+use crate::cases::{Case, all_hold};
 use crate::mailboxes::apply;
 use dv_apply::Live;
 use dv_keywords::Table;
@@ -19,38 +19,52 @@ const EXPUNGE_1: &[u8] = b"\x80\x80\x80\x84\x91\xcd\0\x10\x01\0\0\0\x01\0\0\0";
 
 const FLAG_2: &[u8] = b"\x80\x80\x80\x85\x04\0\0\x10\x02\0\0\0\x02\0\0\0\x02\0\0\0";
 
-// A reply's kind, its number, and of a FETCH the UID and the flags.
-fn brief(r: &Reply) -> (char, u32, u32, u8) {
-    match r {
-        Reply::Expunge(number) => ('X', *number, 0, 0),
-        Reply::Exists(count) => ('E', *count, 0, 0),
-        Reply::Fetch {
-            number,
-            uid,
-            values,
-        } => match values.as_slice() {
-            [Value::Flags(flags, _)] => ('F', *number, *uid, *flags),
-            _ => ('?', *number, *uid, 0),
-        },
-        _ => ('?', 0, 0, 0),
+/// What is said of a row, or of their number.
+#[derive(Clone, Copy)]
+pub enum Line {
+    Expunge(u32),
+    Exists(u32),
+    /// The number, the UID and the flags.
+    Fetch(u32, u32, u8),
+}
+
+fn is_flags(values: &[Value], expected: u8) -> bool {
+    match values {
+        [Value::Flags(flags, _)] => *flags == expected,
+        _ => false,
     }
 }
 
-fn is_said(said: &List<Reply>, expected: &[(char, u32, u32, u8)]) -> bool {
+fn is_line(r: &Reply, line: Line) -> bool {
+    match (r, line) {
+        (Reply::Expunge(number), Line::Expunge(expected)) => *number == expected,
+        (Reply::Exists(count), Line::Exists(expected)) => *count == expected,
+        (
+            Reply::Fetch {
+                number,
+                uid,
+                values,
+            },
+            Line::Fetch(at, named, flags),
+        ) => *number == at && *uid == named && is_flags(values.as_slice(), flags),
+        _ => false,
+    }
+}
+
+fn is_said(said: &List<Reply>, expected: &[Line]) -> bool {
     if said.len() != expected.len() {
         return false;
     }
-    for (r, e) in said.as_slice().iter().zip(expected) {
-        if brief(r) != *e {
+    for (r, line) in said.as_slice().iter().zip(expected) {
+        if !is_line(r, *line) {
             return false;
         }
     }
     true
 }
 
-// A record of the log, a step that the view then takes, and what is said: each reply's kind, its
-// number, and of a FETCH the UID and the flags.
-type Turn = (&'static [u8], Option<Step>, &'static [(char, u32, u32, u8)]);
+/// A record of the log, and the step that the view then takes, with what is said.
+pub type Turn = (&'static [u8], Option<(Step, &'static [Line])>);
 
 // Moves on, where the mailbox isn't older than the view.
 fn advance(
@@ -94,45 +108,29 @@ fn take(
     client: &mut Client,
     live: &Live,
     step: Step,
-    expected: &[(char, u32, u32, u8)],
+    expected: &[Line],
 ) -> Result<bool, NoMemory> {
     let said = advance(alloc, view, live, step)?;
     hear_all(alloc, client, &said)?;
     Ok(is_said(&said, expected) && has_same_rows(client, view))
 }
 
-// Whether each turn says what is expected, and a client that hears it has the view.
-fn are_right(alloc: Global, turns: &[Turn]) -> Result<bool, NoMemory> {
+/// Whether each turn says what is expected, and a client that hears it has the view.
+pub fn are_right(alloc: Global, turns: &[Turn]) -> Result<bool, NoMemory> {
     let mut live = Live::empty(alloc, 1000);
     let mut view = View::empty(alloc);
     let mut client = Client {
         rows: List::new(alloc),
     };
-    for (bytes, step, expected) in turns {
+    for (bytes, step) in turns {
         apply(alloc, &mut live, &[*bytes])?;
-        if let Some(step) = step {
+        if let Some((step, expected)) = step {
             if !take(alloc, &mut view, &mut client, &live, *step, expected)? {
                 return Ok(false);
             }
         }
     }
     Ok(true)
-}
-
-const UNTOLD: [Turn; 4] = [
-    (APPEND_1_DELETED, None, &[]),
-    (
-        APPEND_2,
-        Some(Step::Full),
-        &[('E', 2, 0, 0), ('F', 1, 1, 4), ('F', 2, 2, 0)],
-    ),
-    (EXPUNGE_1, None, &[]),
-    (FLAG_2, Some(Step::Held), &[('F', 2, 2, 2)]),
-];
-
-#[test]
-fn untold_row_keeps_its_number(rt: HostRuntime) -> Result<(), Fail> {
-    is_so(are_right(rt.alloc(), &UNTOLD))
 }
 
 fn shown(alloc: Global, uid: u32, flags: u8) -> Shown
@@ -179,12 +177,8 @@ fn next_changes(alloc: Global) -> Result<List<Fresh>, NoMemory>
     Ok(fresh)
 }
 
-// Whether the second move says what is expected, and a client that hears both has the view.
-fn is_right(
-    alloc: Global,
-    step: Step,
-    expected: &[(char, u32, u32, u8)],
-) -> Result<bool, NoMemory> {
+/// Whether the second move says what is expected, and a client that hears both has the view.
+pub fn is_right(alloc: Global, step: Step, expected: &[Line]) -> Result<bool, NoMemory> {
     let names = Table::empty(alloc);
     let mut client = Client {
         rows: List::new(alloc),
@@ -202,36 +196,43 @@ fn is_right(
     Ok(is_said(&said, expected) && has_same_rows(&client, &view))
 }
 
-type Said = (&'static str, Step, &'static [(char, u32, u32, u8)]);
-
-const STEPS: [Said; 2] = [
+const UNTOLD: [Turn; 4] = [
+    (APPEND_1_DELETED, None),
     (
-        "full",
-        Step::Full,
-        &[
-            ('X', 1, 0, 0),
-            ('E', 2, 0, 0),
-            ('F', 1, 2, 8),
-            ('F', 2, 3, 0),
-        ],
+        APPEND_2,
+        Some((
+            Step::Full,
+            &[Line::Exists(2), Line::Fetch(1, 1, 4), Line::Fetch(2, 2, 0)],
+        )),
+    ),
+    (EXPUNGE_1, None),
+    (FLAG_2, Some((Step::Held, &[Line::Fetch(2, 2, 2)]))),
+];
+
+const CASES: [(&str, Case); 3] = [
+    ("an untold row keeps its number", Case::Turns(&UNTOLD)),
+    (
+        "a full step follows changes",
+        Case::Changes(
+            Step::Full,
+            &[
+                Line::Expunge(1),
+                Line::Exists(2),
+                Line::Fetch(1, 2, 8),
+                Line::Fetch(2, 3, 0),
+            ],
+        ),
     ),
     (
-        "held",
-        Step::Held,
-        &[('E', 3, 0, 0), ('F', 2, 2, 8), ('F', 3, 3, 0)],
+        "a held step follows changes",
+        Case::Changes(
+            Step::Held,
+            &[Line::Exists(3), Line::Fetch(2, 2, 8), Line::Fetch(3, 3, 0)],
+        ),
     ),
 ];
 
-fn first_other(alloc: Global, cases: &[Said]) -> Option<&'static str> {
-    for (name, step, expected) in cases {
-        if is_right(alloc, *step, expected) != Ok(true) {
-            return Some(*name);
-        }
-    }
-    None
-}
-
 #[test]
-fn both_steps_follow_changes(rt: HostRuntime) -> Result<(), Fail> {
-    no_other(first_other(rt.alloc(), &STEPS))
+fn views_move_as_they_say(rt: HostRuntime) -> Result<(), Fail> {
+    all_hold(rt.alloc(), &CASES)
 }

@@ -1,4 +1,4 @@
-use crate::ends::{is_so, no_other};
+use crate::cases::{Case, all_hold};
 use dv_ext::{Extensions, PartsChange, RowUpdates};
 use dv_model::{Duplicate, Extension, Intro, List, NoMemory, Part};
 use std::alloc::Global;
@@ -7,69 +7,15 @@ use std::test::Fail;
 // The `ext_id` of an introduction by name.
 const NAMED: u32 = 4294967295;
 
-// The name, reset number, header, record size, record alignment and flags.
-type Expected = (&'static [u8], u32, &'static [u8], u16, u16, u16);
-
-fn intro(
-    alloc: Global,
-    ext_id: u32,
-    name: &[u8],
+// What an extension must be.
+struct Expected {
+    name: &'static [u8],
     reset_id: u32,
-    hdr_size: u32,
+    header: &'static [u8],
     record_size: u16,
-) -> Result<Intro, NoMemory> {
-    Ok(Intro {
-        ext_id,
-        reset_id,
-        hdr_size,
-        record_size,
-        record_align: 4,
-        flags: 1,
-        name: List::from_slice(alloc, name)?,
-    })
+    record_align: u16,
+    flags: u16,
 }
-
-fn part(alloc: Global, offset: u16, bytes: &[u8]) -> Result<Part, NoMemory> {
-    Ok(Part {
-        offset,
-        bytes: List::from_slice(alloc, bytes)?,
-    })
-}
-
-// The current extension and its size.
-fn current_of(extensions: &Extensions) -> Option<(u32, u16)> {
-    match extensions.current() {
-        Some(current) => Some((current.extension, current.size)),
-        None => None,
-    }
-}
-
-fn is_expected(extension: &Extension, e: &Expected) -> bool {
-    let numbers = (
-        extension.reset_id,
-        extension.record_size,
-        extension.record_align,
-        extension.flags,
-    );
-    numbers == (e.1, e.3, e.4, e.5)
-        && extension.name.as_slice() == e.0
-        && extension.header.as_slice() == e.2
-}
-
-fn are_expected(list: &[Extension], expected: &[Expected]) -> bool {
-    list.len() == expected.len()
-        && list
-            .iter()
-            .zip(expected)
-            .all(|(extension, e)| is_expected(extension, e))
-}
-
-fn holds(extensions: &Extensions, expected: &[Expected], current: Option<(u32, u16)>) -> bool {
-    are_expected(extensions.list().as_slice(), expected) && current_of(extensions) == current
-}
-
-// What is done, what happens to the parts of rows, the table and the current extension.
-type Done = (Action, PartsChange, &'static [Expected], Option<(u32, u16)>);
 
 #[derive(Clone, Copy)]
 enum Action {
@@ -80,6 +26,14 @@ enum Action {
     Header(u16, &'static [u8]),
 }
 
+// What is done, what happens to the parts of rows, the table and the current extension.
+struct Done {
+    action: Action,
+    change: PartsChange,
+    table: &'static [Expected],
+    current: Option<(u32, u16)>,
+}
+
 fn introduce(
     alloc: Global,
     extensions: &mut Extensions,
@@ -87,9 +41,22 @@ fn introduce(
     name: &[u8],
     numbers: (u32, u32, u16),
 ) -> Result<PartsChange, NoMemory> {
+    let name = List::from_slice(alloc, name)?;
     let (reset_id, hdr_size, record_size) = numbers;
-    let intro = intro(alloc, ext_id, name, reset_id, hdr_size, record_size)?;
-    extensions.intro(&intro)
+    extensions.intro(&Intro {
+        ext_id,
+        reset_id,
+        hdr_size,
+        record_size,
+        record_align: 4,
+        flags: 1,
+        name,
+    })
+}
+
+fn part(alloc: Global, offset: u16, bytes: &[u8]) -> Result<Part, NoMemory> {
+    let bytes = List::from_slice(alloc, bytes)?;
+    Ok(Part { offset, bytes })
 }
 
 fn put(
@@ -98,9 +65,8 @@ fn put(
     offset: u16,
     bytes: &[u8],
 ) -> Result<PartsChange, NoMemory> {
-    let part = part(alloc, offset, bytes)?;
     let mut parts = List::new(alloc);
-    parts.push(part)?;
+    parts.push(part(alloc, offset, bytes)?)?;
     extensions.header(&parts);
     Ok(PartsChange::Same)
 }
@@ -123,150 +89,72 @@ fn act(
     }
 }
 
-fn is_done(alloc: Global, extensions: &mut Extensions, row: &Done) -> Result<bool, NoMemory> {
-    let (action, change, table, current) = *row;
-    let done = act(alloc, extensions, action)?;
-    Ok(done == change && holds(extensions, table, current))
+fn is_expected(extension: &Extension, e: &Expected) -> bool {
+    extension.reset_id == e.reset_id
+        && extension.record_size == e.record_size
+        && extension.record_align == e.record_align
+        && extension.flags == e.flags
+        && extension.name.as_slice() == e.name
+        && extension.header.as_slice() == e.header
 }
 
-fn first_not_done(
-    alloc: Global,
-    extensions: &mut Extensions,
-    rows: &[Done],
-) -> Result<Option<usize>, NoMemory> {
-    for (place, row) in rows.iter().enumerate() {
-        if !is_done(alloc, extensions, row)? {
-            return Ok(Some(place));
+fn are_expected(list: &[Extension], expected: &[Expected]) -> bool {
+    if list.len() != expected.len() {
+        return false;
+    }
+    for (extension, e) in list.iter().zip(expected) {
+        if !is_expected(extension, e) {
+            return false;
         }
     }
-    Ok(None)
+    true
 }
 
-// The place of the first difference.
-fn first_fault(alloc: Global, rows: &[Done]) -> Result<Option<usize>, NoMemory> {
-    let mut extensions = Extensions::empty(alloc);
-    first_not_done(alloc, &mut extensions, rows)
+fn is_current(extensions: &Extensions, expected: Option<(u32, u16)>) -> bool {
+    match (extensions.current(), expected) {
+        (Some(current), Some((extension, size))) => {
+            current.extension == extension && current.size == size
+        }
+        (None, None) => true,
+        _ => false,
+    }
 }
 
-const CACHE: [Done; 6] = [
-    (
-        Action::Intro(NAMED, b"cache", 0, 0, 4),
-        PartsChange::Added { size: 4 },
-        &[(b"cache", 0, &[], 4, 4, 1)],
-        Some((0, 4)),
-    ),
-    (
-        Action::Reset(1, 0),
-        PartsChange::Zeroed { place: 0 },
-        &[(b"cache", 1, &[], 4, 4, 1)],
-        Some((0, 4)),
-    ),
-    // a part that doesn't fit
-    (
-        Action::Header(1, &[7, 9]),
-        PartsChange::Same,
-        &[(b"cache", 1, &[], 4, 4, 1)],
-        Some((0, 4)),
-    ),
-    (
-        Action::Intro(NAMED, b"cache", 1, 4, 8),
-        PartsChange::Grown { place: 0, size: 8 },
-        &[(b"cache", 1, &[0, 0, 0, 0], 8, 4, 1)],
-        Some((0, 8)),
-    ),
-    // smaller sizes
-    (
-        Action::Intro(NAMED, b"cache", 1, 1, 2),
-        PartsChange::Same,
-        &[(b"cache", 1, &[0, 0, 0, 0], 8, 4, 1)],
-        Some((0, 2)),
-    ),
-    // another reset number
-    (
-        Action::Intro(NAMED, b"cache", 0, 9, 9),
-        PartsChange::Same,
-        &[(b"cache", 1, &[0, 0, 0, 0], 8, 4, 1)],
-        None,
-    ),
-];
-
-const HEADERS: [Done; 5] = [
-    (
-        Action::Intro(NAMED, b"x", 3, 4, 0),
-        PartsChange::Added { size: 0 },
-        &[(b"x", 3, &[0, 0, 0, 0], 0, 4, 1)],
-        Some((0, 0)),
-    ),
-    (
-        Action::Header(1, &[7, 9]),
-        PartsChange::Same,
-        &[(b"x", 3, &[0, 7, 9, 0], 0, 4, 1)],
-        Some((0, 0)),
-    ),
-    // preserved
-    (
-        Action::Reset(4, 1),
-        PartsChange::Same,
-        &[(b"x", 4, &[0, 7, 9, 0], 0, 4, 1)],
-        Some((0, 0)),
-    ),
-    (
-        Action::Reset(5, 0),
-        PartsChange::Zeroed { place: 0 },
-        &[(b"x", 5, &[0, 0, 0, 0], 0, 4, 1)],
-        Some((0, 0)),
-    ),
-    // by its place
-    (
-        Action::Intro(0, b"y", 5, 0, 0),
-        PartsChange::Same,
-        &[(b"x", 5, &[0, 0, 0, 0], 0, 4, 1)],
-        Some((0, 0)),
-    ),
-];
-
-fn are_done(alloc: Global, rows: &[Done]) -> Result<(), Fail> {
-    no_other(first_fault(alloc, rows))
+fn is_left(extensions: &Extensions, done: &Done) -> bool {
+    are_expected(extensions.list().as_slice(), done.table) && is_current(extensions, done.current)
 }
 
-#[test]
-fn extensions_are_introduced_reset_and_written(rt: HostRuntime) -> Result<(), Fail> {
-    are_done(rt.alloc(), &CACHE)
-}
-
-#[test]
-fn headers_are_written_and_reset(rt: HostRuntime) -> Result<(), Fail> {
-    are_done(rt.alloc(), &HEADERS)
-}
-
-const ONE: [Expected; 1] = [(b"cache", 0, &[], 4, 4, 1)];
-
-// Whether the parts of a table of one extension make it again.
-fn parts_hold(alloc: Global, extensions: Extensions) -> bool {
+// The table that the parts of another make.
+fn made_again(alloc: Global, extensions: Extensions) -> Extensions {
     let (list, current) = extensions.into_parts();
-    holds(&Extensions::new(alloc, list, current), &ONE, Some((0, 4)))
+    Extensions::new(alloc, list, current)
 }
 
-// Whether a copy of it holds it, and the copy's parts make it again.
-fn copies_hold(alloc: Global) -> Result<bool, NoMemory> {
-    let mut extensions = Extensions::empty(alloc);
-    introduce(alloc, &mut extensions, NAMED, b"cache", (0, 0, 4))?;
+// Whether a copy is left so too, and what the copy's parts make.
+fn is_copied(alloc: Global, extensions: &Extensions, done: &Done) -> Result<bool, NoMemory> {
     let copy = extensions.duplicate(alloc)?;
-    Ok(holds(&copy, &ONE, Some((0, 4))) && parts_hold(alloc, copy))
+    let is_same = is_left(&copy, done);
+    let again = made_again(alloc, copy);
+    Ok(is_same && is_left(&again, done))
 }
 
-#[test]
-fn copy_is_equal(rt: HostRuntime) -> Result<(), Fail> {
-    is_so(copies_hold(rt.alloc()))
+fn is_done(alloc: Global, extensions: &mut Extensions, done: &Done) -> Result<bool, NoMemory> {
+    let change = act(alloc, extensions, done.action)?;
+    if change != done.change || !is_left(extensions, done) {
+        return Ok(false);
+    }
+    is_copied(alloc, extensions, done)
 }
 
-const UPDATE: &[u8] = &[
-    1, 0, 0, 0, 7, 8, 9, 1, 2, 9, 9, 9, //
-    0xff, 0xff, 0xff, 0xff, 1, 2, 3, 4, 5, 0, 0, 0,
-];
-
-// The rows of the update, each with its UID and bytes.
-const ROWS: [(u32, &[u8]); 2] = [(1, &[7, 8, 9, 1, 2]), (4294967295, &[1, 2, 3, 4, 5])];
+fn are_done(alloc: Global, all: &[Done]) -> Result<bool, NoMemory> {
+    let mut extensions = Extensions::empty(alloc);
+    for done in all {
+        if !is_done(alloc, &mut extensions, done)? {
+            return Ok(false);
+        }
+    }
+    Ok(true)
+}
 
 fn are_rows(updates: &RowUpdates, rows: &[(u32, &[u8])]) -> bool {
     if updates.len() != rows.len() {
@@ -280,14 +168,201 @@ fn are_rows(updates: &RowUpdates, rows: &[(u32, &[u8])]) -> bool {
     true
 }
 
-fn are_padded() -> bool {
-    match RowUpdates::new(5, UPDATE) {
-        Some(updates) => are_rows(&updates, &ROWS),
-        None => false,
+// What is done to a new table; or the bytes of an update for this size, and its rows, each with its
+// UID and bytes.
+enum Played {
+    All(&'static [Done]),
+    Update(u16, &'static [u8], &'static [(u32, &'static [u8])]),
+}
+
+impl Case for Played {
+    fn holds(&self, alloc: Global) -> Result<bool, NoMemory> {
+        match self {
+            Played::All(all) => are_done(alloc, all),
+            Played::Update(size, bytes, rows) => match RowUpdates::new(*size, bytes) {
+                Some(updates) => Ok(are_rows(&updates, rows)),
+                None => Ok(false),
+            },
+        }
     }
 }
 
+const CACHE: [Done; 6] = [
+    Done {
+        action: Action::Intro(NAMED, b"cache", 0, 0, 4),
+        change: PartsChange::Added { size: 4 },
+        table: &[Expected {
+            name: b"cache",
+            reset_id: 0,
+            header: &[],
+            record_size: 4,
+            record_align: 4,
+            flags: 1,
+        }],
+        current: Some((0, 4)),
+    },
+    Done {
+        action: Action::Reset(1, 0),
+        change: PartsChange::Zeroed { place: 0 },
+        table: &[Expected {
+            name: b"cache",
+            reset_id: 1,
+            header: &[],
+            record_size: 4,
+            record_align: 4,
+            flags: 1,
+        }],
+        current: Some((0, 4)),
+    },
+    // a part that doesn't fit
+    Done {
+        action: Action::Header(1, &[7, 9]),
+        change: PartsChange::Same,
+        table: &[Expected {
+            name: b"cache",
+            reset_id: 1,
+            header: &[],
+            record_size: 4,
+            record_align: 4,
+            flags: 1,
+        }],
+        current: Some((0, 4)),
+    },
+    Done {
+        action: Action::Intro(NAMED, b"cache", 1, 4, 8),
+        change: PartsChange::Grown { place: 0, size: 8 },
+        table: &[Expected {
+            name: b"cache",
+            reset_id: 1,
+            header: &[0, 0, 0, 0],
+            record_size: 8,
+            record_align: 4,
+            flags: 1,
+        }],
+        current: Some((0, 8)),
+    },
+    // smaller sizes
+    Done {
+        action: Action::Intro(NAMED, b"cache", 1, 1, 2),
+        change: PartsChange::Same,
+        table: &[Expected {
+            name: b"cache",
+            reset_id: 1,
+            header: &[0, 0, 0, 0],
+            record_size: 8,
+            record_align: 4,
+            flags: 1,
+        }],
+        current: Some((0, 2)),
+    },
+    // another reset number
+    Done {
+        action: Action::Intro(NAMED, b"cache", 0, 9, 9),
+        change: PartsChange::Same,
+        table: &[Expected {
+            name: b"cache",
+            reset_id: 1,
+            header: &[0, 0, 0, 0],
+            record_size: 8,
+            record_align: 4,
+            flags: 1,
+        }],
+        current: None,
+    },
+];
+
+const HEADERS: [Done; 5] = [
+    Done {
+        action: Action::Intro(NAMED, b"x", 3, 4, 0),
+        change: PartsChange::Added { size: 0 },
+        table: &[Expected {
+            name: b"x",
+            reset_id: 3,
+            header: &[0, 0, 0, 0],
+            record_size: 0,
+            record_align: 4,
+            flags: 1,
+        }],
+        current: Some((0, 0)),
+    },
+    Done {
+        action: Action::Header(1, &[7, 9]),
+        change: PartsChange::Same,
+        table: &[Expected {
+            name: b"x",
+            reset_id: 3,
+            header: &[0, 7, 9, 0],
+            record_size: 0,
+            record_align: 4,
+            flags: 1,
+        }],
+        current: Some((0, 0)),
+    },
+    // preserved
+    Done {
+        action: Action::Reset(4, 1),
+        change: PartsChange::Same,
+        table: &[Expected {
+            name: b"x",
+            reset_id: 4,
+            header: &[0, 7, 9, 0],
+            record_size: 0,
+            record_align: 4,
+            flags: 1,
+        }],
+        current: Some((0, 0)),
+    },
+    Done {
+        action: Action::Reset(5, 0),
+        change: PartsChange::Zeroed { place: 0 },
+        table: &[Expected {
+            name: b"x",
+            reset_id: 5,
+            header: &[0, 0, 0, 0],
+            record_size: 0,
+            record_align: 4,
+            flags: 1,
+        }],
+        current: Some((0, 0)),
+    },
+    // by its place
+    Done {
+        action: Action::Intro(0, b"y", 5, 0, 0),
+        change: PartsChange::Same,
+        table: &[Expected {
+            name: b"x",
+            reset_id: 5,
+            header: &[0, 0, 0, 0],
+            record_size: 0,
+            record_align: 4,
+            flags: 1,
+        }],
+        current: Some((0, 0)),
+    },
+];
+
+const UPDATE: &[u8] = &[
+    1, 0, 0, 0, 7, 8, 9, 1, 2, 9, 9, 9, //
+    0xff, 0xff, 0xff, 0xff, 1, 2, 3, 4, 5, 0, 0, 0,
+];
+
+const CASES: [(&str, Played); 3] = [
+    (
+        "extensions are introduced, reset and written",
+        Played::All(&CACHE),
+    ),
+    ("headers are written and reset", Played::All(&HEADERS)),
+    (
+        "rows of an update are padded",
+        Played::Update(
+            5,
+            UPDATE,
+            &[(1, &[7, 8, 9, 1, 2]), (4294967295, &[1, 2, 3, 4, 5])],
+        ),
+    ),
+];
+
 #[test]
-fn rows_of_an_update_are_padded() -> Result<(), Fail> {
-    is_so(Ok(are_padded()))
+fn extensions_are_as_records_say(rt: HostRuntime) -> Result<(), Fail> {
+    all_hold(rt.alloc(), &CASES)
 }

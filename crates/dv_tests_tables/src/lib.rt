@@ -2,7 +2,7 @@
 #![tactic(auto)]
 
 #[cfg(test)]
-mod ends;
+mod cases;
 #[cfg(test)]
 mod ext;
 #[cfg(test)]

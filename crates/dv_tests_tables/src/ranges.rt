@@ -1,92 +1,131 @@
-use crate::ends::is_so;
-use dv_model::{Change, List, NoMemory, Pair};
+use crate::cases::{Case, all_hold};
+use dv_model::{Change, NoMemory, Pair};
 use dv_ranges::{join_changes, join_pairs};
 use std::alloc::Global;
 use std::test::Fail;
 
-type Range = (u32, u32);
-
-fn pairs_of(alloc: Global, ranges: &[Range]) -> Result<List<Pair>, NoMemory> {
-    let mut pairs = List::new(alloc);
-    for (first, last) in ranges {
-        pairs.push(Pair {
-            first: *first,
-            last: *last,
-        })?;
-    }
-    Ok(pairs)
+// What is joined, and to what.
+enum Joined {
+    Pairs(&'static [Pair], &'static [Pair]),
+    Changes(&'static [Change], &'static [Change]),
 }
 
-fn are(pairs: &[Pair], expected: &[Range]) -> bool {
+fn are_pairs(pairs: &[Pair], expected: &[Pair]) -> bool {
     if pairs.len() != expected.len() {
         return false;
     }
-    pairs
-        .iter()
-        .zip(expected)
-        .all(|(pair, e)| (pair.first, pair.last) == *e)
-}
-
-// Whether these ranges are joined to others.
-fn are_joined(alloc: Global, ranges: &[Range], expected: &[Range]) -> Result<bool, NoMemory> {
-    let pairs = pairs_of(alloc, ranges)?;
-    match join_pairs(alloc, pairs.as_slice())? {
-        Some(joined) => Ok(are(&joined, expected)),
-        None => Ok(false),
+    for (pair, e) in pairs.iter().zip(expected) {
+        if pair.first != e.first || pair.last != e.last {
+            return false;
+        }
     }
+    true
 }
 
-#[test]
-fn ranges_that_overlap_are_joined(rt: HostRuntime) -> Result<(), Fail> {
-    is_so(are_joined(rt.alloc(), &[(5, 9), (1, 3), (8, 7), (2, 6)], &[(1, 9)]))
+fn is_change(c: &Change, e: &Change) -> bool {
+    c.first == e.first && c.last == e.last && c.add == e.add && c.remove == e.remove
 }
 
-// The first and the last UID, the flags that are added, and those that are removed.
-type Part = (u32, u32, u8, u8);
-
-fn changes_of(alloc: Global, parts: &[Part]) -> Result<List<Change>, NoMemory> {
-    let mut changes = List::new(alloc);
-    for (first, last, add, remove) in parts {
-        changes.push(Change {
-            first: *first,
-            last: *last,
-            add: *add,
-            remove: *remove,
-        })?;
-    }
-    Ok(changes)
-}
-
-fn are_parts(changes: &[Change], expected: &[Part]) -> bool {
+fn are_changes(changes: &[Change], expected: &[Change]) -> bool {
     if changes.len() != expected.len() {
         return false;
     }
-    changes
-        .iter()
-        .zip(expected)
-        .all(|(c, e)| (c.first, c.last, c.add, c.remove) == *e)
+    for (c, e) in changes.iter().zip(expected) {
+        if !is_change(c, e) {
+            return false;
+        }
+    }
+    true
 }
 
-// Whether these changes are joined to others.
-fn are_combined(alloc: Global, parts: &[Part], expected: &[Part]) -> Result<bool, NoMemory> {
-    let changes = changes_of(alloc, parts)?;
-    match join_changes(alloc, changes.as_slice())? {
-        Some(joined) => Ok(are_parts(&joined, expected)),
-        None => Ok(false),
+impl Case for Joined {
+    fn holds(&self, alloc: Global) -> Result<bool, NoMemory> {
+        match self {
+            Joined::Pairs(ranges, expected) => match join_pairs(alloc, ranges)? {
+                Some(joined) => Ok(are_pairs(&joined, expected)),
+                None => Ok(false),
+            },
+            Joined::Changes(changes, expected) => match join_changes(alloc, changes)? {
+                Some(joined) => Ok(are_changes(&joined, expected)),
+                None => Ok(false),
+            },
+        }
     }
 }
 
-const CHANGES: [Part; 3] = [(5, 20, 8, 1), (1, 10, 4, 8), (9, 4294967295, 1, 0)];
-
-const COMBINED: [Part; 5] = [
-    (1, 4, 4, 8),
-    (5, 8, 4, 9),
-    (9, 10, 5, 9),
-    (11, 20, 9, 1),
-    (21, 4294967295, 1, 0),
+const CASES: [(&str, Joined); 2] = [
+    (
+        "ranges that overlap",
+        Joined::Pairs(
+            &[
+                Pair { first: 5, last: 9 },
+                Pair { first: 1, last: 3 },
+                Pair { first: 8, last: 7 },
+                Pair { first: 2, last: 6 },
+            ],
+            &[Pair { first: 1, last: 9 }],
+        ),
+    ),
+    (
+        "changes that overlap",
+        Joined::Changes(
+            &[
+                Change {
+                    first: 5,
+                    last: 20,
+                    add: 8,
+                    remove: 1,
+                },
+                Change {
+                    first: 1,
+                    last: 10,
+                    add: 4,
+                    remove: 8,
+                },
+                Change {
+                    first: 9,
+                    last: 4294967295,
+                    add: 1,
+                    remove: 0,
+                },
+            ],
+            &[
+                Change {
+                    first: 1,
+                    last: 4,
+                    add: 4,
+                    remove: 8,
+                },
+                Change {
+                    first: 5,
+                    last: 8,
+                    add: 4,
+                    remove: 9,
+                },
+                Change {
+                    first: 9,
+                    last: 10,
+                    add: 5,
+                    remove: 9,
+                },
+                Change {
+                    first: 11,
+                    last: 20,
+                    add: 9,
+                    remove: 1,
+                },
+                Change {
+                    first: 21,
+                    last: 4294967295,
+                    add: 1,
+                    remove: 0,
+                },
+            ],
+        ),
+    ),
 ];
 
 #[test]
-fn changes_that_overlap_are_joined(rt: HostRuntime) -> Result<(), Fail> {
-    is_so(are_combined(rt.alloc(), &CHANGES, &COMBINED))
+fn what_overlaps_is_joined(rt: HostRuntime) -> Result<(), Fail> {
+    all_hold(rt.alloc(), &CASES)
 }

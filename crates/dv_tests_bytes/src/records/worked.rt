@@ -1,7 +1,7 @@
 // The bytes of a record, its four highest bits, and its numbers behind its code.
 pub type Worked = (&'static [u8], u8, &'static [u32]);
 
-pub const WORKED: [Worked; 14] = [
+pub const WORKED: [Worked; 15] = [
     // UIDVALIDITY 1000
     (
         b"\x80\x80\x80\x84\x20\0\0\0\x18\0\x04\0\xe8\x03\0\0",
@@ -80,6 +80,7 @@ pub const WORKED: [Worked; 14] = [
     ),
     // and so are the bits that protect an expunge, alone
     (b"\x80\x80\x80\x82\x90\xcd\0\xf0", 15, &[0xcd90]),
+    (&EXPUNGE, 1, &EXPUNGED),
 ];
 
 // UIDs 5 to 9 are expunged, with the GUIDs of 1000, 1000, the UID and 1000.
@@ -90,4 +91,14 @@ pub const EXPUNGE: [u8; 108] = [
     7, 0, 0, 0, 0, 0, 3, 0xe8, 0, 0, 3, 0xe8, 0, 0, 0, 7, 0, 0, 3, 0xe8, //
     8, 0, 0, 0, 0, 0, 3, 0xe8, 0, 0, 3, 0xe8, 0, 0, 0, 8, 0, 0, 3, 0xe8, //
     9, 0, 0, 0, 0, 0, 3, 0xe8, 0, 0, 3, 0xe8, 0, 0, 0, 9, 0, 0, 3, 0xe8,
+];
+
+// Its numbers.
+const EXPUNGED: [u32; 86] = [
+    0xed90, //
+    5, 0, 0, 3, 0xe8, 0, 0, 3, 0xe8, 0, 0, 0, 5, 0, 0, 3, 0xe8, //
+    6, 0, 0, 3, 0xe8, 0, 0, 3, 0xe8, 0, 0, 0, 6, 0, 0, 3, 0xe8, //
+    7, 0, 0, 3, 0xe8, 0, 0, 3, 0xe8, 0, 0, 0, 7, 0, 0, 3, 0xe8, //
+    8, 0, 0, 3, 0xe8, 0, 0, 3, 0xe8, 0, 0, 0, 8, 0, 0, 3, 0xe8, //
+    9, 0, 0, 3, 0xe8, 0, 0, 3, 0xe8, 0, 0, 0, 9, 0, 0, 3, 0xe8,
 ];

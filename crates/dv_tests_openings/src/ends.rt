@@ -3,11 +3,11 @@
 use dv_model::NoMemory;
 use std::test::Fail;
 
-/// Fails by the place of the case that isn't as it says, where there is one.
-pub fn no_other(other: Result<Option<usize>, NoMemory>) -> Result<(), Fail> {
+/// Fails by the name of the first case that isn't as it says.
+pub fn no_other(other: Result<Option<&'static str>, NoMemory>) -> Result<(), Fail> {
     match other {
         Ok(None) => Ok(()),
-        Ok(Some(at)) => Err(Fail::from(at)),
+        Ok(Some(name)) => Err(Fail::from(name)),
         Err(error) => Err(Fail::from(error)),
     }
 }
