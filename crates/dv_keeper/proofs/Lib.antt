@@ -3,3 +3,4 @@ pub mod Members
 pub mod Turning
 pub mod Committed
 pub mod Telling
+pub mod Selected

@@ -95,12 +95,16 @@ module _ (f : Feed) (old new end : Member) (held : end ≡ record new { holds = 
 
 -- ---- a reading of messages
 
+-- it publishes nothing
+pub notes_stay : {S C : Type 0} (before behind : Kept S C) → IsReadFrom before behind → notes_in behind ≡ notes_in before
+notes_stay {S} {C} before behind stays = ap (λ (k : Kept S C). notes_in k) stays.now
+
 -- what was read of the end of the log is of that end
 pub read_found : {S C R : Type 0} (start : Log) (with : R → List Reply → R) (said said_now : R) (c : Command) (v : View) (before behind : Kept S C) → IsReadFrom before behind → (damaged : List ℕ)
     → IsRead with said said_now (log_of start (notes_in before)).mail c v before.store.chain.live.mailbox damaged → IsRead with said said_now (log_of start (notes_in behind)).mail c v behind.store.chain.live.mailbox damaged
 read_found {S} {C} start with said said_now c v before behind stays damaged read =
     subst (λ (m : Mailbox). IsRead with said said_now (log_of start (notes_in behind)).mail c v m damaged) (sym (ap (λ (x : Chain). x.live.mailbox) stays.store.chain))
-    (subst (λ (ns : List Note). IsRead with said said_now (log_of start ns).mail c v before.store.chain.live.mailbox damaged) (sym (ap (λ (k : Kept S C). notes_in k) stays.now)) read)
+    (subst (λ (ns : List Note). IsRead with said said_now (log_of start ns).mail c v before.store.chain.live.mailbox damaged) (sym (notes_stay before behind stays)) read)
 
 module _ {S C : Type 0} (start : Log) (count : ℕ) (c : Command) (old new : Member) (notes : List Note) (store : StoreState S C) (stands : StandsBehind start notes store) (session : IsSession start count old) (fresh : old.spent ≡ false) (mails : reads_mail c ≡ true)
     (own : own_refusal old.follower.state c ≡ None) where

@@ -25,9 +25,10 @@ use dv_shelf::{Clock, Shelf};
 use std::alloc::Global;
 use std::sync::Wait;
 
-// Serves a command of a session that reads messages: the data lines are taken at the end of the
-// log, and then it is answered there, or by the line of the disk's failure.
-fn serve_mail<S: Shelf, C: Clock, K: Keeping, L: Tally, M: Tally, R: Responses>(
+/// Serves a command of a session that reads messages: the data lines are taken at the end of the
+/// log, and then it is answered there, or by the line of the disk's failure. Nothing is published
+/// meanwhile.
+pub(crate) fn serve_mail<S: Shelf, C: Clock, K: Keeping, L: Tally, M: Tally, R: Responses>(
     alloc: Global,
     shared: &mut Shared<S, C, K, L, M>,
     s: &mut Session<K, L, M>,
@@ -42,7 +43,8 @@ fn serve_mail<S: Shelf, C: Clock, K: Keeping, L: Tally, M: Tally, R: Responses>(
     ensures read { (k : Kept S C) × (came : Result (Listed ℕ) StoreFault) ×
         Holds S.sees C.sees.tells K.start K.moment K.past K.honest k
         × LeavesReader (notes_in k) came s.old s.new result
-        × KeepsSettled S.sees K.count K.honest k }
+        × KeepsSettled S.sees K.count K.honest k
+        × (notes_in k ≡ notes_in shared.old.kept) }
     ensures turn { K.honest → Takes R.with replies.old replies.new result (λ told.
         IfOk told (λ lines. HasAnswered K.start K.count c.now lines s.old s.new)) }
     ensures replies { K.honest → OnErr result (HasTaken R.with replies.old replies.new) }

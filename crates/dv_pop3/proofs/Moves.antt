@@ -37,14 +37,18 @@ module _ {A : Type 0} (f : Reply → List A) (silent : IsSilent f) where
   growth_none true n = refl
   growth_none false n = rw (silent.exists_ n) refl
 
+  pub changes_none : (m : Mailbox) (old new : View) → flat_map f (changes m old new) ≡ []
+  changes_none m old new =
+      none_said f (λ (x : ℕ × Shown). reply.Fetch x.0 x.1.uid (value.Flags x.1.flags (names_of m x.1.keywords) ∷ [])) (numbers (λ s. not (list_any (same_row s) old.rows)) 1 new.rows)
+      (λ x. silent.flags x.0 x.1.uid x.1.flags (names_of m x.1.keywords))
+
   move_none : (m : Mailbox) (old new : View) → flat_map f (said m old new) ≡ []
   move_none m old new =
       both_none (removals old new ++ growth old new) (changes m old new)
       (both_none (removals old new) (growth old new)
       (none_said f (λ (x : ℕ × Shown). reply.Expunge x.0) (reverse (numbers (λ s. not (shows_uid new s.uid)) 1 old.rows)) (λ x. silent.expunge x.0))
       (growth_none (list_all (λ s. shows_uid old s.uid) new.rows) (length new.rows)))
-      (none_said f (λ (x : ℕ × Shown). reply.Fetch x.0 x.1.uid (value.Flags x.1.flags (names_of m x.1.keywords) ∷ [])) (numbers (λ s. not (list_any (same_row s) old.rows)) 1 new.rows)
-      (λ x. silent.flags x.0 x.1.uid x.1.flags (names_of m x.1.keywords)))
+      (changes_none m old new)
 
   -- it hears the data, and then the last line
   pub lines_heard : (mail : ℕ → Mail) (x : State) (set : List Span) (items : List Item) (met m : Mailbox) (q : ℕ) (mark : Mark)

@@ -7,6 +7,7 @@ use Rattle.std.proofs.lemmas.Grind.{flat_map-append}
 use Rattle.std.proofs.lemmas.List.{append-nil}
 use Rattle.std.proofs.lemmas.List.Elements.{All-head, All-map, All-tail}
 use Rattle.std.proofs.lemmas.List.Folds.{flat_map-map}
+use Rattle.dv_model.specs.declared.types.Command.TheVariants.{Select}
 use Rattle.dv_model.specs.declared.types.Item.TheVariants as item
 use Rattle.dv_model.specs.declared.types.Mailbox.{Mailbox}
 use Rattle.dv_model.specs.declared.types.Mark.{Mark}
@@ -14,15 +15,16 @@ use Rattle.dv_model.specs.declared.types.Reply.{Reply}
 use Rattle.dv_model.specs.declared.types.Reply.TheVariants as reply
 use Rattle.dv_model.specs.declared.types.Row.{Row}
 use Rattle.dv_model.specs.declared.types.Shown.{Shown}
+use Rattle.dv_model.specs.declared.types.Step.TheVariants.{Full}
 use Rattle.dv_model.specs.Journals.{Mail, Held, Damaged}
 use Rattle.dv_model.specs.Sessions.{State, answer, damaged_uid, ending_of, fetch_lines, gone_uid, has_uid}
 use Rattle.dv_model.specs.Sets.{is_in_set, largest_uid, named_by_uid}
 use Rattle.dv_model.specs.Transcripts.{is_unavailable}
-use Rattle.dv_model.specs.Views.{shown}
+use Rattle.dv_model.specs.Views.{View, changes, empty_view, moved, shown}
 use Rattle.dv_maildrop.specs.declared.types.Listed.{Listed}
-use Rattle.dv_serving.proofs.Counting.{AreAvailable}
+use Rattle.dv_serving.proofs.Counting.{AreAvailable, answer_available}
 use Rattle.dv_pop3.specs.Listings.{all_uids, failure_by, fetch_sizes, listed_in, listing, sized_by, with_one, with_sizes}
-use Rattle.dv_pop3.proofs.Moves.{IsSilent, lines_heard}
+use Rattle.dv_pop3.proofs.Moves.{IsSilent, changes_none, lines_heard}
 
 -- what is told of a move has no sizes
 silent : IsSilent sized_by
@@ -119,3 +121,19 @@ all_available rows (r ∷ lines) are = by (is_unavailable r) refl are (λ rest. 
         ap (λ (o : Option ℕ). with_sizes (with_one rows r o) lines) (fails_not r is)
         ∙ others rest
         ∙ ap (λ (l : List Listed). record { rows = l; failure = None }) (append_assoc rows (sized_by r) (flat_map sized_by lines))
+
+-- the replies to a SELECT list nothing
+module _ (mail : ℕ → Mail) (x : State) (met m : Mailbox) (q : ℕ) (mark : Mark) where
+  abbrev select_lines : List Reply
+  select_lines = (answer mail x Select met q m mark).replies
+
+  none_listed : flat_map sized_by select_lines ≡ []
+  none_listed =
+      let new : View = moved Full empty_view m in
+      flat_map-append sized_by (changes m empty_view new) (ending_of mail Select empty_view met m mark ∷ [])
+      ∙ ap (λ (l : List Listed). l ++ []) (changes_none sized_by silent m empty_view new)
+
+  pub select_unsized : with_sizes (record { rows = []; failure = None }) select_lines ≡ record { rows = []; failure = None }
+  select_unsized =
+      all_available [] select_lines (answer_available mail x Select met q m mark)
+      ∙ ap (λ (l : List Listed). record { rows = l; failure = None }) none_listed

@@ -1,9 +1,6 @@
 -- How a POP3 session begins over the store of a keeper.
-use Rattle.std.specs.Prelude.{◌≡◌, ℕ, ◌+◌, ◌≤◌, true, false, List, [], ◌++◌, Some, codes, decimal, length, sum_by}
-use Rattle.dv_model.specs.declared.types.Mailbox.{Mailbox}
-use Rattle.dv_model.specs.declared.types.Step.TheVariants.{Full}
+use Rattle.std.specs.Prelude.{◌≡◌, ℕ, ◌+◌, ◌≤◌, false, List, [], ◌++◌, Some, codes, decimal, length, sum_by}
 use Rattle.dv_model.specs.Journals.{Log, at}
-use Rattle.dv_model.specs.Views.{empty_view, moved}
 use Rattle.dv_maildrop.specs.declared.types.Listed.{Listed}
 use Rattle.dv_maildrop.specs.Answers.{ok, stat_answer}
 use Rattle.dv_maildrop.specs.Maildrops.{Transaction, unmarked}
@@ -21,33 +18,22 @@ pub record IsQuiet (old new : Member) : Type 0 where
   pub refused : new.refused ≡ old.refused
   pub fresh : new.spent ≡ false
 
--- a session was shown the whole mailbox that it has seen
-pub record IsShown (s : Member) : Type 0 where
-  pub selected : s.follower.state.selected ≡ true
-  pub view : s.follower.state.view ≡ moved Full empty_view s.live
-
--- these are the messages that a session was shown, where the mailbox that it has seen then has them
+-- these are the messages of the mailbox that the session has seen then, which it has selected
 pub record ListsRows (start : Log) (rows : List Listed) (old new : Member) : Type 0 where
   pub place : old.seen ≤ new.seen
-  pub was_there : at (log_seen start new) old.seen ≡ Some old.live
   pub is_there : at (log_seen start new) new.seen ≡ Some new.live
-  pub are : rows ≡ listing (log_seen start new).mail new.live old.live.rows
+  pub are : rows ≡ listing (log_seen start new).mail new.live new.live.rows
   pub given : IsListing rows new.follower.state
   pub quiet : IsQuiet old new
 
--- It lists the messages of the mailbox that the session was shown behind so many entries, as the
--- mailbox has them that the session has seen then: those that are live and whole there, in the
--- order of their UIDs. Where nobody wrote in between these are all of its messages that are whole.
+-- It lists the messages of the mailbox at one place, that which the session has seen then: all that
+-- are live and whole there, in the order of their UIDs.
 pub record HasListed (start : Log) (m : Transaction) (old new : Member) : Type 0 where
-  pub place : ℕ
-  pub low : old.seen ≤ place
-  pub high : place ≤ new.seen
-  pub shown : Mailbox
-  pub was_there : at (log_seen start new) place ≡ Some shown
+  pub place : old.seen ≤ new.seen
   pub is_there : at (log_seen start new) new.seen ≡ Some new.live
   pub lists : m ≡ record {
     uid_validity = new.live.uid_validity;
-    rows = listing (log_seen start new).mail new.live shown.rows;
+    rows = listing (log_seen start new).mail new.live new.live.rows;
     marked = [];
     ended = false;
   }

@@ -34,10 +34,10 @@ impl From<NoMemory> for PopFault {
 }
 
 /// Begins a POP3 session: it lists the messages of the mailbox that a session of the store sees,
-/// each with its size, and may then be greeted (RFC 1939, section 4). Those are listed that are
-/// live and whole at one place behind all that was published, but for what others appended while
-/// they were sized; the store is asked under the lock, once, and each message is read once at most.
-/// After an error nothing was written, and the session, which is handed back, goes on.
+/// each with its size, and may then be greeted (RFC 1939, section 4). These are all that are live
+/// and whole at one place, behind all that was published, whatever others write meanwhile; the
+/// store is asked under the lock, once, and each message is read once at most. After an error
+/// nothing was written, and the session, which is handed back, goes on.
 pub fn login<S: Shelf, C: Clock, K: Keeping, L: Tally, M: Tally, R: Wait>(
     alloc: Global,
     rt: &R,

@@ -1,15 +1,14 @@
 //! The listing of a mailbox's messages when a session begins.
 
-ghost use Rattle.std.specs.Prelude.{◌≡◌, ◌≤◌, IfErr, IfOk, OnErr, OnOk, false, true};
+ghost use Rattle.std.specs.Prelude.{◌≡◌, IfErr, IfOk, false};
 ghost use mathlib.Core.List.{IsPrefix};
-ghost use Rattle.dv_member.specs.Members.{IsSession, notes_of};
+ghost use Rattle.dv_member.specs.Members.{notes_of};
 ghost use Rattle.dv_pop3.specs.Clients.{IsListing};
 ghost use Rattle.dv_pop3.specs.Listings.{fetch_sizes};
-ghost use Rattle.dv_pop3.specs.Logins.{HasListed, IsQuiet, IsShown, IsUnlisted, ListsRows};
+ghost use Rattle.dv_pop3.specs.Logins.{HasListed, IsUnlisted, ListsRows};
 
 use crate::entering::PopFault;
 use crate::sizes::Sizes;
-use dv_feed::Taken;
 use dv_keeper::Keeper;
 use dv_maildrop::{Listed, Maildrop};
 use dv_member::Session;
@@ -18,47 +17,6 @@ use dv_naming::{Keeping, Tally};
 use dv_shelf::{Clock, Shelf};
 use std::alloc::Global;
 use std::sync::Wait;
-
-// A session sees all that was published, at some moment of the call.
-fn see_all<S: Shelf, C: Clock, K: Keeping, L: Tally, M: Tally, R: Wait>(
-    rt: &R,
-    keeper: &Keeper<S, C, K, L, M>,
-    s: &mut Session<K, L, M>,
-) -> Result<(), NoMemory>
-    requires fresh { s.old.spent ≡ false }
-    ensures begins { IsPrefix (notes_of s.old) (notes_of s.new) }
-    ensures quiet { IsQuiet s.old s.new }
-    ensures caught { OnOk result (s.new.caught_up ≡ true) }
-{
-    match s.refresh()? {
-        Taken::Fresh => Ok(()),
-        Taken::Rotated => keeper.rejoin(rt, s),
-    }
-}
-
-// A session is shown the whole mailbox, as all has it that was published (RFC 3501, section 6.3.1).
-// The lines of that are dropped.
-fn show_all<S: Shelf, C: Clock, K: Keeping, L: Tally, M: Tally, R: Wait>(
-    alloc: Global,
-    rt: &R,
-    keeper: &Keeper<S, C, K, L, M>,
-    s: &mut Session<K, L, M>,
-) -> Result<(), NoMemory>
-    requires fresh { s.old.spent ≡ false }
-    ensures begins { IsPrefix (notes_of s.old) (notes_of s.new) }
-    ensures quiet { IsQuiet s.old s.new }
-    ensures shown { OnOk result (IsShown s.new) }
-    ensures later { OnOk result (s.old.seen ≤ s.new.seen) }
-    ensures session { OnOk result (IsSession K.start K.count s.new) }
-{
-    s.number();
-    see_all(rt, keeper, s)?;
-    s.number();
-    let mut lines = Sizes::new(alloc);
-    s.answer(&Command::Select, &mut lines)?;
-    s.number();
-    Ok(())
-}
 
 // A FETCH of the sizes of all messages, by their UIDs: an empty mailbox has no first number.
 fn fetch_sizes(alloc: Global) -> Result<Command, NoMemory>
@@ -78,8 +36,8 @@ fn fetch_sizes(alloc: Global) -> Result<Command, NoMemory>
     })
 }
 
-// The messages that a session was shown, as its store has them now, each read once at most. The
-// store is asked under the lock, once.
+// The messages of the mailbox that a session then sees, which it selects, each read once at most.
+// The store is asked under the lock, once.
 fn size_all<S: Shelf, C: Clock, K: Keeping, L: Tally, M: Tally, R: Wait>(
     alloc: Global,
     rt: &R,
@@ -87,19 +45,16 @@ fn size_all<S: Shelf, C: Clock, K: Keeping, L: Tally, M: Tally, R: Wait>(
     s: &mut Session<K, L, M>,
 ) -> Result<List<Listed>, PopFault>
     requires fresh { s.old.spent ≡ false }
-    requires shown { IsShown s.old }
-    requires session { IsSession K.start K.count s.old }
     ensures rows { K.honest → IfOk result (λ rows. ListsRows K.start rows s.old s.new) }
     ensures left { K.honest → IfErr result (λ fault. IsUnlisted K.count fault s.old s.new) }
     ensures begins { IsPrefix (notes_of s.old) (notes_of s.new) }
     ensures fresh { s.new.spent ≡ false }
 {
+    // What is so of each session is known before the reading and behind it.
+    s.number();
     let command = fetch_sizes(alloc)?;
-    if s.refuse(&command).is_some() {
-        return Err(PopFault::NoMemory);
-    }
     let mut sizes = Sizes::new(alloc);
-    keeper.mail(rt, s, &command, &mut sizes)?;
+    keeper.select_and_read(rt, s, &command, &mut sizes)?;
     s.number();
     let (rows, failure) = sizes.into_parts();
     match failure {
@@ -108,8 +63,8 @@ fn size_all<S: Shelf, C: Clock, K: Keeping, L: Tally, M: Tally, R: Wait>(
     }
 }
 
-/// The maildrop of a session's mailbox, as the session has it then, which has selected it. After an
-/// error the session goes on.
+/// The maildrop of the mailbox that a session then sees, which it has selected. After an error the
+/// session goes on.
 pub(crate) fn list_all<S: Shelf, C: Clock, K: Keeping, L: Tally, M: Tally, R: Wait>(
     alloc: Global,
     rt: &R,
@@ -124,7 +79,6 @@ pub(crate) fn list_all<S: Shelf, C: Clock, K: Keeping, L: Tally, M: Tally, R: Wa
     ensures begins { IsPrefix (notes_of s.old) (notes_of s.new) }
     ensures fresh { s.new.spent ≡ false }
 {
-    show_all(alloc, rt, keeper, s)?;
     let rows = size_all(alloc, rt, keeper, s)?;
     let maildrop = Maildrop::new(alloc, s.live().uid_validity(), rows)?;
     Ok(maildrop)

@@ -16,7 +16,7 @@ use Rattle.dv_responses.specs.Met.{met_of}
 use Rattle.dv_serving.specs.Lines.{IsFaultLine, fault_lines}
 use Rattle.dv_shared.specs.Kept.{notes_in}
 use Rattle.dv_keeper.specs.Turns.{HasAnswered, HasTold}
-use Rattle.dv_keeper.proofs.Telling.{hold_begins, leaves_unread, unread_begins, err_taken, mail_answered, read_found, taken_more, taken_same, seen_end, told_end, unread_answered, unread_before}
+use Rattle.dv_keeper.proofs.Telling.{hold_begins, leaves_unread, unread_begins, err_taken, mail_answered, notes_stay, read_found, taken_more, taken_same, seen_end, told_end, unread_answered, unread_before}
 use Rattle.dv_keeper.proofs.Turning.{takes_by}
 use Rattle.dv_keeper.proofs.mailing.serve_mail.Goals as goal
 
@@ -41,6 +41,7 @@ returns-in_ok-finish-in-Ok-clause-read g c =
         subst (λ (x : Member). HasTold 0 x end) c.in-Ok.ensures.session (told_end kept.feed c.read_for.new.s c.finish.new.s end c.end_hold.ensures.counted turned),
       ),
       c.knows-in-Ok.ensures.settled,
+      notes_stay c.args.shared.now.kept kept c.in-Ok.ensures.stays,
     )
 
 pub returns-in_ok-finish-in-Ok-clause-turn : goal.returns-in_ok-finish-in-Ok-clause-turn
@@ -82,7 +83,7 @@ returns-in_err-finish-in-Ok-clause-begins g c =
 pub returns-in_err-met-in-Ok-clause-read : goal.returns-in_err-met-in-Ok-clause-read
 returns-in_err-met-in-Ok-clause-read g c =
     let p = err_from_is_err_and c.from_residual.result c.from_residual.ensures.1 in
-    (c.read_for.new.self.kept, Ok c.in-Ok.damaged, c.knows-in-Ok.ensures.holds, rw p.1 (unread_before (Ok c.in-Ok.damaged) c.args.s.now c.read_for.new.s c.in-Ok.ensures.session), c.knows-in-Ok.ensures.settled)
+    (c.read_for.new.self.kept, Ok c.in-Ok.damaged, c.knows-in-Ok.ensures.holds, rw p.1 (unread_before (Ok c.in-Ok.damaged) c.args.s.now c.read_for.new.s c.in-Ok.ensures.session), c.knows-in-Ok.ensures.settled, notes_stay c.args.shared.now.kept c.read_for.new.self.kept c.in-Ok.ensures.stays)
 
 pub returns-in_err-met-in-Ok-clause-turn : goal.returns-in_err-met-in-Ok-clause-turn
 returns-in_err-met-in-Ok-clause-turn g c h =
@@ -98,7 +99,7 @@ pub returns-in_err-finish-in-Ok-clause-read : goal.returns-in_err-finish-in-Ok-c
 returns-in_err-finish-in-Ok-clause-read g c =
     let p = err_from_is_err_and c.from_residual-in_err-finish-in-Ok.result c.from_residual-in_err-finish-in-Ok.ensures.1 in
     let before = subst (λ (x : Member). IsAsBefore x c.finish.new.s) c.in-Ok.ensures.session c.in_err-finish-in-Ok.ensures.err in
-    (c.read_for.new.self.kept, Ok c.in-Ok.damaged, c.knows-in-Ok.ensures.holds, rw p.1 before, c.knows-in-Ok.ensures.settled)
+    (c.read_for.new.self.kept, Ok c.in-Ok.damaged, c.knows-in-Ok.ensures.holds, rw p.1 before, c.knows-in-Ok.ensures.settled, notes_stay c.args.shared.now.kept c.read_for.new.self.kept c.in-Ok.ensures.stays)
 
 pub returns-in_err-finish-in-Ok-clause-turn : goal.returns-in_err-finish-in-Ok-clause-turn
 returns-in_err-finish-in-Ok-clause-turn g c h =
@@ -131,6 +132,7 @@ returns-in-Err-clause-read g c = (
   leaves_unread (List ℕ) (notes_in c.read_for.new.self.kept) c.in-Err.fault c.args.s.now c.read_for.new.s c.take_line.result c.in-Err.ensures.session c.in-Err.ensures.err
       (on_ok_weaker c.take_line.result (λ (x : (c.take_line.new.replies ≡ g.R.Replies.with c.cut.new.self (fault_lines c.in-Err.fault)) × IsFaultLine c.in-Err.fault (fault_lines c.in-Err.fault)). x.1) c.take_line.ensures.said),
   c.knows-in-Err.ensures.settled,
+  notes_stay c.args.shared.now.kept c.read_for.new.self.kept c.in-Err.ensures.stays,
 )
 
 pub returns-in-Err-clause-turn : goal.returns-in-Err-clause-turn
