@@ -1,5 +1,5 @@
 -- What a session is told by a SELECT, and by a reading behind it.
-use Rattle.std.proofs.Common.{◌≡◌, ◌∙◌, ◌⊎◌, inl, inr, ℕ, true, List, [], ◌++◌, Result, Ok, Err, ap, length, refl, subst, sym}
+use Rattle.std.proofs.Common.{◌≡◌, ◌∙◌, ◌⊎◌, inl, inr, ℕ, true, List, [], ◌++◌, Result, Ok, Err, ap, length, refl, sym}
 use Rattle.std.specs.Prelude.{IfOk}
 use Rattle.dv_model.specs.declared.memory.NoMemory.{NoMemory}
 use Rattle.dv_model.specs.declared.types.Command.{Command}

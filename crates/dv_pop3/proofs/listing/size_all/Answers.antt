@@ -1,8 +1,8 @@
-use Rattle.std.proofs.Common.{◌≡◌, ◌∙◌, List, None, Some, rules, subst}
+use Rattle.std.proofs.Common.{◌≡◌, List, None, Some, refl, rules, subst}
 use Rattle.std.proofs.lemmas.Result.{err_from_is_err_and}
 use Rattle.dv_maildrop.specs.declared.types.Listed.{Listed}
-use Rattle.dv_model.specs.Sessions.{State}
 use Rattle.dv_shared.specs.Kept.{notes_in}
+use Rattle.dv_pop3.specs.Listings.{fetch_sizes}
 use Rattle.dv_pop3.specs.Logins.{ListsRows}
 use Rattle.dv_pop3.proofs.Later.{none_refused}
 use Rattle.dv_pop3.proofs.Listed.{sizes_failed, sizes_listed, taken_sizes}
