@@ -154,7 +154,7 @@ module _ (start : Log) (count : ℕ) (old new : Member) (session : IsSession sta
           are = ap (λ (s : Sizing). s.rows) taken;
           given = subst (λ (rows : List Listed). IsListing rows new.follower.state) (sym (ap (λ (s : Sizing). s.rows) taken)) gives;
           quiet = quiet_more old has.shown new quiet (record {
-            number = (reader_stays has.notes has.came has.shown new (Ok tt) has.reads).0;
+            number = (reader_stays {E = NoMemory} has.notes has.came has.shown new (Ok tt) has.reads).0;
             wrote = read.wrote;
             refused = read.refused;
             fresh = fresh_new;
@@ -182,7 +182,7 @@ sizes_listed start count s old new has fine = by has.is
   where
     by : ((k : ℕ) × (s.failure ≡ Some k) × IsFailure count k old new × (new.wrote ≡ old.wrote)) ⊎ ((s.failure ≡ None) × ListsRows start s.rows old new) → ListsRows start s.rows old new
     by (inl (k, is, failure, wrote)) = absurd (let both : Some k ≡ None = sym is ∙ fine in cc)
-    by (inr (none, lists)) = lists
+    by (inr (_, lists)) = lists
 
 -- as the call has it: the replies were taken
 pub taken_sizes : (start : Log) (count : ℕ) (old new : Member) → IsSession start count old → IsSession start count new → old.spent ≡ false → new.spent ≡ false → IsPrefix (notes_of old) (notes_of new)

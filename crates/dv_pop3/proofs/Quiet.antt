@@ -1,5 +1,5 @@
 -- A session that wrote nothing, and was refused nothing.
-use Rattle.std.proofs.Common.{◌≡◌, ◌⊎◌, inl, inr, ℕ, ◌+◌, false, List, Result, Ok, Err, refl, ap, subst, sym, ◌∙◌, arith}
+use Rattle.std.proofs.Common.{◌≡◌, inl, inr, ℕ, ◌+◌, false, List, Result, Ok, Err, refl, ap, subst, sym, ◌∙◌, arith}
 use Rattle.dv_model.specs.declared.memory.NoMemory.{NoMemory}
 use Rattle.dv_model.specs.declared.types.Reply.{Reply}
 use Rattle.dv_model.specs.Journals.{Log}
@@ -9,7 +9,6 @@ use Rattle.dv_keeper.specs.Sessions.{HasRejoined}
 use Rattle.dv_member.specs.Calls.{IsAsBefore}
 use Rattle.dv_member.specs.Members.{Member}
 use Rattle.dv_plans.specs.declared.fault.StoreFault.{StoreFault}
-use Rattle.dv_pop3.specs.declared.entering.PopFault.{PopFault}
 use Rattle.dv_pop3.specs.declared.entering.PopFault.TheVariants as fault
 use Rattle.dv_pop3.specs.Findings.{IsHeld}
 use Rattle.dv_pop3.specs.Logins.{IsQuiet, IsUnlisted}
@@ -70,5 +69,5 @@ module _ (count : ℕ) where
     pub left_fresh : (result : Result (Unit {0}) NoMemory) → LeavesSelected start count notes came old new result → new.spent ≡ false
     left_fresh (Ok done) left =
         let quiet = quiet_selected start count notes left.lines old left.shown left.selected fresh in
-        reader_fresh notes came left.shown new (Ok done) left.reads ∙ quiet.fresh
+        reader_fresh {E = NoMemory} notes came left.shown new (Ok done) left.reads ∙ quiet.fresh
     left_fresh (Err e) left = (left_unlisted e left).4
