@@ -284,7 +284,7 @@ module _ (m after : Mailbox) (place : Place) (is : IsPlace place) (uid : m.next_
       let test : nat_lt id id ≡ false = grind (arith, nat_tests) in
       subst (λ (b : Bool). option_and_then (λ n. applied n (rest id uid place after)) (option_map (stamped m.rows) (cond b None (Some (with_row (with_higher m) (record { uid = id; flags = 0 }))))) ≡ Some after) test gives
 
-  pub saved_own : m.extensions ≡ map_extensions → IsValid m → applied m (save_records id place) ≡ Some after → IsSaved
+  saved_own : m.extensions ≡ map_extensions → IsValid m → applied m (save_records id place) ≡ Some after → IsSaved
   saved_own own valid gives =
       let one : Mailbox = stamped m.rows (with_row (with_higher m) (record { uid = id; flags = 0 })) in
       let is_one = appended_is m map_extensions own one refl in
@@ -298,6 +298,10 @@ module _ (m after : Mailbox) (place : Place) (is : IsPlace place) (uid : m.next_
       let start : keys m.rows ≡ [] = ap keys no_rows in
       let last = new_rest id uid place after one is_one.1 (is_one.2 ∙ ap (λ (ks : List Key). ks ++ (id, []) ∷ []) start) (appended gives) in
       record { next = last.next ∙ is_one.0; extensions = last.extensions; rows = last.rows ∙ ap (λ (ks : List Key). ks ++ made_key ∷ []) (sym start) }
+
+  -- in either case
+  pub map_saved : IsMap m → IsValid m → applied m (save_records id place) ≡ Some after → IsSaved
+  map_saved map_is valid gives = ⊎_elim (λ own. saved_own own valid gives) (λ none. saved_new none.0 none.1 gives) map_is
 
   -- the old items by keys, in either case
   old_by : IsMap m → (messages : Messages) → map (item_of messages m) m.rows ≡ each (key_item messages) (keys m.rows)
@@ -337,5 +341,5 @@ module _ (m after : Mailbox) (place : Place) (is : IsPlace place) (uid : m.next_
 pub saves_are : SavesAre
 saves_are m after place map_is valid low is gives =
     let uid : m.next_uid < 2 ^ 32 = omega (arith, low) in
-    let saved : IsSaved m after place is uid = ⊎_elim (λ own. saved_own m after place is uid own valid gives) (λ none. saved_new m after place is uid none.0 none.1 gives) map_is in
+    let saved : IsSaved m after place is uid = map_saved m after place is uid map_is valid gives in
     saves_by m after place is uid map_is (below_of m m.rows valid.rows) saved

@@ -115,7 +115,7 @@ SavesAreWritten =
 abbrev pub HasPlaces : Mailbox → List Place → Type 0
 HasPlaces m places = (m.extensions ≡ map_extensions) × (places_of m ≡ places)
 
--- A copy and a drop leave all places of a map with rows, and a save adds one behind them.
+-- A copy and a drop leave all places of a map with rows, and a save adds one behind those of a map.
 pub record PlacesAre : Type 0 where
   pub counts : (m after : Mailbox) (id count : ℕ)
       → m.extensions ≡ map_extensions
@@ -123,7 +123,7 @@ pub record PlacesAre : Type 0 where
       → applied m (count_records id count) ≡ Some after
       → HasPlaces after (places_of m)
   pub saves : (m after : Mailbox) (place : Place)
-      → m.extensions ≡ map_extensions
+      → IsMap m
       → IsValid m
       → IsPlace place
       → applied m (save_records m.next_uid place) ≡ Some after

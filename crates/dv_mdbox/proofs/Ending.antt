@@ -1,6 +1,6 @@
 -- The end of the last file stays known.
-use Rattle.std.proofs.Common.{◌≡◌, ℕ, List, [], ◌∷◌, map, Option, Some, None, refl, sym, ◌∙◌, ap, subst, arith}
-use Rattle.std.specs.Prelude.{All, Contains}
+use Rattle.std.proofs.Common.{◌≡◌, ℕ, List, [], ◌∷◌, map, Option, Some, None, Result, Ok, Err, refl, sym, ◌∙◌, ap, subst, arith}
+use Rattle.std.specs.Prelude.{All, Contains, IsSomeAnd, OnErr, OnOk}
 use Rattle.std.proofs.lemmas.List.Elements.{All-cons, All-contains, All-contains_itself, All-head, All-map, All-nil, All-push, All-tail, All-weaker, Contains-push}
 use Rattle.dv_model.specs.declared.types.Mailbox.{Mailbox}
 use Rattle.dv_model.specs.declared.types.Record.{Record}
@@ -8,7 +8,7 @@ use Rattle.dv_model.specs.Mailboxes.{IsValid}
 use Rattle.dv_model.specs.Effects.{applied}
 use Rattle.dv_maps.specs.declared.place.Place.{Place}
 use Rattle.dv_maps.specs.Groups.{count_records, save_records}
-use Rattle.dv_maps.specs.Laws.{IsPlace, PlacesAre}
+use Rattle.dv_maps.specs.Laws.{IsMap, IsPlace, PlacesAre}
 use Rattle.dv_maps.specs.Maps.{places_of, row_place}
 use Rattle.dv_mdbox.specs.declared.tails.Tail.{Tail}
 use Rattle.dv_mdbox.specs.Tails.{IsBefore, IsEndBehind, IsFreeFrom, IsTail, KeepsEnd, KeepsEndBehind, end_of}
@@ -81,3 +81,13 @@ module _ (law : PlacesAre) (m : Mailbox) (valid : IsValid m) (records : List Rec
             (subst (λ (places : List Place). EndsAt places t) (sym made.1)
             (record { each = All-push (IsBefore t) (places_of m) place old new; reached = (place, Contains-push (places_of m) place, sym file, sym end) })),
       )
+
+-- in a map it is known
+pub end_known : (m after : Mailbox) (place : Place) (tail : Option Tail) → IsEndBehind m place tail → KeepsEnd after tail → IsMap m → IsSomeAnd tail (IsTail after after.rows)
+end_known m after place None behind keeps is = absurd (behind is)
+end_known m after place (Some t) behind keeps is = keeps.1
+
+-- what stays either way stays
+pub tail_stays : (old new tail : Option Tail) {T E : Type 0} (result : Result T E) → tail ≡ old → OnOk result (new ≡ tail) → OnErr result (new ≡ old) → new ≡ old
+tail_stays old new tail (Ok x) same ok err = ok ∙ same
+tail_stays old new tail (Err e) same ok err = err

@@ -58,7 +58,7 @@ pub looks_itself : {S : Type 0} (sees : SeesFolder S) (s : S) → ((c : Folder) 
 looks_itself sees s now = record { same = refl; crash = λ c left. left; since = started sees s (sees.may_leave s) now }
 
 pub looked_itself : {S C : Type 0} (s : State S C) → IsLookedAt s s
-looked_itself s = record { clock = refl; chain = refl; owed = refl; start = refl; entries = refl; mark = refl }
+looked_itself s = record { clock = refl; chain = refl; owed = refl; start = refl; entries = refl; mark = refl; tail = refl }
 
 module _ {S C : Type 0} (sees : SeesFolder S) (messages : Messages) (debt : Owed) (message : List ℕ) (old : State S C) (mid : S) (looks : OnlyLooks sees old.shelf mid) (rest : IsAtRest sees messages debt old) where
   abbrev looked : State S C

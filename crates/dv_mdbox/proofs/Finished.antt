@@ -37,6 +37,7 @@ looked_both old mid new one two = record {
   start = two.start ∙ one.start;
   entries = two.entries ∙ one.entries;
   mark = two.mark ∙ one.mark;
+  tail = two.tail ∙ one.tail;
 }
 
 -- ---- the map

@@ -9,6 +9,7 @@ pub mod Torn
 pub mod Saved
 pub mod Tailing
 pub mod Ending
+pub mod Going
 pub mod Finding
 pub mod Thinning
 pub mod Stepping

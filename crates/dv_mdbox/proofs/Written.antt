@@ -29,6 +29,7 @@ use Rattle.dv_filing.specs.Standing.{Fits, Gives, MayGive, Stands}
 use Rattle.dv_filing.specs.Writes.{CarriesOut, IsWriteOf, KeepsThrough, KeepsUnnamed, MayGiveWrite, StandsLeft, WritesStorage}
 use Rattle.dv_filing.proofs.Resting.{rests_give}
 use Rattle.dv_maps.specs.Texts.{Messages}
+use Rattle.dv_mdbox.specs.declared.tails.Tail.{Tail}
 use Rattle.dv_mdbox.specs.Readying.{IsReadyFor}
 use Rattle.dv_mdbox.specs.States.{StandsAt, State}
 use Rattle.dv_mdbox.specs.Writes.{KeepsMails, MayGiveCall, WritesGroup, WritesQuietly, begin_of, entry_of, mark_after}
@@ -85,9 +86,9 @@ module _ {S C : Type 0} (records : List Record) (old : State S C) (chain : Chain
 
   module _ (files : Files) (text : List ℕ) (steps : Steps) (is : IsReadyFor old.owed chain records files text steps) (applies : IsSome (applied old.chain.live.mailbox records)) (left : Option Turn) (next : Chain) (shelf : S) where
     -- the group was written
-    pub group_written : {E F : Type 0} (done : Committed) (entries : List Entry) → StandsAt old.mark (place_of old.chain) old.owed → entries ≡ old.entries ++ entry_of records ∷ [] → CarriesOut old.owed left text steps chain next {E = E} (Ok done)
-        → WritesGroup records old (record old { shelf = shelf; chain = next; owed = left; mark = done.mark; entries = entries }) {T = Unit {0}} {E = F} (Ok tt)
-    group_written done entries stands added value =
+    pub group_written : {E F : Type 0} (done : Committed) (entries : List Entry) (tail : Option Tail) → StandsAt old.mark (place_of old.chain) old.owed → entries ≡ old.entries ++ entry_of records ∷ [] → CarriesOut old.owed left text steps chain next {E = E} (Ok done)
+        → WritesGroup records old (record old { shelf = shelf; chain = next; owed = left; mark = done.mark; entries = entries; tail = tail }) {T = Unit {0}} {E = F} (Ok tt)
+    group_written done entries tail stands added value =
         let here = marked_equal old.mark chain old.chain old.owed same stands in
         record {
           map = map_written records old.owed left old.chain chain same files text steps is applies next done value;

@@ -91,6 +91,11 @@ FindsRoom chain size (Err other) = ⊥
 abbrev pub TakesUpTo : ℕ → (ℕ → ℕ) → (ℕ → ℕ) → Type 0
 TakesUpTo n old new = (new ≡ old) ⊎ (new ≡ behind old n)
 
+-- an id is left, and the group that gives it out has room
+pub record HasNext (chain : Chain) : Type 0 where
+  pub left : chain.live.mailbox.next_uid < end_of_uids
+  pub room : HasRoom chain 120
+
 -- an id is left, and the message and its group have room
 pub record IsShort (m : Mailbox) (chain : Chain) (size : ℕ) : Type 0 where
   pub left : m.next_uid < end_of_uids

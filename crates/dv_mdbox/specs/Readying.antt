@@ -5,9 +5,12 @@ use Rattle.dv_model.specs.declared.types.Record.{Record}
 use Rattle.dv_model.specs.Effects.{applied}
 use Rattle.dv_model.specs.Sessions.{group_limit}
 use Rattle.dv_model.specs.Spelling.{written}
+use Rattle.dv_shelf.specs.Sees.{SeesFolder}
 use Rattle.dv_chain.specs.declared.chain.Chain.{Chain}
+use Rattle.dv_chain.specs.Openings.{OnlyLooks}
 use Rattle.dv_chain.specs.Rest.{IsPending}
 use Rattle.dv_plans.specs.Begins.{turns}
+use Rattle.dv_plans.specs.Counts.{CountsReads}
 use Rattle.dv_rotation.specs.declared.texts.Turn.{Turn}
 use Rattle.dv_writing.specs.Ways.{ready}
 use Rattle.dv_filing.specs.declared.steps.Files.{Files}
@@ -34,3 +37,8 @@ pub record IsReadyFor (owed : Option Turn) (chain : Chain) (records : List Recor
       → IsPending text after (ready owed steps.turn chain)
   pub size : length text ≡ length (flat_map written records) + 4
   pub due : is_some steps.turn ≡ turns owed chain
+
+-- nothing is changed, and no message file is read
+pub record LooksAtLog {S : Type 0} (sees : SeesFolder S) (old new : S) : Type 0 where
+  pub changes : sees.tells → OnlyLooks sees old new
+  pub mail_reads : CountsReads 0 (sees.mail_reads old) (sees.mail_reads new)

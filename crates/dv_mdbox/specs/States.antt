@@ -12,9 +12,11 @@ use Rattle.dv_shelf.specs.Sees.{SeesFolder}
 use Rattle.dv_filing.specs.Standing.{Fits, Stands}
 use Rattle.dv_maps.specs.Laws.{IsMap}
 use Rattle.dv_maps.specs.Texts.{Messages}
+use Rattle.dv_mdbox.specs.declared.tails.Tail.{Tail}
 
 -- the folder, the clock, the map at the end of its log, the turn of a rotation whose last replace
--- is owed, the place where the log ended at first, the groups since then, and the place behind them
+-- is owed, the place where the log ended at first, the groups since then, the place behind them, and
+-- the end of the last message file, where it is known
 pub record State (S C : Type 0) : Type 0 where
   pub shelf : S
   pub clock : C
@@ -23,6 +25,7 @@ pub record State (S C : Type 0) : Type 0 where
   pub start : Mark
   pub entries : List Entry
   pub mark : Mark
+  pub tail : Option Tail
 
 -- ---- the place behind the groups
 
@@ -44,7 +47,8 @@ StandsAt mark place owed =
 
 -- ---- at first
 
--- just opened: no turn is owed, and no group came since the log's end
+-- just opened: no turn is owed, no group came since the log's end, and the end of the last file
+-- isn't looked for
 abbrev pub fresh_state : {S C : Type 0} → S → C → Chain → State S C
 fresh_state shelf clock chain = record {
   shelf = shelf;
@@ -54,15 +58,16 @@ fresh_state shelf clock chain = record {
   start = place_of chain;
   entries = [];
   mark = place_of chain;
+  tail = None;
 }
 
 -- a state is stored as the tuple of its fields
 abbrev pub state_code : {S C : Type 0} → Coded S → Coded C → Coded Chain → Coded (Option Turn)
-    → Coded Mark → Coded (List Entry) → Coded (State S C)
-state_code {S} {C} shelf clock chain owed mark entries =
-    code_by (S × (C × (Chain × (Option Turn × (Mark × (List Entry × Mark))))))
-    (coded× shelf (coded× clock (coded× chain (coded× owed (coded× mark (coded× entries mark))))))
-    (λ s. (s.shelf, (s.clock, (s.chain, (s.owed, (s.start, (s.entries, s.mark)))))))
+    → Coded Mark → Coded (List Entry) → Coded (Option Tail) → Coded (State S C)
+state_code {S} {C} shelf clock chain owed mark entries tail =
+    code_by (S × (C × (Chain × (Option Turn × (Mark × (List Entry × (Mark × Option Tail)))))))
+    (coded× shelf (coded× clock (coded× chain (coded× owed (coded× mark (coded× entries (coded× mark tail)))))))
+    (λ s. (s.shelf, (s.clock, (s.chain, (s.owed, (s.start, (s.entries, (s.mark, s.tail))))))))
     (λ p. record {
       shelf = p.0;
       clock = p.1.0;
@@ -70,7 +75,8 @@ state_code {S} {C} shelf clock chain owed mark entries =
       owed = p.1.1.1.0;
       start = p.1.1.1.1.0;
       entries = p.1.1.1.1.1.0;
-      mark = p.1.1.1.1.1.1;
+      mark = p.1.1.1.1.1.1.0;
+      tail = p.1.1.1.1.1.1.1;
     })
     (λ _. refl)
 
@@ -91,3 +97,4 @@ module _ {S C : Type 0} where
     pub start : new.start ≡ old.start
     pub entries : new.entries ≡ old.entries
     pub mark : new.mark ≡ old.mark
+    pub tail : new.tail ≡ old.tail

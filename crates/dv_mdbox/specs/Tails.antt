@@ -8,7 +8,7 @@ use Rattle.dv_shelf.specs.declared.shelf.Name.{Name}
 use Rattle.dv_shelf.specs.declared.shelf.Name.TheVariants as name
 use Rattle.dv_shelf.specs.Folders.{Folder, Lists}
 use Rattle.dv_maps.specs.declared.place.Place.{Place}
-use Rattle.dv_maps.specs.Laws.{map_extensions}
+use Rattle.dv_maps.specs.Laws.{IsMap, map_extensions}
 use Rattle.dv_maps.specs.Maps.{row_place}
 use Rattle.dv_mdbox.specs.declared.fault.StorageFault.{StorageFault}
 use Rattle.dv_mdbox.specs.declared.fault.StorageFault.TheVariants as fault
@@ -45,11 +45,10 @@ abbrev pub KeepsEndBehind : Mailbox → List Record → Option Tail → Type 0
 KeepsEndBehind m records tail =
     (after : Mailbox) → applied m records ≡ Some after → KeepsEnd after tail
 
--- it is the end of a text at this place, where the map has the extensions
+-- it is the end of a text at this place, where the mailbox is a map
 abbrev pub IsEndBehind : Mailbox → Place → Option Tail → Type 0
-IsEndBehind m place None = ⊤
-IsEndBehind m place (Some t) =
-    (m.extensions ≡ map_extensions) × (t.file ≡ place.file) × (t.end ≡ end_of place)
+IsEndBehind m place None = IsMap m → ⊥
+IsEndBehind m place (Some t) = IsMap m × (t.file ≡ place.file) × (t.end ≡ end_of place)
 
 -- the tail with one place more
 pub record Extends (tail : Option Tail) (place : Place) (t : Tail) : Type 0 where

@@ -1,5 +1,5 @@
 -- What the write of a group does to a storage. The records take what a shelf shows.
-use Rattle.std.specs.Prelude.{◌≡◌, ◌⊎◌, ◌||◌, ℕ, ◌+◌, true, List, [], ◌∷◌, ◌++◌, Option, Some, is_some, Result, Ok, Err, OnErr, OnOk}
+use Rattle.std.specs.Prelude.{◌≡◌, ◌⊎◌, ◌||◌, ℕ, ◌+◌, true, List, [], ◌∷◌, ◌++◌, IsSomeAnd, Option, Some, is_some, Result, Ok, Err, OnErr, OnOk}
 use Rattle.dv_model.specs.declared.types.Entry.{Entry}
 use Rattle.dv_model.specs.declared.types.Mailbox.{Mailbox}
 use Rattle.dv_model.specs.declared.types.Mark.{Mark}
@@ -13,6 +13,7 @@ use Rattle.dv_shelf.specs.Sees.{SeesFolder}
 use Rattle.dv_chain.specs.declared.chain.Chain.{Chain}
 use Rattle.dv_chain.specs.Rest.{Nothing, Owed, Pending, next_mark}
 use Rattle.dv_plans.specs.Begins.{beginning, turns}
+use Rattle.dv_plans.specs.Counts.{CountsReads}
 use Rattle.dv_rotation.specs.declared.texts.Turn.{Turn}
 use Rattle.dv_rotation.specs.Texts.{place_of}
 use Rattle.dv_filing.specs.declared.steps.Files.{Files}
@@ -23,9 +24,11 @@ use Rattle.dv_filing.specs.Ways.{IsOwedOnWay}
 use Rattle.dv_filing.specs.Writes.{IsLeftOwed, StandsLeft}
 use Rattle.dv_maps.specs.declared.place.Place.{Place}
 use Rattle.dv_maps.specs.Groups.{save_records}
-use Rattle.dv_maps.specs.Laws.{Counts, Saves}
+use Rattle.dv_maps.specs.Laws.{Counts, IsMap, Saves}
 use Rattle.dv_maps.specs.Texts.{Messages, with_message}
+use Rattle.dv_mdbox.specs.declared.tails.Tail.{Tail}
 use Rattle.dv_mdbox.specs.States.{IsAtRest, State}
+use Rattle.dv_mdbox.specs.Tails.{IsTail}
 
 -- where a group begins: at the log's end, or at the first place of the next file
 abbrev pub begin_of : Option Turn → Chain → Mark
@@ -89,6 +92,15 @@ module _ {S C : Type 0} where
       WritesQuietly sees messages next debt after size old new result
       × KeepsMails files (sees.files old.shelf) (sees.files new.shelf)
 
+  -- Beside its group a write reads neither the clock nor a message file. Behind Ok the end of the
+  -- last file is the given one, and an error keeps the one from before.
+  pub record KeepsBeside (sees : SeesFolder S) (tail : Option Tail) (old new : State S C)
+      {T E : Type 0} (result : Result T E) : Type 0 where
+    pub clock : new.clock ≡ old.clock
+    pub mail_reads : CountsReads 0 (sees.mail_reads old.shelf) (sees.mail_reads new.shelf)
+    pub ok : OnOk result (new.tail ≡ tail)
+    pub err : OnErr result (new.tail ≡ old.tail)
+
   -- ---- the count of an id
 
   -- From rest to rest: behind Ok the storage has the new count, and nothing is owed; behind an
@@ -106,6 +118,18 @@ module _ {S C : Type 0} where
         (MayGiveCall messages messages debt after 48 old.owed old.chain)
 
   -- ---- a message that is saved
+
+  -- the end of the last file is known, so that the next message needs no look at the map's rows
+  abbrev pub KnowsEnd : State S C → Type 0
+  KnowsEnd s = IsSomeAnd s.tail (IsTail s.chain.live.mailbox s.chain.live.mailbox.rows)
+
+  -- A save goes by its message: no message file is read, and behind Ok the end of the last file is
+  -- known, where the mailbox is a map. An error keeps what was known of it.
+  pub record GoesByMessage (sees : SeesFolder S) (old new : State S C) {T E : Type 0}
+      (result : Result T E) : Type 0 where
+    pub mail_reads : CountsReads 0 (sees.mail_reads old.shelf) (sees.mail_reads new.shelf)
+    pub known : OnOk result (IsMap old.chain.live.mailbox → KnowsEnd new)
+    pub kept : OnErr result (new.tail ≡ old.tail)
 
   -- behind Ok the map has the records of a save, at some place; an error keeps map, entries and
   -- mark

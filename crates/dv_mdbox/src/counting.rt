@@ -4,6 +4,7 @@ ghost use Rattle.std.specs.Prelude.{◌≡◌, ◌+◌, ◌-◌, ◌<◌, None, 
 ghost use Rattle.dv_logfile.specs.Settling.{StaysSettled};
 ghost use Rattle.dv_chain.specs.Rest.{Owed};
 ghost use Rattle.dv_plans.specs.Begins.{count_of, turns};
+ghost use Rattle.dv_plans.specs.Counts.{CountsReads};
 ghost use Rattle.dv_maps.specs.Groups.{count_records as records_of};
 ghost use Rattle.dv_maps.specs.Texts.{Messages};
 ghost use Rattle.dv_mdbox.specs.Answers.{ChangesCount, FindsRoom, HasStorageCause, IsReferenced, OnRefused, TakesUpTo};
@@ -35,6 +36,10 @@ impl<S: Shelf, C: Clock> Storage<S, C> {
             change old ≡ count → IsAtRest S.sees messages debt self.old →
             CountsQuietly S.sees messages debt id change self.old self.new result }
         ensures settled { S.sees.tells → StaysSettled S.sees self.old.shelf self.new.shelf }
+        // No message file is read, and what is known of the end of the last one stays.
+        ensures mail_reads { CountsReads 0 (S.sees.mail_reads self.old.shelf)
+            (S.sees.mail_reads self.new.shelf) }
+        ensures tail { self.new.tail ≡ self.old.tail }
         // The clock is read where the log is rotated; a fault of the disk has its cause.
         ensures clock { C.sees.tells → TakesUpTo (count_of (turns self.old.owed self.old.chain))
             (C.sees.upcoming self.old.clock) (C.sees.upcoming self.new.clock) }
@@ -77,6 +82,10 @@ impl<S: Shelf, C: Clock> Storage<S, C> {
             IsAtRest S.sees messages debt self.old →
             CountsQuietly S.sees messages debt id (λ n. n + 1) self.old self.new result }
         ensures settled { S.sees.tells → StaysSettled S.sees self.old.shelf self.new.shelf }
+        // No message file is read, and what is known of the end of the last one stays.
+        ensures mail_reads { CountsReads 0 (S.sees.mail_reads self.old.shelf)
+            (S.sees.mail_reads self.new.shelf) }
+        ensures tail { self.new.tail ≡ self.old.tail }
         // The clock is read where the log is rotated; a fault of the disk has its cause.
         ensures clock { C.sees.tells → TakesUpTo (count_of (turns self.old.owed self.old.chain))
             (C.sees.upcoming self.old.clock) (C.sees.upcoming self.new.clock) }
@@ -113,6 +122,10 @@ impl<S: Shelf, C: Clock> Storage<S, C> {
             IsAtRest S.sees messages debt self.old →
             CountsQuietly S.sees messages debt id (λ n. n - 1) self.old self.new result }
         ensures settled { S.sees.tells → StaysSettled S.sees self.old.shelf self.new.shelf }
+        // No message file is read, and what is known of the end of the last one stays.
+        ensures mail_reads { CountsReads 0 (S.sees.mail_reads self.old.shelf)
+            (S.sees.mail_reads self.new.shelf) }
+        ensures tail { self.new.tail ≡ self.old.tail }
         // The clock is read where the log is rotated; a fault of the disk has its cause.
         ensures clock { C.sees.tells → TakesUpTo (count_of (turns self.old.owed self.old.chain))
             (C.sees.upcoming self.old.clock) (C.sees.upcoming self.new.clock) }

@@ -6,13 +6,14 @@ ghost use Rattle.dv_model.specs.Spelling.{IsRecord};
 ghost use Rattle.dv_chain.specs.Openings.{OnlyLooks};
 ghost use Rattle.dv_apply.specs.Preparing.{Makes};
 ghost use Rattle.dv_plans.specs.Begins.{turns};
+ghost use Rattle.dv_plans.specs.Counts.{CountsReads};
 ghost use Rattle.dv_rotation.specs.Leavings.{HasFaultCause};
 ghost use Rattle.dv_rotation.specs.Texts.{ClosesLog, IsTurnOf};
 ghost use Rattle.dv_writing.specs.Opening.{AreEqual};
 ghost use Rattle.dv_writing.specs.Repairing.{IsOwing};
 ghost use Rattle.dv_filing.specs.Files.{HasRoom};
 ghost use Rattle.dv_mdbox.specs.Answers.{HasStorageCause, IsFailure};
-ghost use Rattle.dv_mdbox.specs.Readying.{IsGroupFor, IsReadyFor};
+ghost use Rattle.dv_mdbox.specs.Readying.{IsGroupFor, IsReadyFor, LooksAtLog};
 ghost use Rattle.std.specs.Prelude.{IfErr};
 
 use crate::StorageFault;
@@ -65,6 +66,7 @@ fn turn_at<S: Shelf>(
     ensures closes { S.sees.tells → IfOk result (λ made. IfSome made
         (λ turn. ClosesLog chain.now turn (S.sees.files shelf.old))) }
     ensures looks { S.sees.tells → OnlyLooks S.sees shelf.old shelf.new }
+    ensures mail_reads { CountsReads 0 (S.sees.mail_reads shelf.old) (S.sees.mail_reads shelf.new) }
     ensures cause { HasFaultCause (S.sees.fault_count shelf.old) (S.sees.fault_count shelf.new)
         result }
 {
@@ -96,7 +98,7 @@ pub(crate) fn make_ready<S: Shelf>(
     ensures closes { S.sees.tells → IfOk result (λ r. IfSome r.steps.turn
         (λ turn. ClosesLog chain.new turn (S.sees.files shelf.old))) }
     // Nothing is changed; a fault has its cause.
-    ensures looks { S.sees.tells → OnlyLooks S.sees shelf.old shelf.new }
+    ensures looks { LooksAtLog S.sees shelf.old shelf.new }
     ensures err { IfErr result IsFailure }
     ensures cause { HasStorageCause (S.sees.fault_count shelf.old) (S.sees.fault_count shelf.new)
         result }

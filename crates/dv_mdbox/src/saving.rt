@@ -9,11 +9,11 @@ ghost use Rattle.dv_dbox.specs.Mails.{mail_in};
 ghost use Rattle.dv_plans.specs.Begins.{turns};
 ghost use Rattle.dv_maps.specs.Groups.{save_records as records_of};
 ghost use Rattle.dv_maps.specs.Texts.{Messages};
-ghost use Rattle.dv_mdbox.specs.Answers.{AnswersSave, HasRoom, HasStorageCause, IsFailure, OnRefused};
+ghost use Rattle.dv_mdbox.specs.Answers.{AnswersSave, HasNext, HasStorageCause, IsFailure, OnRefused};
 ghost use Rattle.dv_chain.specs.Openings.{OnlyLooks};
 ghost use Rattle.dv_mdbox.specs.States.{IsAtRest, IsLookedAt};
 ghost use Rattle.dv_mdbox.specs.Tails.{IsFreeFrom, IsPlaceFor};
-ghost use Rattle.dv_mdbox.specs.Writes.{SavesGroup, SavesQuietly, WritesGroup};
+ghost use Rattle.dv_mdbox.specs.Writes.{GoesByMessage, SavesGroup, SavesQuietly, WritesGroup};
 
 use crate::tails::{Target, end_behind, find_target};
 use crate::writing::{is_full, is_valid, turn_time};
@@ -91,8 +91,7 @@ impl<S: Shelf, C: Clock> Storage<S, C> {
         time: Option<u32>,
     ) -> Result<u32, StorageFault>
         requires place { IsPlaceFor self.old.chain.live.mailbox (length text) place }
-        requires left { self.old.chain.live.mailbox.next_uid < end_of_uids }
-        requires room { HasRoom self.old.chain 120 }
+        requires next { HasNext self.old.chain }
         requires time { is_some time ≡ turns self.old.owed self.old.chain }
         ensures id { IfOk result (λ id. id ≡ self.old.chain.live.mailbox.next_uid) }
         ensures value { WritesGroup (records_of self.old.chain.live.mailbox.next_uid place)
@@ -101,6 +100,7 @@ impl<S: Shelf, C: Clock> Storage<S, C> {
             mail_in (Some text) ≡ Held message → IsAtRest S.sees messages debt self.old →
             SavesQuietly S.sees messages debt message self.old self.new result }
         ensures settled { S.sees.tells → StaysSettled S.sees self.old.shelf self.new.shelf }
+        ensures goes { GoesByMessage S.sees self.old self.new result }
         ensures err { IfErr result IsFailure }
         ensures cause { HasStorageCause (S.sees.fault_count self.old.shelf)
             (S.sees.fault_count self.new.shelf) result }
@@ -124,14 +124,14 @@ impl<S: Shelf, C: Clock> Storage<S, C> {
     fn put_message(&mut self, message: &[u8], target: Target) -> Result<u32, StorageFault>
         requires free { IsFreeFrom self.old.chain.live.mailbox target }
         requires small { target.offset < 2097152 }
-        requires left { self.old.chain.live.mailbox.next_uid < end_of_uids }
-        requires room { HasRoom self.old.chain 120 }
+        requires next { HasNext self.old.chain }
         ensures id { IfOk result (λ id. id ≡ self.old.chain.live.mailbox.next_uid) }
         ensures value { SavesGroup self.old self.new result }
         ensures gives { S.sees.tells → (messages : Messages) (debt : Owed) →
             IsAtRest S.sees messages debt self.old →
             SavesQuietly S.sees messages debt message.now self.old self.new result }
         ensures settled { S.sees.tells → StaysSettled S.sees self.old.shelf self.new.shelf }
+        ensures goes { GoesByMessage S.sees self.old self.new result }
         ensures err { IfErr result IsFailure }
         ensures cause { HasStorageCause (S.sees.fault_count self.old.shelf)
             (S.sees.fault_count self.new.shelf) result }
@@ -152,8 +152,9 @@ impl<S: Shelf, C: Clock> Storage<S, C> {
     /// and `Files` exactly where a new file is needed and no number is left for it. `Disk` comes
     /// only where the shelf's count of faults rose: where it doesn't, the answer is one of the
     /// others, whatever was owed. After an error the ids are as before. The clock is read once
-    /// where the log is rotated, and then once for the message. The end of the last file is kept:
-    /// only behind an opening, a purge or an error it takes time by the number of ids to find it.
+    /// where the log is rotated, and then once for the message. The end of the last file is known
+    /// behind a save that is done: only those behind an opening or a purge, up to the first that is
+    /// done, take time by the number of ids to find it.
     pub fn save(&mut self, message: &[u8]) -> Result<u32, StorageFault>
         // Which answer it is, and what becomes of the map, over any shelf.
         ensures answers { AnswersSave S.sees.tells (S.sees.files self.old.shelf)
@@ -167,7 +168,9 @@ impl<S: Shelf, C: Clock> Storage<S, C> {
             IsAtRest S.sees messages debt self.old →
             SavesQuietly S.sees messages debt message.now self.old self.new result }
         ensures settled { S.sees.tells → StaysSettled S.sees self.old.shelf self.new.shelf }
-        // A fault of the disk has its cause.
+        // No message file is read, and the end of the last one is known behind it; a fault of the
+        // disk has its cause.
+        ensures goes { GoesByMessage S.sees self.old self.new result }
         ensures cause { HasStorageCause (S.sees.fault_count self.old.shelf)
             (S.sees.fault_count self.new.shelf) result }
     {

@@ -14,7 +14,8 @@ use std::marker::Model;
 
 /// A storage folder that is open, and the clock that its writes are dated by. Contracts see the
 /// folder, the clock, the map at the end of its log, the turn of a rotation whose last replace is
-/// owed, where the log ended at first, the groups since then, and the place behind them.
+/// owed, where the log ended at first, the groups since then, the place behind them, and the end of
+/// the last message file, where it is known.
 #[derive(Drop)]
 pub struct Storage<S, C> {
     pub(crate) alloc: Global,
@@ -25,7 +26,7 @@ pub struct Storage<S, C> {
     pub(crate) start: Mark,
     pub(crate) entries: Vec<Entry>,
     pub(crate) mark: Mark,
-    /// The end of the last message file, where it is kept.
+    /// The end of the last message file, where it is known.
     pub(crate) tail: Option<Tail>,
 }
 
@@ -37,6 +38,7 @@ impl<S, C> Model for Storage<S, C> {
     ghost use Rattle.dv_model.specs.contracts.types.Mark as mark_type;
     ghost use Rattle.dv_rotation.specs.Texts.{place_of};
     ghost use Rattle.dv_writing.specs.Repairing.{IsOwing};
+    ghost use Rattle.dv_mdbox.specs.contracts.tails.Tail as tail_type;
     ghost use Rattle.dv_mdbox.specs.States.{StandsAt, State, state_code};
     ghost use Rattle.dv_mdbox.specs.Tails.{KeepsEnd};
 
@@ -44,7 +46,7 @@ impl<S, C> Model for Storage<S, C> {
 
     ghost coded = { state_code S.code C.code chain_type.the_row.coded
         (coded_option turn_type.the_row.coded) mark_type.the_row.coded
-        (coded_list entry_type.the_row.coded) };
+        (coded_list entry_type.the_row.coded) (coded_option tail_type.the_row.coded) };
 
     ghost view = { λ s. record {
       shelf = s.shelf;
@@ -54,6 +56,7 @@ impl<S, C> Model for Storage<S, C> {
       start = s.start;
       entries = s.entries.items;
       mark = s.mark;
+      tail = s.tail;
     } };
 
     ghost invariant = { λ s. IsOwing s.chain s.owed × StandsAt s.mark (place_of s.chain) s.owed

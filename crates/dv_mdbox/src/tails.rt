@@ -71,23 +71,23 @@ pub(crate) fn tail_of(live: &Live) -> Option<Tail>
     tail
 }
 
-/// The same, which isn't looked for where it is kept.
-fn last_tail(live: &Live, kept: Option<Tail>) -> Option<Tail>
-    requires { KeepsEnd live.now.mailbox kept }
+/// The same, which isn't looked for where it is known.
+fn last_tail(live: &Live, known: Option<Tail>) -> Option<Tail>
+    requires { KeepsEnd live.now.mailbox known }
     ensures { IsTailOf live.now.mailbox live.now.mailbox.rows result }
 {
-    match kept {
+    match known {
         Some(tail) => Some(tail),
         None => tail_of(live),
     }
 }
 
-/// The end of the last file once a text stands at this place, behind all others. It can be kept
-/// where the map has its extensions, as it has from its first id on.
+/// The end of the last file once a text stands at this place, behind all others. It is known where
+/// the mailbox is a map.
 pub(crate) fn end_behind(live: &Live, place: Place) -> Option<Tail>
     ensures { IsEndBehind live.now.mailbox place result }
 {
-    if !is_map(live.extensions().list().as_slice()) {
+    if !is_map(live.extensions().list().as_slice(), live.count()) {
         return None;
     }
     Some(Tail {
@@ -162,6 +162,7 @@ pub(crate) fn number_behind(highest: Option<u32>) -> Option<u32>
 fn new_file<S: Shelf>(alloc: Global, shelf: &mut S, tail: Option<Tail>) -> Result<u32, StorageFault>
     ensures finds { FindsFile S.sees.tells (S.sees.files shelf.old) tail result }
     ensures looks { S.sees.tells → OnlyLooks S.sees shelf.old shelf.new }
+    ensures mail_reads { S.sees.mail_reads shelf.new ≡ S.sees.mail_reads shelf.old }
     ensures cause { HasStorageCause (S.sees.fault_count shelf.old) (S.sees.fault_count shelf.new)
         result }
 {
@@ -180,24 +181,25 @@ fn new_file<S: Shelf>(alloc: Global, shelf: &mut S, tail: Option<Tail>) -> Resul
 }
 
 /// Where the text of the next message goes. Time by the rows where the end of the last file isn't
-/// kept; the folder is listed where the text goes to a new file.
+/// known; the folder is listed where the text goes to a new file.
 pub(crate) fn find_target<S: Shelf>(
     alloc: Global,
     live: &Live,
-    kept: Option<Tail>,
+    known: Option<Tail>,
     shelf: &mut S,
 ) -> Result<Target, StorageFault>
-    requires { KeepsEnd live.now.mailbox kept }
+    requires { KeepsEnd live.now.mailbox known }
     ensures finds { FindsTarget S.sees.tells (S.sees.files shelf.old) live.now.mailbox result }
     // All texts of the map stand before there.
     ensures free { IfOk result (IsFreeFrom live.now.mailbox) }
     ensures small { IfOk result (λ target. target.offset < 2097152) }
-    // Nothing is changed; a fault of the disk has its cause.
+    // Nothing is changed, and no message file is read; a fault of the disk has its cause.
     ensures looks { S.sees.tells → OnlyLooks S.sees shelf.old shelf.new }
+    ensures mail_reads { S.sees.mail_reads shelf.new ≡ S.sees.mail_reads shelf.old }
     ensures cause { HasStorageCause (S.sees.fault_count shelf.old) (S.sees.fault_count shelf.new)
         result }
 {
-    let tail = last_tail(live, kept);
+    let tail = last_tail(live, known);
     if let Some(target) = place_behind(tail) {
         return Ok(target);
     }

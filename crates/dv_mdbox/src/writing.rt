@@ -18,7 +18,7 @@ ghost use Rattle.dv_maps.specs.Texts.{Messages};
 ghost use Rattle.dv_mdbox.specs.Answers.{HasStorageCause, IsFailure};
 ghost use Rattle.dv_mdbox.specs.Readying.{IsGroupFor};
 ghost use Rattle.dv_mdbox.specs.Tails.{KeepsEndBehind};
-ghost use Rattle.dv_mdbox.specs.Writes.{WritesBeside, WritesGroup};
+ghost use Rattle.dv_mdbox.specs.Writes.{KeepsBeside, WritesBeside, WritesGroup};
 
 use crate::fault::disk;
 use crate::readying::{Ready, make_ready};
@@ -71,8 +71,8 @@ pub(crate) fn is_valid(live: &Live)
 
 impl<S: Shelf, C> Storage<S, C> {
     /// Writes a group of these records, which take so many bytes, behind this file, and keeps it.
-    /// What is owed is repaired first, and the log rotated where a time was read for that. The end
-    /// of the last file is kept behind Ok, and not behind an error.
+    /// What is owed is repaired first, and the log rotated where a time was read for that. Behind Ok
+    /// the end of the last file is this one, where it is known.
     pub(crate) fn write(
         &mut self,
         records: List<Record>,
@@ -86,7 +86,7 @@ impl<S: Shelf, C> Storage<S, C> {
         requires tail { KeepsEndBehind self.old.chain.live.mailbox records tail }
         // The map, the entries and the mark, over any shelf.
         ensures value { WritesGroup records self.old self.new result }
-        ensures clock { self.new.clock ≡ self.old.clock }
+        ensures beside { KeepsBeside S.sees tail self.old self.new result }
         // What the folder gives, at any moment and afterwards; from rest to rest.
         ensures gives { S.sees.tells → (messages next : Messages) (debt : Owed) (after : Mailbox) →
             Fits self.old.owed self.old.chain.live.mailbox debt →
@@ -101,7 +101,6 @@ impl<S: Shelf, C> Storage<S, C> {
         ensures cause { HasStorageCause (S.sees.fault_count self.old.shelf)
             (S.sees.fault_count self.new.shelf) result }
     {
-        self.tail = None;
         let group = Group { records };
         let Ready { text, steps } = make_ready(
             self.alloc,

@@ -10,7 +10,7 @@ swept_ok files (Err e) old new is = tt
 
 pub returns-clause-gives : goal.returns-clause-gives
 returns-clause-gives g c = rw (← c.self.view_is) (λ tells messages free rest.
-    quiet_cleared g.S.Shelf.sees messages c.thinnings_are.ensures _ _ (record { clock = refl; chain = refl; owed = refl; start = refl; entries = refl; mark = refl }) (c.clear-cleared.ensures.quiet tells messages _ free rest.stands) rest c.outcome.result)
+    quiet_cleared g.S.Shelf.sees messages c.thinnings_are.ensures _ _ (record { clock = refl; chain = refl; owed = refl; start = refl; entries = refl; mark = refl; tail = refl }) (c.clear-cleared.ensures.quiet tells messages _ free rest.stands) rest c.outcome.result)
 
 pub returns-clause-gone : goal.returns-clause-gone
 returns-clause-gone g c = rw (← c.self.view_is) (λ tells. outcome_ok _ _ c.clear-cleared.result c.outcome.result c.outcome.ensures (swept_ok c.args.files.now c.clear-cleared.result _ _ (c.clear-cleared.ensures.leaves tells).seen))

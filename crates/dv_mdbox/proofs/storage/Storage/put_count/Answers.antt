@@ -1,9 +1,9 @@
-use Rattle.std.proofs.Common.{◌∙◌, Err, refl, sym, ap, subst, arith}
+use Rattle.std.proofs.Common.{◌∙◌, Err, inr, refl, sym, ap, subst, arith}
 use Rattle.std.proofs.lemmas.Result.{err_from_is_err_and}
 use Rattle.dv_model.specs.Effects.{applied}
 use Rattle.dv_mdbox.specs.Answers.{IsFailure}
 use Rattle.dv_mdbox.proofs.Counted.{count_group, counts_done, counts_stayed, failure_refused, finds_room, group_counted, is_counted, through_count}
-use Rattle.dv_mdbox.proofs.Ending.{end_counted}
+use Rattle.dv_mdbox.proofs.Ending.{end_counted, tail_stays}
 use Rattle.dv_mdbox.proofs.storage.Storage.put_count.Goals as goal
 
 pub write-requires-clause-group : goal.write-requires-clause-group
@@ -63,3 +63,12 @@ returns-clause-gives g c = rw (← c.self.view_is) (λ tells messages debt n cha
     let is = is_counted c.counts_are.ensures law m c.args.id n c.args.count change rest.map c.is_valid.ensures (omega (arith, c.ranges.id.fits)) (omega (arith, c.ranges.count.fits)) there to in
     counts_done S.sees messages debt c.args.id c.args.count change _ rest is law records c.in_ok-records.ensures c.write.new.self c.turn_time-time.new.clock c.write.result c.write.ensures.value
     (c.write.ensures.gives tells messages messages debt is.after rest.fits rest.stands (ap (applied m) c.in_ok-records.ensures ∙ is.gives) (through_count messages m is.after c.args.id change is.counts)).0)
+
+pub returns-clause-clock : goal.returns-clause-clock
+returns-clause-clock g c = rw (← c.self.view_is) (λ tells. inr (ap g.C.Clock.sees.upcoming c.write.ensures.beside.clock ∙ c.turn_time-time.ensures.clock tells))
+
+pub returns-clause-tail : goal.returns-clause-tail
+returns-clause-tail g c = rw (← c.self.view_is) (tail_stays c.self.inside.tail c.write.new.self.tail c.self.inside.tail c.write.result refl c.write.ensures.beside.ok c.write.ensures.beside.err)
+
+pub returns-clause-mail_reads : goal.returns-clause-mail_reads
+returns-clause-mail_reads g c = rw (← c.self.view_is) c.write.ensures.beside.mail_reads

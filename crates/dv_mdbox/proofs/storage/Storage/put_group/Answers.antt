@@ -63,4 +63,4 @@ pub returns-clause-answers : goal.returns-clause-answers
 returns-clause-answers g c = failure_answers c.write.new.self.chain c.write.result c.write.ensures.err
 
 pub returns-clause-clock : goal.returns-clause-clock
-returns-clause-clock g c = rw (← c.self.view_is) (λ tells. (_, ap g.C.Clock.sees.upcoming c.write.ensures.clock ∙ c.turn_time-time.ensures.clock tells))
+returns-clause-clock g c = rw (← c.self.view_is) (λ tells. (_, ap g.C.Clock.sees.upcoming c.write.ensures.beside.clock ∙ c.turn_time-time.ensures.clock tells))

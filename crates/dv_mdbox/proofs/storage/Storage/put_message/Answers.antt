@@ -2,6 +2,7 @@ use Rattle.std.proofs.Common.{◌∙◌, sym, ap, refl, subst, arith}
 use Rattle.std.proofs.lemmas.Result.{err_from_is_err_and}
 use Rattle.dv_maps.specs.declared.place.Place.{Place}
 use Rattle.dv_mdbox.specs.Tails.{IsFreeFrom}
+use Rattle.dv_mdbox.proofs.Going.{goes_clocked, goes_nowhere}
 use Rattle.dv_mdbox.proofs.Saved.{saves_clocked, saves_stayed}
 use Rattle.dv_mdbox.proofs.Written.{group_clocked, group_kept}
 use Rattle.dv_mdbox.proofs.storage.Storage.put_message.Goals as goal
@@ -52,3 +53,16 @@ returns-in-Some-clause-gives g c = rw (← c.self.view_is) (λ tells messages de
     let S = g.S.Shelf in
     saves_clocked S.sees messages debt c.args.message.now _ c.put_text.new.self c.now-now.new.self c.put_text.result
     (c.put_text.ensures.gives tells messages debt c.args.message.now c.in_ok-text.ensures (record { stands = rest.stands; fits = rest.fits; map = rest.map })))
+
+-- ---- the end of the last file
+
+pub returns-in_err-text-clause-goes : goal.returns-in_err-text-clause-goes
+returns-in_err-text-clause-goes g c = rw (← c.self.view_is) (
+    let p = err_from_is_err_and c.from_residual.result c.from_residual.ensures.1 in
+    rw p.1 (goes_nowhere g.S.Shelf.sees _ _ p.0 refl refl))
+
+pub returns-in-None-clause-goes : goal.returns-in-None-clause-goes
+returns-in-None-clause-goes g c = rw (← c.self.view_is) (goes_nowhere g.S.Shelf.sees _ _ _ refl refl)
+
+pub returns-in-Some-clause-goes : goal.returns-in-Some-clause-goes
+returns-in-Some-clause-goes g c = rw (← c.self.view_is) (goes_clocked g.S.Shelf.sees _ c.put_text.new.self c.now-now.new.self c.put_text.result c.put_text.ensures.goes)

@@ -7,17 +7,18 @@ use Rattle.dv_mdbox.specs.Answers.{AnswersSave}
 use Rattle.dv_mdbox.specs.States.{State}
 use Rattle.dv_mdbox.proofs.Counted.{failure_refused, refused_anyway}
 use Rattle.dv_mdbox.proofs.Finding.{answers_put, answers_unfound, group_shelved, looked_itself, looks_itself, saves_found, saves_unfound, rest_looked}
+use Rattle.dv_mdbox.proofs.Going.{goes_looked, goes_nowhere}
 use Rattle.dv_mdbox.proofs.Saved.{saves_stayed}
 use Rattle.dv_mdbox.proofs.Written.{group_kept}
 use Rattle.dv_mdbox.proofs.storage.Storage.save.Goals as goal
 
-pub put_message-requires-clause-left : goal.put_message-requires-clause-left
-put_message-requires-clause-left g c =
+pub put_message-requires-clause-next : goal.put_message-requires-clause-next
+put_message-requires-clause-next g c =
     let id = c.self.inside.chain.live.mailbox.next_uid in
-    MatchBool-at_false (id ≡ end_of_uids) (id < end_of_uids) c.if-is_used_up.false c.is_used_up.ensures
-
-pub put_message-requires-clause-room : goal.put_message-requires-clause-room
-put_message-requires-clause-room g c = sym c.is_full.ensures ∙ c.if-is_full.false
+    record {
+      left = MatchBool-at_false (id ≡ end_of_uids) (id < end_of_uids) c.if-is_used_up.false c.is_used_up.ensures;
+      room = sym c.is_full.ensures ∙ c.if-is_full.false;
+    }
 
 -- ---- answers
 
@@ -65,7 +66,7 @@ pub returns-then-is_full-clause-refused : goal.returns-then-is_full-clause-refus
 returns-then-is_full-clause-refused g c = rw (← c.self.view_is) (looked_itself _, λ tells. looks_itself g.S.Shelf.sees c.self.inside.shelf (λ f left. g.met.S.Shelf.only_now c.self.inside.shelf f tells left))
 
 pub returns-in-Err-clause-refused : goal.returns-in-Err-clause-refused
-returns-in-Err-clause-refused g c = rw (← c.self.view_is) (refused_anyway ℕ _ c.in-Err.e (record { clock = refl; chain = refl; owed = refl; start = refl; entries = refl; mark = refl }, c.in-Err.ensures.looks))
+returns-in-Err-clause-refused g c = rw (← c.self.view_is) (refused_anyway ℕ _ c.in-Err.e (record { clock = refl; chain = refl; owed = refl; start = refl; entries = refl; mark = refl; tail = refl }, c.in-Err.ensures.looks))
 
 pub returns-in-Ok-clause-refused : goal.returns-in-Ok-clause-refused
 returns-in-Ok-clause-refused g c = failure_refused _ c.put_message.result c.put_message.ensures.err
@@ -133,3 +134,20 @@ pub returns-in-Err-clause-settled : goal.returns-in-Err-clause-settled
 returns-in-Err-clause-settled g c = rw (← c.self.view_is) (λ tells.
     let looks = c.in-Err.ensures.looks tells in
     looked_settled g.S.Shelf.sees c.self.inside.shelf c.find_target.new.shelf looks.same looks.crash)
+
+-- ---- the end of the last file
+
+pub returns-then-is_used_up-clause-goes : goal.returns-then-is_used_up-clause-goes
+returns-then-is_used_up-clause-goes g c = rw (← c.self.view_is) (goes_nowhere g.S.Shelf.sees _ _ _ refl refl)
+
+pub returns-then-is_long-clause-goes : goal.returns-then-is_long-clause-goes
+returns-then-is_long-clause-goes g c = rw (← c.self.view_is) (goes_nowhere g.S.Shelf.sees _ _ _ refl refl)
+
+pub returns-then-is_full-clause-goes : goal.returns-then-is_full-clause-goes
+returns-then-is_full-clause-goes g c = rw (← c.self.view_is) (goes_nowhere g.S.Shelf.sees _ _ _ refl refl)
+
+pub returns-in-Err-clause-goes : goal.returns-in-Err-clause-goes
+returns-in-Err-clause-goes g c = rw (← c.self.view_is) (goes_nowhere g.S.Shelf.sees _ _ c.in-Err.e c.in-Err.ensures.mail_reads refl)
+
+pub returns-in-Ok-clause-goes : goal.returns-in-Ok-clause-goes
+returns-in-Ok-clause-goes g c = rw (← c.self.view_is) (goes_looked g.S.Shelf.sees _ c.put_message.new.self c.find_target.new.shelf c.in-Ok.ensures.mail_reads c.put_message.result c.put_message.ensures.goes)

@@ -3,17 +3,25 @@ use Rattle.std.proofs.lemmas.Result.{err_from_is_err_and}
 use Rattle.dv_model.specs.declared.types.Entry.{Entry}
 use Rattle.dv_model.specs.declared.types.Mailbox.{Mailbox}
 use Rattle.dv_filing.specs.Standing.{Fits}
+use Rattle.dv_mdbox.specs.Tails.{KeepsEnd}
 use Rattle.dv_mdbox.specs.Writes.{entry_of}
 use Rattle.dv_mdbox.proofs.Equal.{owing_equal, stands_equal, stands_looked}
 use Rattle.dv_mdbox.proofs.Written.{group_written, mails_looked, mails_written, map_written, marked_equal, quiet_entries, quiet_failed, quiet_unwritten, quiet_written, write_of}
 use Rattle.dv_mdbox.proofs.storage.Storage.write.Goals as goal
+
+pub invariant_of-self : goal.invariant_of-self
+invariant_of-self g c =
+    let chain = c.make_ready.new.chain in
+    let old = c.self.inside in
+    let same = c.in_err-text.ensures.chain in
+    (owing_equal chain old.chain old.owed same c.self.invariant.0, marked_equal old.mark chain old.chain old.owed same c.self.invariant.1, subst (λ (m : Mailbox). KeepsEnd m old.tail) (sym same.mailbox) c.self.invariant.2)
 
 pub invariant_of-self-in_err-reserve : goal.invariant_of-self-in_err-reserve
 invariant_of-self-in_err-reserve g c =
     let chain = c.make_ready.new.chain in
     let old = c.self.inside in
     let same = c.in_ok-text.ensures.chain in
-    (owing_equal chain old.chain old.owed same c.self.invariant.0, marked_equal old.mark chain old.chain old.owed same c.self.invariant.1, tt)
+    (owing_equal chain old.chain old.owed same c.self.invariant.0, marked_equal old.mark chain old.chain old.owed same c.self.invariant.1, subst (λ (m : Mailbox). KeepsEnd m old.tail) (sym same.mailbox) c.self.invariant.2)
 
 pub carry_out-requires-clause-owing : goal.carry_out-requires-clause-owing
 carry_out-requires-clause-owing g c = owing_equal c.make_ready.new.chain c.self.inside.chain c.self.inside.owed c.in_ok-text.ensures.chain c.self.invariant.0
@@ -27,7 +35,7 @@ returns-in_err-text-clause-gives g c = rw (← c.self.view_is) (λ tells message
     let chain = c.make_ready.new.chain in
     let mid = c.make_ready.new.shelf in
     let same = c.in_err-text.ensures.chain in
-    let looks = c.in_err-text.ensures.looks tells in
+    let looks = c.in_err-text.ensures.looks.changes tells in
     let p = err_from_is_err_and c.from_residual.result c.from_residual.ensures.1 in
     rw p.1 (
       quiet_unwritten S.sees messages next debt after c.args.records _ chain same mid looks stands p.0 fits (stands_equal S.sees messages debt chain old.chain mid same (stands_looked S.sees messages debt old.chain old.shelf mid looks stands)),
@@ -41,7 +49,7 @@ returns-in_err-reserve-clause-gives g c = rw (← c.self.view_is) (λ tells mess
     let chain = c.make_ready.new.chain in
     let mid = c.make_ready.new.shelf in
     let same = c.in_ok-text.ensures.chain in
-    let looks = c.in_ok-text.ensures.looks tells in
+    let looks = c.in_ok-text.ensures.looks.changes tells in
     let p = err_from_is_err_and c.from_residual-in_err-reserve.result c.from_residual-in_err-reserve.ensures.1 in
     rw p.1 (
       quiet_entries S.sees messages next debt after _ _ _ _ _
@@ -56,7 +64,7 @@ returns-in-Ok-clause-value g c = rw (← c.self.view_is) (
     let made = c.in_ok-text.field-0 in
     let group = rw (← c.self.view_is) at c.requires.group in
     group_written c.args.records _ c.make_ready.new.chain c.in_ok-text.ensures.chain c.args.files made.text made.steps c.in_ok-text.ensures.ready
-    group.are.applies c.carry_out.new.owed c.carry_out.new.chain c.carry_out.new.shelf c.in-Ok.committed _ c.self.invariant.1
+    group.are.applies c.carry_out.new.owed c.carry_out.new.chain c.carry_out.new.shelf c.in-Ok.committed _ _ c.self.invariant.1
     (c.push_reserved.ensures.items ∙ ap (λ (es : List Entry). es ++ entry_of c.args.records ∷ []) c.in_ok-reserve.ensures.items) c.in-Ok.ensures.value)
 
 pub returns-in-Ok-clause-gives : goal.returns-in-Ok-clause-gives
@@ -67,7 +75,7 @@ returns-in-Ok-clause-gives g c = rw (← c.self.view_is) (λ tells messages next
     let mid = c.make_ready.new.shelf in
     let ready = c.in_ok-text in
     let same = ready.ensures.chain in
-    let looks = ready.ensures.looks tells in
+    let looks = ready.ensures.looks.changes tells in
     let here = stands_equal S.sees messages debt chain old.chain mid same (stands_looked S.sees messages debt old.chain old.shelf mid looks stands) in
     let new = c.carry_out.new in
     let made = ready.field-0 in
@@ -101,7 +109,7 @@ returns-in-Err-clause-gives g c = rw (← c.self.view_is) (λ tells messages nex
     let mid = c.make_ready.new.shelf in
     let ready = c.in_ok-text in
     let same = ready.ensures.chain in
-    let looks = ready.ensures.looks tells in
+    let looks = ready.ensures.looks.changes tells in
     let here = stands_equal S.sees messages debt chain old.chain mid same (stands_looked S.sees messages debt old.chain old.shelf mid looks stands) in
     let new = c.carry_out.new in
     let made = ready.field-0 in
