@@ -1,6 +1,6 @@
 -- A message is saved where a place for its text was found.
-use Rattle.std.proofs.Common.{◌≡◌, inl, inr, ⊎_elim, ℕ, List, Result, Ok, Err, refl}
-use Rattle.std.specs.Prelude.{IfErr, IfOk}
+use Rattle.std.proofs.Common.{◌≡◌, inl, inr, ⊎_elim, ℕ, List, Result, Ok, Err, refl, sym, subst}
+use Rattle.std.specs.Prelude.{IfErr, IfOk, OnOk}
 use Rattle.dv_model.specs.declared.types.Mailbox.{Mailbox}
 use Rattle.dv_shelf.specs.Crashes.{LeavesOnly}
 use Rattle.dv_shelf.specs.Folders.{Folder}
@@ -15,10 +15,11 @@ use Rattle.dv_maps.specs.declared.place.Place.{Place}
 use Rattle.dv_maps.specs.Texts.{Messages, with_message}
 use Rattle.dv_mdbox.specs.declared.fault.StorageFault.{StorageFault}
 use Rattle.dv_mdbox.specs.declared.fault.StorageFault.TheVariants as fault
+use Rattle.dv_mdbox.specs.declared.tails.Target.{Target}
 use Rattle.dv_mdbox.specs.Answers.{AnswersSave, IsFailure, IsShort}
 use Rattle.dv_mdbox.specs.States.{IsAtRest, IsLookedAt, State}
 use Rattle.dv_mdbox.specs.Tails.{FindsTarget}
-use Rattle.dv_mdbox.specs.Writes.{MayGiveCall, SavesAt, SavesGroup, SavesQuietly}
+use Rattle.dv_mdbox.specs.Writes.{MayGiveCall, SavesAt, SavesGroup, SavesGroupAt, SavesQuietly}
 use Rattle.dv_mdbox.proofs.Equal.{stands_looked}
 
 -- ---- answers
@@ -45,11 +46,30 @@ module _ (tells : Type 0) (folder : Folder) (m : Mailbox) (chain : Chain) (size 
 
 -- ---- the map
 
--- the folder says nothing of it
-pub group_shelved : {S C : Type 0} (old new : State S C) (shelf : S) {T E : Type 0} (result : Result T E) → SavesGroup (record old { shelf = shelf }) new result → SavesGroup old new result
-group_shelved old new shelf result saves =
-    let w = saves.1 in
-    (saves.0, record { map = w.map; entries = w.entries; mark = w.mark; kept = w.kept; start = w.start; indexid = w.indexid })
+-- what holds anyway holds behind Ok
+pub ok_anyway : {T E P : Type 0} (r : Result T E) → P → OnOk r P
+ok_anyway (Ok x) holds = holds
+ok_anyway (Err e) holds = tt
+
+on_ok : {T E P Q : Type 0} (r : Result T E) → (P → Q) → OnOk r P → OnOk r Q
+on_ok (Ok x) then is = then is
+on_ok (Err e) then is = tt
+
+-- the place is where the next text goes
+found_at : (tells : Type 0) (folder : Folder) (m : Mailbox) (target : Target) (place : Place) → FindsTarget tells folder m (Ok target) → (place.file ≡ target.file) × (place.offset ≡ target.offset) → FindsTarget tells folder m (Ok (record { file = place.file; offset = place.offset }))
+found_at tells folder m target place finds at =
+    subst (λ (n : ℕ). FindsTarget tells folder m (Ok (record { file = n; offset = place.offset }))) (sym at.0)
+    (subst (λ (n : ℕ). FindsTarget tells folder m (Ok (record { file = target.file; offset = n }))) (sym at.1) finds)
+
+-- the folder that was looked at says nothing of it
+pub group_shelved : {S C : Type 0} (sees : SeesFolder S) (old new : State S C) (shelf : S) (target : Target) {T E : Type 0} (result : Result T E) → FindsTarget sees.tells (sees.files old.shelf) old.chain.live.mailbox (Ok target) → SavesGroupAt target (record old { shelf = shelf }) new result
+    → SavesGroup sees old new result
+group_shelved sees old new shelf target result finds saves =
+    let w = saves.1 in (
+      saves.0,
+      record { map = w.map; entries = w.entries; mark = w.mark; kept = w.kept; start = w.start; indexid = w.indexid },
+      on_ok result (found_at sees.tells (sees.files old.shelf) old.chain.live.mailbox target saves.0 finds) saves.2,
+    )
 
 -- ---- the folder
 

@@ -114,11 +114,11 @@ IsListed tells folder highest =
     (names : List Name) × IsHighest names highest × (tells → Lists folder names)
 
 -- Files is answered exactly where the highest number that the map and the folder name is the last
--- one; else the number behind it is given, unless the listing failed.
+-- one; else the number behind it is given, of 32 bits, unless the listing failed.
 abbrev pub FindsFile : Type 0 → Folder → Option Tail → Result ℕ StorageFault → Type 0
 FindsFile tells folder tail (Ok file) =
     (highest : Option ℕ) × IsListed tells folder highest
-    × (file ≡ number_behind (larger (tail_file tail) highest))
+    × (file ≡ number_behind (larger (tail_file tail) highest)) × (file < 2 ^ 32)
 FindsFile tells folder tail (Err fault.Files) =
     (highest : Option ℕ) × IsListed tells folder highest
     × (larger (tail_file tail) highest ≡ Some 4294967295)

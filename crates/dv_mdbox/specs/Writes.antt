@@ -27,8 +27,9 @@ use Rattle.dv_maps.specs.Groups.{save_records}
 use Rattle.dv_maps.specs.Laws.{Counts, IsMap, Saves}
 use Rattle.dv_maps.specs.Texts.{Messages, with_message}
 use Rattle.dv_mdbox.specs.declared.tails.Tail.{Tail}
+use Rattle.dv_mdbox.specs.declared.tails.Target.{Target}
 use Rattle.dv_mdbox.specs.States.{IsAtRest, State}
-use Rattle.dv_mdbox.specs.Tails.{IsTail}
+use Rattle.dv_mdbox.specs.Tails.{FindsTarget, IsTail}
 
 -- where a group begins: at the log's end, or at the first place of the next file
 abbrev pub begin_of : Option Turn → Chain → Mark
@@ -131,12 +132,22 @@ module _ {S C : Type 0} where
     pub known : OnOk result (IsMap old.chain.live.mailbox → KnowsEnd new)
     pub kept : OnErr result (new.tail ≡ old.tail)
 
-  -- behind Ok the map has the records of a save, at some place; an error keeps map, entries and
-  -- mark
-  abbrev pub SavesGroup : State S C → State S C → {T E : Type 0} → Result T E → Type 0
-  SavesGroup old new result =
+  -- behind Ok the map has the records of a save, whose text stands at this target; an error keeps
+  -- map, entries and mark
+  abbrev pub SavesGroupAt : Target → State S C → State S C → {T E : Type 0} → Result T E → Type 0
+  SavesGroupAt target old new result =
       (place : Place)
       × WritesGroup (save_records old.chain.live.mailbox.next_uid place) old new result
+      × OnOk result ((place.file ≡ target.file) × (place.offset ≡ target.offset))
+
+  -- so it is where the next text of the map goes
+  abbrev pub SavesGroup : SeesFolder S → State S C → State S C → {T E : Type 0} → Result T E
+      → Type 0
+  SavesGroup sees old new result =
+      (place : Place)
+      × WritesGroup (save_records old.chain.live.mailbox.next_uid place) old new result
+      × OnOk result (FindsTarget sees.tells (sees.files old.shelf) old.chain.live.mailbox
+      (Ok (record { file = place.file; offset = place.offset })))
 
   -- From rest to rest: behind Ok the storage has the message, with one reference, and nothing is
   -- owed; behind an error it is as before, and what is owed may be its group, with its text. A

@@ -13,7 +13,7 @@ ghost use Rattle.dv_mdbox.specs.Answers.{AnswersSave, HasNext, HasStorageCause, 
 ghost use Rattle.dv_chain.specs.Openings.{OnlyLooks};
 ghost use Rattle.dv_mdbox.specs.States.{IsAtRest, IsLookedAt};
 ghost use Rattle.dv_mdbox.specs.Tails.{IsFreeFrom, IsPlaceFor};
-ghost use Rattle.dv_mdbox.specs.Writes.{GoesByMessage, SavesGroup, SavesQuietly, WritesGroup};
+ghost use Rattle.dv_mdbox.specs.Writes.{GoesByMessage, SavesGroup, SavesGroupAt, SavesQuietly, WritesGroup};
 
 use crate::tails::{Target, end_behind, find_target};
 use crate::writing::{is_full, is_valid, turn_time};
@@ -126,7 +126,7 @@ impl<S: Shelf, C: Clock> Storage<S, C> {
         requires small { target.offset < 2097152 }
         requires next { HasNext self.old.chain }
         ensures id { IfOk result (λ id. id ≡ self.old.chain.live.mailbox.next_uid) }
-        ensures value { SavesGroup self.old self.new result }
+        ensures value { SavesGroupAt target self.old self.new result }
         ensures gives { S.sees.tells → (messages : Messages) (debt : Owed) →
             IsAtRest S.sees messages debt self.old →
             SavesQuietly S.sees messages debt message.now self.old self.new result }
@@ -156,13 +156,13 @@ impl<S: Shelf, C: Clock> Storage<S, C> {
     /// behind a save that is done: only those behind an opening or a purge, up to the first that is
     /// done, take time by the number of ids to find it.
     pub fn save(&mut self, message: &[u8]) -> Result<u32, StorageFault>
-        // Which answer it is, and what becomes of the map, over any shelf.
+        // Which answer it is, what becomes of the map, and where the text goes, over any shelf.
         ensures answers { AnswersSave S.sees.tells (S.sees.files self.old.shelf)
             self.old.chain.live.mailbox self.old.chain (length message.now) result }
         // Behind a limit the folder was looked at, and nothing is changed.
         ensures refused { OnRefused result (IsLookedAt self.old self.new
             × (S.sees.tells → OnlyLooks S.sees self.old.shelf self.new.shelf)) }
-        ensures value { SavesGroup self.old self.new result }
+        ensures value { SavesGroup S.sees self.old self.new result }
         // The message has one reference, whole; from rest to rest.
         ensures gives { S.sees.tells → (messages : Messages) (debt : Owed) →
             IsAtRest S.sees messages debt self.old →

@@ -4,6 +4,7 @@ use Rattle.std.proofs.lemmas.List.{append-nil, length-map, map-append}
 use Rattle.dv_model.specs.declared.types.Mailbox.{Mailbox}
 use Rattle.dv_model.specs.declared.types.Mark.{Mark}
 use Rattle.dv_model.specs.declared.types.Record.{Record}
+use Rattle.dv_shelf.specs.Sees.{SeesFolder}
 use Rattle.dv_maps.specs.Groups.{count_records}
 use Rattle.dv_mdbox.specs.declared.fault.StorageFault.{StorageFault}
 use Rattle.dv_mdbox.specs.declared.fault.StorageFault.TheVariants as fault
@@ -52,9 +53,9 @@ module _ {S C : Type 0} (old new : State S C) where
   abbrev m : Mailbox
   m = old.chain.live.mailbox
 
-  pub save_logs : (message : List ℕ) (result : Result ℕ StorageFault) → SavesGroup old new result → LogsCall (Save message) (saved_answer result) old new
-  save_logs message (Ok id) value = logs_done (Save message) old new _ (value.0, refl) id value.1
-  save_logs message (Err e) value = logs_fault (Save message) old new e (logs_kept (Save message) old new _ e value.1)
+  pub save_logs : (sees : SeesFolder S) (message : List ℕ) (result : Result ℕ StorageFault) → SavesGroup sees old new result → LogsCall (Save message) (saved_answer result) old new
+  save_logs sees message (Ok id) value = logs_done (Save message) old new _ (value.0, refl) id value.1
+  save_logs sees message (Err e) value = logs_fault (Save message) old new e (logs_kept (Save message) old new _ e value.1)
 
   -- a change of a count
   module _ (call : Call) (id most : ℕ) (change : ℕ → ℕ) (is : (count : ℕ) → IsReferenced m id (λ n. n ≡ count) → IsGroupOf m call (count_records id (change count))) where

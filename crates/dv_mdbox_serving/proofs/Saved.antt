@@ -116,7 +116,7 @@ module _ {S C : Type 0} (sees : SeesFolder S) (start : Storage) (base : ℕ) (ca
   given place after saves mark c gives = record { indexid = old.chain.indexid; messages = next; mailbox = after; mark = mark; map = saves.map; storage = saved_is place after saves; gives = gives }
 
   -- the disk failed it, or memory ended it
-  module _ (e : StorageFault) (answers : Answers (Err e)) (cause : Caused (Err e)) (makes : MayMake (Save message) (fault_answer e) here (saved message here)) (value : SavesGroup old new {T = ℕ} (Err e)) where
+  module _ (e : StorageFault) (answers : Answers (Err e)) (cause : Caused (Err e)) (makes : MayMake (Save message) (fault_answer e) here (saved message here)) (value : SavesGroup sees old new {T = ℕ} (Err e)) where
     abbrev t : Tried
     t = tried_of (Save message) (fault_answer e) []
 
@@ -181,7 +181,7 @@ module _ {S C : Type 0} (sees : SeesFolder S) (start : Storage) (base : ℕ) (ca
     cut_called = ⊎_elim (λ early. cut_early early.0 early.1) (λ at. cut_at at.0 at.1)
 
   -- it is done
-  done_called : (id : ℕ) → Answers (Ok id) → Caused (Ok id) → SavesGroup old new {E = StorageFault} (Ok id) → SavesQuietly sees follows.keeps.messages follows.keeps.debt message old new {E = StorageFault} (Ok id)
+  done_called : (id : ℕ) → Answers (Ok id) → Caused (Ok id) → SavesGroup sees old new {E = StorageFault} (Ok id) → SavesQuietly sees follows.keeps.messages follows.keeps.debt message old new {E = StorageFault} (Ok id)
       → IsCalled sees start base calls (Save message) (Some (answer.Done id)) old new
   done_called id answers cause value quiet =
       let k = follows.keeps in
@@ -199,7 +199,7 @@ module _ {S C : Type 0} (sees : SeesFolder S) (start : Storage) (base : ℕ) (ca
       (weaker sees old.shelf new.shelf (MayGiveCall k.messages next k.debt at.after 120 old.owed old.chain) (GivesBetween start calls t) at.any_moment
       (between t at.after (λ mark c gives. inr (inl (given quiet.0 at.after at.saves mark c gives)))))
 
-  pub saved_called : (result : Result ℕ StorageFault) → Answers result → tells → OnRefused result (IsLookedAt old new × (tells → OnlyLooks sees old.shelf new.shelf)) → SavesGroup old new result → SavesQuietly sees follows.keeps.messages follows.keeps.debt message old new result → Caused result
+  pub saved_called : (result : Result ℕ StorageFault) → Answers result → tells → OnRefused result (IsLookedAt old new × (tells → OnlyLooks sees old.shelf new.shelf)) → SavesGroup sees old new result → SavesQuietly sees follows.keeps.messages follows.keeps.debt message old new result → Caused result
       → IsCalled sees start base calls (Save message) (saved_answer result) old new
   saved_called (Ok id) answers told refused value quiet cause = done_called id answers cause value quiet
   saved_called (Err fault.NoMemory) answers told refused value quiet cause = cut_called fault.NoMemory answers cause (tt, ((may_save answers, refl), refl)) value quiet

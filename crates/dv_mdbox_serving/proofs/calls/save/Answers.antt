@@ -18,4 +18,4 @@ returns-clause-called g c = λ tells start base calls follows.
 pub returns-clause-logs : goal.returns-clause-logs
 returns-clause-logs g c =
     let old = c.args.storage.now in
-    subst (λ (told : Option Answer). LogsCall (Save c.args.message.now) told old c.save.new.self) (sym c.saved_answer.ensures) (save_logs old c.save.new.self c.args.message.now c.save.result c.save.ensures.value)
+    subst (λ (told : Option Answer). LogsCall (Save c.args.message.now) told old c.save.new.self) (sym c.saved_answer.ensures) (save_logs old c.save.new.self g.S.Shelf.sees c.args.message.now c.save.result c.save.ensures.value)

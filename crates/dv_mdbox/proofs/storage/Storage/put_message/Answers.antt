@@ -2,6 +2,7 @@ use Rattle.std.proofs.Common.{◌∙◌, sym, ap, refl, subst, arith}
 use Rattle.std.proofs.lemmas.Result.{err_from_is_err_and}
 use Rattle.dv_maps.specs.declared.place.Place.{Place}
 use Rattle.dv_mdbox.specs.Tails.{IsFreeFrom}
+use Rattle.dv_mdbox.proofs.Finding.{ok_anyway}
 use Rattle.dv_mdbox.proofs.Going.{goes_clocked, goes_nowhere}
 use Rattle.dv_mdbox.proofs.Saved.{saves_clocked, saves_stayed}
 use Rattle.dv_mdbox.proofs.Written.{group_clocked, group_kept}
@@ -25,7 +26,7 @@ pub returns-in_err-text-clause-value : goal.returns-in_err-text-clause-value
 returns-in_err-text-clause-value g c = rw (← c.self.view_is) (
     let p = err_from_is_err_and c.from_residual.result c.from_residual.ensures.1 in
     let none : Place = record { file = 0; offset = 0; size = 0 } in
-    rw p.1 (none, group_kept _ _ _ p.0 refl refl refl refl))
+    rw p.1 (none, group_kept _ _ _ p.0 refl refl refl refl, tt))
 
 pub returns-in_err-text-clause-gives : goal.returns-in_err-text-clause-gives
 returns-in_err-text-clause-gives g c = rw (← c.self.view_is) (λ tells messages debt rest.
@@ -36,7 +37,7 @@ returns-in_err-text-clause-gives g c = rw (← c.self.view_is) (λ tells message
 pub returns-in-None-clause-value : goal.returns-in-None-clause-value
 returns-in-None-clause-value g c = rw (← c.self.view_is) (
     let none : Place = record { file = 0; offset = 0; size = 0 } in
-    (none, group_kept _ _ _ _ refl refl refl refl))
+    (none, group_kept _ _ _ _ refl refl refl refl, tt))
 
 pub returns-in-None-clause-gives : goal.returns-in-None-clause-gives
 returns-in-None-clause-gives g c = rw (← c.self.view_is) (λ tells messages debt rest.
@@ -46,7 +47,11 @@ returns-in-None-clause-gives g c = rw (← c.self.view_is) (λ tells messages de
 -- ---- the group
 
 pub returns-in-Some-clause-value : goal.returns-in-Some-clause-value
-returns-in-Some-clause-value g c = rw (← c.self.view_is) (c.in-Some.place, group_clocked _ _ c.put_text.new.self c.now-now.new.self c.put_text.result c.put_text.ensures.value)
+returns-in-Some-clause-value g c = rw (← c.self.view_is) (
+  c.in-Some.place,
+  group_clocked _ _ c.put_text.new.self c.now-now.new.self c.put_text.result c.put_text.ensures.value,
+  ok_anyway c.put_text.result (ap (λ (p : Place). p.file) c.in-Some.ensures.0, ap (λ (p : Place). p.offset) c.in-Some.ensures.0),
+)
 
 pub returns-in-Some-clause-gives : goal.returns-in-Some-clause-gives
 returns-in-Some-clause-gives g c = rw (← c.self.view_is) (λ tells messages debt rest.

@@ -76,22 +76,22 @@ returns-in-Ok-clause-refused g c = failure_refused _ c.put_message.result c.put_
 pub returns-then-is_used_up-clause-value : goal.returns-then-is_used_up-clause-value
 returns-then-is_used_up-clause-value g c = rw (← c.self.view_is) (
     let none : Place = record { file = 0; offset = 0; size = 0 } in
-    (none, group_kept _ _ _ _ refl refl refl refl))
+    (none, group_kept _ _ _ _ refl refl refl refl, tt))
 
 pub returns-then-is_long-clause-value : goal.returns-then-is_long-clause-value
 returns-then-is_long-clause-value g c = rw (← c.self.view_is) (
     let none : Place = record { file = 0; offset = 0; size = 0 } in
-    (none, group_kept _ _ _ _ refl refl refl refl))
+    (none, group_kept _ _ _ _ refl refl refl refl, tt))
 
 pub returns-then-is_full-clause-value : goal.returns-then-is_full-clause-value
 returns-then-is_full-clause-value g c = rw (← c.self.view_is) (
     let none : Place = record { file = 0; offset = 0; size = 0 } in
-    (none, group_kept _ _ _ _ refl refl refl refl))
+    (none, group_kept _ _ _ _ refl refl refl refl, tt))
 
 pub returns-in-Err-clause-value : goal.returns-in-Err-clause-value
 returns-in-Err-clause-value g c = rw (← c.self.view_is) (
     let none : Place = record { file = 0; offset = 0; size = 0 } in
-    (none, group_kept _ _ _ _ refl refl refl refl))
+    (none, group_kept _ _ _ _ refl refl refl refl, tt))
 
 pub returns-then-is_used_up-clause-gives : goal.returns-then-is_used_up-clause-gives
 returns-then-is_used_up-clause-gives g c = rw (← c.self.view_is) (λ tells messages debt rest.
@@ -112,7 +112,8 @@ returns-in-Err-clause-gives g c = rw (← c.self.view_is) (λ tells messages deb
 -- ---- the message
 
 pub returns-in-Ok-clause-value : goal.returns-in-Ok-clause-value
-returns-in-Ok-clause-value g c = rw (← c.self.view_is) (group_shelved _ c.put_message.new.self c.find_target.new.shelf c.put_message.result c.put_message.ensures.value)
+returns-in-Ok-clause-value g c =
+    rw (← c.self.view_is) (group_shelved g.S.Shelf.sees _ c.put_message.new.self c.find_target.new.shelf c.in-Ok.target c.put_message.result c.in-Ok.ensures.finds c.put_message.ensures.value)
 
 pub returns-in-Ok-clause-gives : goal.returns-in-Ok-clause-gives
 returns-in-Ok-clause-gives g c = rw (← c.self.view_is) (λ tells messages debt rest.
