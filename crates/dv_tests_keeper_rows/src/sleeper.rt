@@ -5,20 +5,29 @@ use dv_tests_keeper::Ask::Line;
 use std::alloc::Global;
 use std::test::Fail;
 
-// The sessions that select the mailbox before so many of the STOREs.
-const LATE: [(u32, &[u8]); 3] = [
-    (1, b"c SELECT\n"),
-    (60, b"d SELECT\n"),
-    (120, b"e SELECT\n"),
+const STORES: u32 = 400;
+
+// The sleepers: before which STORE each of them selects the mailbox.
+const SLEEPERS: &[(&str, u32)] = &[
+    ("b", 1),
+    ("c", 1),
+    ("d", 60),
+    ("e", 120),
+    ("f", 180),
+    ("g", 240),
+    ("h", 300),
+    ("i", 360),
 ];
 
-// What all sessions but the first ask at the end.
-const LAST: [Ask; 4] = [
-    Line(b"b NOOP\n"),
-    Line(b"c NOOP\n"),
-    Line(b"d NOOP\n"),
-    Line(b"e NOOP\n"),
-];
+// 164 appends.
+fn appends<'a>(alloc: Global) -> Result<Vec<Ask<'a>>, Fail> {
+    let mut asks = Vec::new(alloc);
+    asks.push(Line(b"a SELECT\n"))?;
+    for _ in 0..164 {
+        asks.push(Line(b"a APPEND () {1}\nx\n"))?;
+    }
+    Ok(asks)
+}
 
 // A STORE of every second message of 164.
 fn store(alloc: Global) -> Result<Bytes, Fail> {
@@ -30,37 +39,37 @@ fn store(alloc: Global) -> Result<Bytes, Fail> {
     Ok(line)
 }
 
-// The session that selects the mailbox before this STORE.
-fn late(store: u32) -> Option<&'static [u8]> {
-    for (before, line) in LATE {
-        if before == store {
-            return Some(line);
+// This command of each sleeper.
+fn lines(alloc: Global, command: &str) -> Result<Vec<Bytes>, Fail> {
+    let mut lines = Vec::new(alloc);
+    for (name, _) in SLEEPERS {
+        let line = format!(in alloc; "{name} {command}\n")?;
+        lines.push(Bytes::from_slice(alloc, line.as_bytes())?)?;
+    }
+    Ok(lines)
+}
+
+// Those sleepers select the mailbox that do it before this STORE.
+fn add_selects<'a>(
+    asks: &mut Vec<Ask<'a>>,
+    store: u32,
+    selects: &'a [Bytes],
+) -> Result<(), Fail> {
+    for ((_, before), select) in SLEEPERS.iter().zip(selects) {
+        if *before == store {
+            asks.push(Line(select.as_slice()))?;
         }
     }
-    None
+    Ok(())
 }
 
-// 164 appends.
-fn appends<'a>(alloc: Global) -> Result<Vec<Ask<'a>>, Fail> {
-    let mut asks = Vec::new(alloc);
-    asks.push(Line(b"a SELECT\n"))?;
-    for _ in 0..164 {
-        asks.push(Line(b"a APPEND () {1}\nx\n"))?;
-    }
-    asks.push(Line(b"b SELECT\n"))?;
-    Ok(asks)
-}
-
-// 164 appends, 140 times that STORE, and what the other sessions ask then.
-fn asks(alloc: Global, store: &[u8]) -> Result<Vec<Ask<'_>>, Fail> {
+// 164 appends, and 400 times that STORE, while the sleepers select the mailbox.
+fn asks<'a>(alloc: Global, store: &'a [u8], selects: &'a [Bytes]) -> Result<Vec<Ask<'a>>, Fail> {
     let mut asks = appends(alloc)?;
-    for k in 1..=140u32 {
-        if let Some(line) = late(k) {
-            asks.push(Line(line))?;
-        }
+    for at in 1..=STORES {
+        add_selects(&mut asks, at, selects)?;
         asks.push(Line(store))?;
     }
-    asks.extend_from_slice(&LAST)?;
     Ok(asks)
 }
 
@@ -74,15 +83,16 @@ fn tell_rows(alloc: Global, name: &str, text: &mut Bytes) -> Result<(), Fail> {
     Ok(())
 }
 
-// The end of the output: two sessions selected before the first STORE, the others behind it. A
-// STORE is a record of 992 bytes. A rotation comes before the 131st, and its file begins at 40.
+// What the sleepers are told at the end: of the flags, those that selected the mailbox before the
+// first STORE. A STORE is a record of 992 bytes. Rotations come before the 131st, 264th and 397th,
+// and a file begins at 40.
 fn told(alloc: Global) -> Result<Bytes, Fail> {
     let mut text = Bytes::new(alloc);
-    for name in ["b", "c", "d", "e"] {
-        if name == "b" || name == "c" {
+    for (name, before) in SLEEPERS {
+        if *before == 1 {
             tell_rows(alloc, name, &mut text)?;
         }
-        text.extend(format!(in alloc; "{name} OK [MARK 2:9960] NOOP\n")?.as_bytes())?;
+        text.extend(format!(in alloc; "{name} OK [MARK 4:4008] NOOP\n")?.as_bytes())?;
     }
     Ok(text)
 }
@@ -91,9 +101,14 @@ fn told(alloc: Global) -> Result<Bytes, Fail> {
 fn a_sleeper_hears_once_of_what_changed(rt: HostRuntime) -> Result<(), Fail> {
     let alloc = rt.alloc();
     let store = store(alloc)?;
-    let asks = asks(alloc, store.as_slice())?;
-    let played = played(&rt, alloc, 5, &asks)?;
+    let selects = lines(alloc, "SELECT")?;
+    let noops = lines(alloc, "NOOP")?;
+    let mut asks = asks(alloc, store.as_slice(), selects.as_slice())?;
+    for noop in &noops {
+        asks.push(Line(noop.as_slice()))?;
+    }
+    let played = played(&rt, alloc, 9, &asks)?;
     assert!(rt; played.out.taken().ends_with(told(alloc)?.as_slice()));
-    assert_eq!(rt; played.entries, 304);
+    assert_eq!(rt; played.entries, 564);
     Ok(())
 }
