@@ -1,5 +1,5 @@
-//! Tests of a keeper's calls: worked rows, whole and by parts, sessions that compare and rejoin, one
-//! that sleeps through a rotation, and a POP3 client beside a session that writes.
+//! Tests of a keeper's calls: worked rows, whole and by parts, sessions that compare and rejoin,
+//! eight that sleep through rotations, and a POP3 client beside a session that writes.
 #![tactic(auto)]
 
 #[cfg(test)]
