@@ -3,7 +3,7 @@
 use crate::calls::{data_lines, is_untold, select_seen, tell_seen};
 use crate::lines::line_of;
 use crate::player::{Ask, Player, Trouble, expect, seat_of};
-use crate::serving::serve;
+use crate::serving::{rejoin, serve};
 use dv_feed::Taken;
 use dv_keeper::SessionFault;
 use dv_member::{Met, meet};
@@ -16,6 +16,11 @@ use std::sync::Wait;
 // What ends the line of a command that the disk failed.
 const FAILED: &[u8] = b" NO [UNAVAILABLE] FAULTS 1\n";
 
+// Whether the disk failed the last command of which this was told.
+fn is_failed(told: &[u8]) -> bool {
+    told.ends_with(FAILED)
+}
+
 impl<K: Keeping, L: Tally, M: Tally> Player<K, L, M> {
     // Serves a line of a script. Where memory runs out behind its entry the seat stays empty.
     fn serve_line<R: Wait>(&mut self, rt: &R, text: &[u8]) -> Result<(), Trouble> {
@@ -24,20 +29,25 @@ impl<K: Keeping, L: Tally, M: Tally> Player<K, L, M> {
         let mut session = self.rise(at)?;
         let mut replies = ReplyText::new(self.alloc, line.session);
         match serve(rt, &self.keeper, &mut session, &line.command, &mut replies) {
-            Ok(()) => self.sit(at, session),
+            Ok(()) => {
+                self.sit(at, session);
+                self.tell(&replies)
+            }
             Err(SessionFault::NoMemory) => {
                 self.sit(at, session);
-                return Err(Trouble::NoMemory);
+                Err(Trouble::NoMemory)
             }
-            Err(SessionFault::NoMemoryAfter(_)) => return Err(Trouble::NoMemoryAfter),
+            Err(SessionFault::NoMemoryAfter(_)) => {
+                drop(session);
+                Err(Trouble::NoMemoryAfter)
+            }
         }
-        self.tell(&replies)
     }
 
     // Serves a line, and once more where the disk fails it.
     fn serve_again<R: Wait>(&mut self, rt: &R, text: &[u8]) -> Result<(), Trouble> {
         self.serve_line(rt, text)?;
-        if self.out.taken().ends_with(FAILED) {
+        if is_failed(self.out.taken()) {
             return self.serve_line(rt, text);
         }
         Ok(())
@@ -63,17 +73,13 @@ impl<K: Keeping, L: Tally, M: Tally> Player<K, L, M> {
 
     fn rejoin<R: Wait>(&mut self, rt: &R, at: usize) -> Result<(), Trouble> {
         let mut session = self.rise(at)?;
-        if !session.knows_seal() {
-            return Err(Trouble::Unlike);
-        }
-        let done = self.keeper.rejoin(rt, &mut session);
+        let done = rejoin(rt, &self.keeper, &mut session);
         self.sit(at, session);
-        Ok(done?)
+        done
     }
 
     fn gather<R: Wait>(&mut self, rt: &R, a: usize, b: usize) -> Result<(), Trouble> {
-        let mut one = self.rise(a)?;
-        let mut other = self.rise(b)?;
+        let (mut one, mut other) = self.rise_both(a, b)?;
         let done = self.keeper.gather(rt, &mut one, &mut other);
         self.sit(a, one);
         self.sit(b, other);
@@ -81,8 +87,7 @@ impl<K: Keeping, L: Tally, M: Tally> Player<K, L, M> {
     }
 
     fn meet(&mut self, a: usize, b: usize, wanted: Met) -> Result<(), Trouble> {
-        let mut one = self.rise(a)?;
-        let mut other = self.rise(b)?;
+        let (mut one, mut other) = self.rise_both(a, b)?;
         let met = meet(&mut one, &mut other);
         self.sit(a, one);
         self.sit(b, other);
@@ -172,23 +177,21 @@ impl<K: Keeping, L: Tally, M: Tally> Player<K, L, M> {
         }
     }
 
-    /// Does all that is asked, one after another, until a session is spent, which was asked what
-    /// stands at this place.
-    pub(crate) fn ask_all<R: Wait>(
-        &mut self,
-        rt: &R,
-        asks: &[Ask<'_>],
-    ) -> Result<Option<usize>, Trouble> {
+    /// Does all that is asked, one after another, until a session is spent.
+    pub(crate) fn ask_all<R: Wait>(&mut self, rt: &R, asks: &[Ask<'_>]) -> Result<(), Trouble> {
         for at in 0..asks.len() {
             let came = self.ask_twice(rt, asks[at]);
             self.ends.push(self.out.taken().len())?;
             match came {
                 Ok(()) => {}
-                Err(Trouble::NoMemoryAfter) => return Ok(Some(at)),
+                Err(Trouble::NoMemoryAfter) => {
+                    self.spent = Some(at);
+                    return Ok(());
+                }
                 Err(trouble) => return Err(trouble),
             }
         }
-        Ok(None)
+        Ok(())
     }
 
     /// Does all that is asked of sessions that aren't spent.

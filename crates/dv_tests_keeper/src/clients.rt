@@ -44,7 +44,7 @@ impl<K: Keeping, L: Tally, M: Tally> PopSeat<K, L, M> {
         requires { (client.maildrop.ended ≡ false) × (client.session.spent ≡ false) }
     {
         self.at = at;
-        self.client = Some(client);
+        drop(self.client.replace(client));
     }
 }
 
@@ -76,19 +76,31 @@ impl<K: Keeping, L: Tally, M: Tally> Player<K, L, M> {
         self.tell_client(text.as_slice())
     }
 
-    /// Answers a line of the POP3 client. Behind QUIT its session is back in its seat; where memory
-    /// runs out that stays empty.
-    pub(crate) fn answer_client<R: Wait>(&mut self, rt: &R, text: &[u8]) -> Result<(), Trouble> {
-        let at = self.pop_seat.at;
-        let mut client = self.pop_seat.rise()?;
-        let Ok(answer) = client.answer(rt, &self.keeper, &parse_line(text)) else {
-            return Err(Trouble::NoMemoryAfter);
-        };
+    // A client takes its seat again; behind QUIT its session does.
+    fn seat_client(&mut self, at: usize, client: Pop<K, L, M>)
+        requires { client.session.spent ≡ false }
+    {
         if client.maildrop().has_ended() {
             self.sit(at, client.session());
         } else {
             self.pop_seat.sit(at, client);
         }
-        self.tell_client(answer.as_slice())
+    }
+
+    /// Answers a line of the POP3 client. Behind QUIT its session is back in its seat; where memory
+    /// runs out that stays empty.
+    pub(crate) fn answer_client<R: Wait>(&mut self, rt: &R, text: &[u8]) -> Result<(), Trouble> {
+        let at = self.pop_seat.at;
+        let mut client = self.pop_seat.rise()?;
+        match client.answer(rt, &self.keeper, &parse_line(text)) {
+            Ok(answer) => {
+                self.seat_client(at, client);
+                self.tell_client(answer.as_slice())
+            }
+            Err(_) => {
+                drop(client);
+                Err(Trouble::NoMemoryAfter)
+            }
+        }
     }
 }

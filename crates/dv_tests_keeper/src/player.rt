@@ -13,7 +13,8 @@ use dv_shelf::MemSink;
 use dv_texts::ReplyText;
 use std::alloc::Global;
 
-/// What is asked of sessions. They are numbered from 0 on, and named by the letters from `a` on.
+/// What is asked of sessions. They are numbered from 0 on, and their names begin with the letters
+/// from `a` on.
 #[derive(Clone, Copy)]
 pub enum Ask<'a> {
     /// A line of a script is served.
@@ -75,18 +76,24 @@ pub struct Seat<K: Keeping, L: Tally, M: Tally> {
     ghost fresh: { ForSome session (λ s. s.spent ≡ false) },
 }
 
-/// A keeper with its sessions, what they were answered, how long that was behind each of what was
-/// asked, and how much was asked once more.
+/// A keeper with its sessions, which stand before they are seated, what they were answered, how long
+/// that was behind each of what was asked, how much was asked once more, and what was asked when
+/// memory ran out behind an entry.
 #[derive(Drop)]
 pub struct Player<K: Keeping, L: Tally, M: Tally> {
     pub(crate) alloc: Global,
     pub(crate) keeper: MemKeeper<K, L, M>,
+    pub(crate) standing: Vec<Session<K, L, M>>,
     pub(crate) seats: Vec<Seat<K, L, M>>,
     pub(crate) pop_seat: PopSeat<K, L, M>,
     pub(crate) out: MemSink,
     pub(crate) ends: Vec<usize>,
     pub(crate) refused: u32,
+    pub(crate) spent: Option<usize>,
 }
+
+/// Two sessions.
+type Two<K, L, M> = (Session<K, L, M>, Session<K, L, M>);
 
 impl<K: Keeping, L: Tally, M: Tally> Player<K, L, M> {
     /// A session leaves its seat.
@@ -102,12 +109,28 @@ impl<K: Keeping, L: Tally, M: Tally> Player<K, L, M> {
         }
     }
 
+    /// Two sessions leave their seats.
+    pub(crate) fn rise_both(&mut self, a: usize, b: usize) -> Result<Two<K, L, M>, Trouble>
+        ensures { IfOk result (λ two. (two.0.spent ≡ false) × (two.1.spent ≡ false)) }
+    {
+        let one = self.rise(a)?;
+        match self.rise(b) {
+            Ok(other) => Ok((one, other)),
+            Err(trouble) => {
+                self.sit(a, one);
+                Err(trouble)
+            }
+        }
+    }
+
     /// A session takes its seat again.
     pub(crate) fn sit(&mut self, at: usize, session: Session<K, L, M>)
         requires { session.spent ≡ false }
     {
         if at < self.seats.len() {
-            self.seats[at].session = Some(session);
+            drop(self.seats[at].session.replace(session));
+        } else {
+            drop(session);
         }
     }
 
@@ -120,11 +143,11 @@ impl<K: Keeping, L: Tally, M: Tally> Player<K, L, M> {
     }
 }
 
-/// The number of the session that this letter names.
+/// The number of the session whose name begins with its letter.
 pub(crate) fn seat_of(name: &[u8]) -> usize {
-    match name {
-        [letter] => usize::from(letter.saturating_sub(b'a')),
-        _ => usize::MAX,
+    match name.first() {
+        Some(letter) => usize::from(letter.saturating_sub(b'a')),
+        None => usize::MAX,
     }
 }
 

@@ -42,80 +42,111 @@ pub struct Played {
     pub spent: Option<usize>,
 }
 
-// A seat for each session, in their order.
+// A seat for each session, in their order. Those that stand are seated from the last on.
 fn seat_all<K: Keeping, L: Tally, M: Tally>(
-    alloc: Global,
-    mut sessions: Vec<Session<K, L, M>>,
-) -> Result<Vec<Seat<K, L, M>>, NoMemory>
-    requires { AreNewSessions K.start 1 sessions.items }
+    standing: &mut Vec<Session<K, L, M>>,
+    seats: &mut Vec<Seat<K, L, M>>,
+) -> Result<(), NoMemory>
+    requires { AreNewSessions K.start 1 standing.old.items }
 {
-    let mut seats = Vec::new(alloc);
-    while let Some(session) = sessions.pop() {
+    while let Some(session) = standing.pop() {
         seats.push(Seat {
             session: Some(session),
         })?;
     }
     seats.reverse();
-    Ok(seats)
+    Ok(())
 }
 
-// The sessions that are seated, for which there is room.
+// All that are seated stand up.
 fn rise_all<K: Keeping, L: Tally, M: Tally>(
-    mut seats: Vec<Seat<K, L, M>>,
-    mut sessions: Vec<Session<K, L, M>>,
-) -> Result<Vec<Session<K, L, M>>, NoMemory> {
+    seats: &mut Vec<Seat<K, L, M>>,
+    standing: &mut Vec<Session<K, L, M>>,
+) -> Result<(), NoMemory> {
     while let Some(seat) = seats.pop() {
         let Seat { session, .. } = seat;
         if let Some(session) = session {
-            sessions.push(session)?;
+            standing.push(session)?;
         }
     }
-    Ok(sessions)
+    Ok(())
 }
 
-// The sessions are handed in, and the keeper is closed.
-fn close<K: Keeping, L: Tally, M: Tally>(
-    player: Player<K, L, M>,
-    room: Vec<Session<K, L, M>>,
-    spent: Option<usize>,
-) -> Result<Played, NoMemory> {
+// The sessions that stand are handed in, and the keeper is closed.
+fn close<K: Keeping, L: Tally, M: Tally>(player: Player<K, L, M>) -> Played {
     let Player {
         keeper,
+        standing,
         seats,
+        pop_seat,
         out,
         ends,
         refused,
+        spent,
         ..
     } = player;
-    let sessions = rise_all(seats, room)?;
-    let (store, entries) = keeper.close(sessions);
-    Ok(Played {
+    drop(seats);
+    drop(pop_seat);
+    let (store, entries) = keeper.close(standing);
+    Played {
         out,
         ends,
         store,
         entries,
         refused,
         spent,
-    })
+    }
 }
 
-// Asks for all, one after another, and closes the keeper. Once a session is spent, the others are
-// asked for the rest instead.
+impl<K: Keeping, L: Tally, M: Tally> Player<K, L, M> {
+    // Sessions that were just made sit down and are asked for all, one after another. Once one is
+    // spent, the others are asked for the rest instead. In the end they stand.
+    fn ask_sessions<R: Wait>(
+        &mut self,
+        rt: &R,
+        asks: &[Ask<'_>],
+        rest: &[Ask<'_>],
+    ) -> Result<(), Trouble>
+        requires { AreNewSessions K.start 1 self.old.standing.items }
+    {
+        seat_all(&mut self.standing, &mut self.seats)?;
+        self.ask_all(rt, asks)?;
+        if self.spent.is_some() {
+            self.ask_others(rt, rest)?;
+        }
+        Ok(rise_all(&mut self.seats, &mut self.standing)?)
+    }
+}
+
+// Asks new sessions for all, and closes the keeper.
 fn play_all<K: Keeping, L: Tally, M: Tally, R: Wait>(
     rt: &R,
     mut player: Player<K, L, M>,
-    room: Vec<Session<K, L, M>>,
     asks: &[Ask<'_>],
     rest: &[Ask<'_>],
-) -> Result<Played, Trouble> {
-    let spent = player.ask_all(rt, asks)?;
-    if spent.is_some() {
-        player.ask_others(rt, rest)?;
+) -> Result<Played, Trouble>
+    requires { AreNewSessions K.start 1 player.standing.items }
+{
+    match player.ask_sessions(rt, asks, rest) {
+        Ok(()) => Ok(close(player)),
+        Err(trouble) => {
+            drop(player);
+            Err(trouble)
+        }
     }
-    Ok(close(player, room, spent)?)
 }
 
-// Makes a keeper under these names, asks for all, and closes it.
+/// What is told, and the ends of that.
+type Told = (MemSink, Vec<usize>);
+
+// Room for what is told of so much that is asked.
+fn room_to_tell(alloc: Global, asks: usize) -> Result<Told, NoMemory> {
+    let ends = Vec::with_capacity(alloc, asks)?;
+    let out = MemSink::new(alloc, ROOM, List::new(alloc))?;
+    Ok((out, ends))
+}
+
+// Makes a keeper under these names, asks its sessions for all, and closes it.
 fn play_named<K: Keeping, L: Tally, M: Tally, R: Wait>(
     rt: &R,
     alloc: Global,
@@ -123,6 +154,7 @@ fn play_named<K: Keeping, L: Tally, M: Tally, R: Wait>(
     store: MemStore,
     start_count: u64,
     sessions: u32,
+    told: Told,
     asks: &[Ask<'_>],
     rest: &[Ask<'_>],
 ) -> Result<Played, Trouble>
@@ -134,23 +166,26 @@ fn play_named<K: Keeping, L: Tally, M: Tally, R: Wait>(
     requires count { (start_count ≡ K.count) × (K.count ≤ faults_of store.shelf) }
     requires few { (1 ≤ sessions) × (sessions ≤ 64) }
 {
-    let out = MemSink::new(alloc, ROOM, List::new(alloc))?;
-    let room = Vec::with_capacity(alloc, sessions as usize)?;
-    let ends = Vec::with_capacity(alloc, asks.len())?;
-    let Ok((keeper, made)) = MemKeeper::<K, L, M>::new(alloc, names, store, start_count, sessions)
-    else {
-        return Err(Trouble::NoMemory);
-    };
-    let player = Player {
-        alloc,
-        keeper,
-        seats: seat_all(alloc, made)?,
-        pop_seat: PopSeat::empty(),
-        out,
-        ends,
-        refused: 0,
-    };
-    play_all(rt, player, room, asks, rest)
+    match MemKeeper::<K, L, M>::new(alloc, names, store, start_count, sessions) {
+        Ok((keeper, standing)) => {
+            let player = Player {
+                alloc,
+                keeper,
+                standing,
+                seats: Vec::new(alloc),
+                pop_seat: PopSeat::empty(),
+                out: told.0,
+                ends: told.1,
+                refused: 0,
+                spent: None,
+            };
+            play_all(rt, player, asks, rest)
+        }
+        Err(left) => {
+            drop(left);
+            Err(Trouble::NoMemory)
+        }
+    }
 }
 
 // The mailbox of a folder is opened, or made at 1000 where it has none.
@@ -161,8 +196,14 @@ fn opened(alloc: Global, shelf: MemShelf) -> Result<MemStore, Trouble>
     let clock = MemClock::new(alloc, List::from_slice(alloc, &[1000])?);
     match open_folder(alloc, shelf, clock) {
         Ok(store) => Ok(store),
-        Err((_, _, OpenFault::NoMemory)) => Err(Trouble::NoMemory),
-        Err(_) => Err(Trouble::NotOpened),
+        Err((shelf, clock, fault)) => {
+            drop(shelf);
+            drop(clock);
+            Err(match fault {
+                OpenFault::NoMemory => Trouble::NoMemory,
+                _ => Trouble::NotOpened,
+            })
+        }
     }
 }
 
@@ -181,5 +222,6 @@ pub fn play<R: Wait>(
 {
     let store = opened(alloc, shelf)?;
     let names = new_names(alloc, sessions as u64)?;
-    play_named::<Brand, Brand, Brand, R>(rt, alloc, names, store, 0, sessions, asks, rest)
+    let told = room_to_tell(alloc, asks.len())?;
+    play_named::<Brand, Brand, Brand, R>(rt, alloc, names, store, 0, sessions, told, asks, rest)
 }

@@ -7,6 +7,7 @@ ghost use Rattle.dv_keeper.specs.declared.fault.SessionFault.TheVariants as sess
 ghost use Rattle.dv_responses.specs.Depth.{IsShallow};
 ghost use Rattle.dv_serving.specs.Servable.{IsServable};
 
+use crate::player::Trouble;
 use dv_feed::Taken;
 use dv_keeper::{Keeper, SessionFault};
 use dv_member::Session;
@@ -38,7 +39,22 @@ pub fn see_all<K: Keeping, L: Tally, M: Tally, R: Wait>(
     }
 }
 
-/// Serves a command that writes nothing and reads no messages.
+/// A session that knows its table to be sealed goes on in the newest.
+pub fn rejoin<K: Keeping, L: Tally, M: Tally, R: Wait>(
+    rt: &R,
+    keeper: &MemKeeper<K, L, M>,
+    s: &mut Session<K, L, M>,
+) -> Result<(), Trouble>
+    requires fresh { s.old.spent ≡ false }
+    ensures fresh { s.new.spent ≡ false }
+{
+    if !s.knows_seal() {
+        return Err(Trouble::Unlike);
+    }
+    Ok(keeper.rejoin(rt, s)?)
+}
+
+// Serves a command that writes nothing and reads no messages.
 fn serve_read<K: Keeping, L: Tally, M: Tally, R: Wait>(
     rt: &R,
     keeper: &MemKeeper<K, L, M>,
