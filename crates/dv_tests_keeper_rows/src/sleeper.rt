@@ -50,11 +50,7 @@ fn lines(alloc: Global, command: &str) -> Result<Vec<Bytes>, Fail> {
 }
 
 // Those sleepers select the mailbox that do it before this STORE.
-fn add_selects<'a>(
-    asks: &mut Vec<Ask<'a>>,
-    store: u32,
-    selects: &'a [Bytes],
-) -> Result<(), Fail> {
+fn add_selects<'a>(asks: &mut Vec<Ask<'a>>, store: u32, selects: &'a [Bytes]) -> Result<(), Fail> {
     for ((_, before), select) in SLEEPERS.iter().zip(selects) {
         if *before == store {
             asks.push(Line(select.as_slice()))?;
