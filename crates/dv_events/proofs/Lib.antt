@@ -1,4 +1,5 @@
 pub mod Stepping
 pub mod Loading
 pub mod Telling
+pub mod Selecting
 pub mod Writing

@@ -1,5 +1,5 @@
 -- Commands that write nothing are answered.
-use Rattle.std.specs.Prelude.{◌≡◌, ℕ, false, true, List, [], ◌∷◌, ◌++◌, None, Ok}
+use Rattle.std.specs.Prelude.{◌≡◌, ℕ, false, true, List, [], ◌∷◌, ◌++◌, None, Result, Ok}
 use Rattle.dv_model.specs.declared.memory.NoMemory.{NoMemory}
 use Rattle.dv_model.specs.declared.types.Command.{Command}
 use Rattle.dv_model.specs.declared.types.Command.TheVariants as command
@@ -9,16 +9,18 @@ use Rattle.dv_model.specs.declared.types.Step.{Step}
 use Rattle.dv_model.specs.declared.types.Step.TheVariants.{Full}
 use Rattle.dv_model.specs.declared.types.Word.TheVariants as word
 use Rattle.dv_model.specs.Journals.{Log, mark_of}
-use Rattle.dv_model.specs.Sessions.{data_of, ending_of, is_select, is_write, reads_mail, step_of, told_of}
+use Rattle.dv_model.specs.Sessions.{State, data_of, ending_of, is_select, is_write, reads_mail, step_of, told_of}
 use Rattle.dv_model.specs.Views.{empty_view, moved, said}
 use Rattle.dv_shelf.specs.Folders.{Folder}
 use Rattle.dv_shelf.specs.Sees.{SeesFolder, SeesTime}
 use Rattle.dv_schedules.specs.Calls.{Answer, Refresh}
+use Rattle.dv_plans.specs.declared.fault.StoreFault.{StoreFault}
 use Rattle.dv_answer.specs.Refusing.{own_refusal}
-use Rattle.dv_member.specs.Calls.{turn_of, turned}
+use Rattle.dv_member.specs.Calls.{IsAsBefore, turn_of, turned}
 use Rattle.dv_member.specs.Members.{IsSession, Member, log_seen}
 use Rattle.dv_shared.specs.Holding.{Holds}
 use Rattle.dv_shared.specs.Kept.{Kept, notes_in}
+use Rattle.dv_keeper.specs.Selecting.{HasSelected, LeavesSelected, SelectsAndReads}
 use Rattle.dv_keeper.specs.Turns.{HasAnswered, LeavesReader}
 use Rattle.dv_events.specs.Worlds.{History, CallsLead, history_of}
 
@@ -98,3 +100,30 @@ MailTells {S} {C} sees times start moment past honest count =
     → HasAnswered start count c lines old new
     → CallsLead start (Refresh old.number ∷ Answer old.number c ∷ []) (history_of k) (history_of k)
     old new ((c, lines) ∷ [])
+
+-- a SELECT, and behind it such a command in the same hold of the lock: each is answered behind a
+-- load of all that was published
+abbrev pub SelectAndReadTells : {S C : Type 0} → SeesFolder S → SeesTime C → Log → ℕ
+    → (ℕ → Folder → Type 0) → Type 0 → ℕ → Type 0
+SelectAndReadTells {S} {C} sees times start moment past honest count =
+    (old new : Member) (c : Command) (k : Kept S C) (came : Result (List ℕ) StoreFault)
+    (damaged : List ℕ) (lines : List Reply)
+    → old.spent ≡ false → reads_mail c ≡ true
+    → ((x : State) → x.selected ≡ true → own_refusal x c ≡ None)
+    → Holds sees times.tells start moment past honest k
+    → LeavesSelected start count (notes_in k) came old new (Ok tt)
+    → (both : SelectsAndReads start count c lines old new) → both.came ≡ Ok damaged
+    → CallsLead start
+    (Refresh old.number ∷ Answer old.number command.Select
+    ∷ Refresh old.number ∷ Answer old.number c ∷ [])
+    (history_of k) (history_of k) old new ((command.Select, both.first) ∷ (c, both.second) ∷ [])
+
+-- Where the disk failed the reading behind it, or memory ran out there, the SELECT is answered
+-- behind a load, and that is all.
+abbrev pub UnreadSelectTells : Log → ℕ → Type 0
+UnreadSelectTells start count = (refused : ℕ) (old shown new : Member) (lines : List Reply)
+    (h : History)
+    → old.spent ≡ false → HasSelected start count h.notes lines old shown
+    → IsAsBefore (record shown { refused = refused }) new
+    → CallsLead start (Refresh old.number ∷ Answer old.number command.Select ∷ []) h h old new
+    ((command.Select, lines) ∷ [])

@@ -1,6 +1,6 @@
 ghost use Rattle.dv_events.specs.Worlds.{PromisesHold};
 ghost use Rattle.dv_events.specs.Loads.{FailedRefreshStays, GatherLoads, MadeSessionsOpen, NothingHappens, RefreshLoads, RejoinLoads};
-ghost use Rattle.dv_events.specs.Answers.{AnswerTells, MailTells, SelectTells, TellTells};
+ghost use Rattle.dv_events.specs.Answers.{AnswerTells, MailTells, SelectAndReadTells, SelectTells, TellTells, UnreadSelectTells};
 ghost use Rattle.dv_events.specs.Writes.{RefusedWriteLoads, SpentWriteStands, UntoldWriteStays, WriteTells};
 
 use dv_naming::Keeping;
@@ -32,9 +32,13 @@ pub fn answers_are_events()
     ensures tell { TellTells }
 {}
 
-/// A command that reads messages is answered behind a load, in one hold of the lock.
+/// A command that reads messages is answered behind a load, in one hold of the lock. So is a SELECT
+/// before it in the same hold; or the SELECT alone, where the disk failed the reading or memory ran
+/// out there.
 pub fn readings_are_events<S: Shelf, C: Clock, K: Keeping>()
-    ensures { MailTells S.sees C.sees K.start K.moment K.past K.honest K.count }
+    ensures mail { MailTells S.sees C.sees K.start K.moment K.past K.honest K.count }
+    ensures select { SelectAndReadTells S.sees C.sees K.start K.moment K.past K.honest K.count }
+    ensures unread { UnreadSelectTells K.start K.count }
 {}
 
 /// A write commits its group, loads it and is answered, in one hold of the lock. One that is
