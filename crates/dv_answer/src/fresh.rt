@@ -2,9 +2,8 @@ ghost use Rattle.std.specs.Prelude.{◌≡◌, IfOk};
 ghost use Rattle.dv_model.specs.Fresh.{shown_of};
 ghost use Rattle.dv_answer.specs.Following.{fresh_of, is_untold, untold};
 
-use dv_apply::Live;
 use dv_model::{Fresh, List, NoMemory, Shown};
-use dv_view::{View, shown};
+use dv_view::{Live, View, shown};
 use std::alloc::Global;
 
 // What is shown of the row of a UID, found by halves.

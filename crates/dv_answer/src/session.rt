@@ -16,7 +16,6 @@ ghost use Rattle.dv_view.specs.Taken.{HasTaken};
 
 use crate::fresh::{fresh_of, retain_untold};
 use crate::numbers::missing_number;
-use dv_apply::Live;
 use dv_model::{Command, Fresh, List, Mark, NoMemory, Reply, Step};
 use dv_responses::{
     Met, Responses, add_data_lines, add_select_lines, damaged_among, data_room, ending, gone_uid,
@@ -24,7 +23,7 @@ use dv_responses::{
 };
 use dv_search::Mail;
 use dv_touched::Touched;
-use dv_view::{Replies, View};
+use dv_view::{Live, Replies, View};
 use std::alloc::Global;
 use std::marker::Model;
 use std::mem;

@@ -25,7 +25,7 @@ use Rattle.dv_portion.proofs.Portioned.{records_portion}
 use Rattle.dv_portion.proofs.Staying.{rest_stays}
 use Rattle.dv_portion.specs.Portions.{HoldsNew, portion, rest}
 use Rattle.dv_rows.specs.Parted.{HasUid, is_among, is_parted}
-use Rattle.dv_survey.specs.Surveys.{AreAllNamed}
+use Rattle.dv_portion.specs.Surveys.{AreAllNamed}
 use Rattle.dv_touched.specs.Telling.{Differs}
 use Rattle.dv_validity.proofs.Records.{after_by, all_in_range_valid, by_some}
 use Rattle.dv_validity.proofs.Rows.{fold_keeps_any}

@@ -29,7 +29,7 @@ use Rattle.dv_apply.proofs.Lending.{above, or_false}
 use Rattle.dv_apply.specs.Bodies.{Refused, refused_row}
 use Rattle.dv_apply.specs.Preparing.{AreChangeable, IsRefused, Part, PutsShare, alone}
 use Rattle.dv_apply.specs.States.{Held}
-use Rattle.dv_survey.specs.Surveys.{AreAllNamed}
+use Rattle.dv_portion.specs.Surveys.{AreAllNamed}
 
 -- ---- answers
 

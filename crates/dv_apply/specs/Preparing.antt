@@ -14,7 +14,7 @@ use Rattle.dv_model.specs.Mailboxes.{IsValid}
 use Rattle.dv_model.specs.Spelling.{IsRecord}
 use Rattle.dv_portion.specs.Portions.{portion, rest}
 use Rattle.dv_rows.specs.Parted.{HasUid, is_parted}
-use Rattle.dv_survey.specs.Surveys.{AreAllNamed}
+use Rattle.dv_portion.specs.Surveys.{AreAllNamed}
 use Rattle.dv_validity.specs.Laws.{IsInRange}
 use Rattle.dv_apply.specs.Bodies.{Refused, refused_row}
 use Rattle.dv_apply.specs.declared.share.Made.{Made}

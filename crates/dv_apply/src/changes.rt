@@ -23,7 +23,7 @@ pub fn expunge(state: &mut State, pairs: &[Pair])
     ensures { Becomes state.old (Expunge pairs.now) state.new }
 {
     state.highest = higher(state.highest);
-    dv_overlaps::expunge(state.alloc, &mut state.rows, pairs);
+    dv_portion::expunge(state.alloc, &mut state.rows, pairs);
 }
 
 /// Removes the rows that are named (Dovecot's `mail_transaction_expunge_guid`).
@@ -41,7 +41,7 @@ pub fn change_flags(state: &mut State, changes: &[Change])
     ensures { Becomes state.old (FlagUpdate changes.now) state.new }
 {
     state.highest = higher(state.highest);
-    dv_overlaps::change_flags(state.alloc, &mut state.rows, changes, state.highest);
+    dv_portion::change_flags(state.alloc, &mut state.rows, changes, state.highest);
 }
 
 /// A record of another type has no effect but the next modification sequence.

@@ -31,8 +31,8 @@ fn change_keywords(
     ensures err { OnErr result (rows.new ≡ rows.old) }
 {
     match how {
-        How::Add => dv_overlaps::add_keyword(alloc, rows, pairs, place, modseq),
-        _ => dv_overlaps::change_keywords(alloc, rows, pairs, how, place, modseq),
+        How::Add => dv_portion::add_keyword(alloc, rows, pairs, place, modseq),
+        _ => dv_portion::change_keywords(alloc, rows, pairs, how, place, modseq),
     }
 }
 
@@ -112,5 +112,5 @@ pub fn clear_keywords(state: &mut State, pairs: &[Pair])
     ensures { Becomes state.old (KeywordReset pairs.now) state.new }
 {
     state.highest = higher(state.highest);
-    dv_overlaps::clear_keywords(state.alloc, &mut state.rows, pairs, state.highest);
+    dv_portion::clear_keywords(state.alloc, &mut state.rows, pairs, state.highest);
 }

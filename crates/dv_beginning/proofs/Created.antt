@@ -17,7 +17,7 @@ use Rattle.dv_openings.specs.Rebuilds.{stamp_of}
 use Rattle.dv_chain.specs.declared.chain.Chain.{Chain}
 use Rattle.dv_chain.specs.Creations.{HasNone, IsFirst, IsOldOrCreated, LeavesCreated, created, first_mailbox}
 use Rattle.dv_chain.specs.Openings.{FaultFound, IsOutside, found_of}
-use Rattle.dv_rotation.specs.Texts.{place_of}
+use Rattle.dv_files.specs.Texts.{place_of}
 use Rattle.dv_writing.specs.Keeping.{Gives, Keeps}
 use Rattle.dv_store.specs.Opening.{IsFresh, OpensQuietly}
 use Rattle.dv_store.specs.States.{State}

@@ -13,7 +13,7 @@ use Rattle.dv_shelf.proofs.Moments.{weaker}
 use Rattle.dv_openings.specs.TrueCaches.{HasTrueCache}
 use Rattle.dv_chain.specs.declared.chain.Chain.{Chain}
 use Rattle.dv_chain.specs.Openings.{IsQuiet, LeavesFolder}
-use Rattle.dv_rotation.specs.Texts.{place_of}
+use Rattle.dv_files.specs.Texts.{place_of}
 use Rattle.dv_writing.specs.Debts.{Fits, Nothing, Stands}
 use Rattle.dv_writing.specs.Keeping.{Gives, Keeps}
 use Rattle.dv_lookups.specs.Kept.{IsFileOf}

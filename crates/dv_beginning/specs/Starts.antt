@@ -7,7 +7,7 @@ use Rattle.dv_shelf.specs.Folders.{Folder, IsNew}
 use Rattle.dv_openings.specs.Openings.{Finds, IsFound}
 use Rattle.dv_openings.specs.Rebuilds.{stamp_of}
 use Rattle.dv_chain.specs.Creations.{first_mailbox}
-use Rattle.dv_mails.specs.Reading.{guid_at, mail_at}
+use Rattle.dv_files.specs.Reading.{guid_at, mail_at}
 use Rattle.dv_openings.specs.Numbers.{IsNamed}
 
 -- a mailbox at a place, whose messages are those of the folder's message files

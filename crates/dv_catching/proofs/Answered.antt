@@ -7,7 +7,7 @@ use Rattle.dv_shelf.specs.Clocks.{behind}
 use Rattle.dv_shelf.specs.Folders.{Folder, IsNew}
 use Rattle.dv_shelf.specs.Sees.{SeesFolder, SeesTime}
 use Rattle.dv_shelf.proofs.Moments.{weaker}
-use Rattle.dv_rotation.specs.Texts.{place_of}
+use Rattle.dv_files.specs.Texts.{place_of}
 use Rattle.dv_writing.specs.Debts.{Nothing}
 use Rattle.dv_writing.specs.Keeping.{Gives}
 use Rattle.dv_writing.proofs.Resting.{rests_give}

@@ -15,6 +15,7 @@ mod walking;
 
 pub use chain::Chain;
 pub use creating::{create, first_header};
+pub use dv_apply::Live;
 pub use file::File;
 pub use index::{Index, read_index};
 pub use joining::{goes_before, is_before, is_next};

@@ -11,9 +11,9 @@ use Rattle.dv_shelf.proofs.Moments.{joined, weaker}
 use Rattle.dv_logfile.specs.Gates.{FromOneOf}
 use Rattle.dv_chain.specs.declared.chain.Chain.{Chain}
 use Rattle.dv_chain.specs.Rest.{IsPending, Last, Nothing, Owed, Pending, next_mark}
-use Rattle.dv_mails.proofs.Beside.{resting_beside}
-use Rattle.dv_rotation.specs.declared.texts.Turn.{Turn}
-use Rattle.dv_rotation.specs.Texts.{place_of}
+use Rattle.dv_files.proofs.Beside.{resting_beside}
+use Rattle.dv_files.specs.declared.texts.Turn.{Turn}
+use Rattle.dv_files.specs.Texts.{place_of}
 use Rattle.dv_writing.specs.declared.committing.Committed.{Committed}
 use Rattle.dv_writing.specs.Commits.{AdvancesChain, KeepsOthers}
 use Rattle.dv_writing.specs.Opening.{mark_behind}

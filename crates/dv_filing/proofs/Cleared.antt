@@ -14,10 +14,10 @@ use Rattle.dv_logfile.specs.Settling.{StaysSettled}
 use Rattle.dv_logfile.proofs.Settling.{rose_settled, stepped_settled}
 use Rattle.dv_chain.specs.declared.chain.Chain.{Chain}
 use Rattle.dv_chain.specs.Rest.{IsResting, Nothing, Rests}
-use Rattle.dv_mails.specs.Quiet.{KeepsRest}
-use Rattle.dv_mails.specs.Writing.{IsSweeping, IsSwept, Sweeps, swept}
-use Rattle.dv_mails.proofs.Removing.{sweep_stays}
-use Rattle.dv_rotation.specs.Leavings.{Leaves}
+use Rattle.dv_files.specs.Resting.{KeepsRest}
+use Rattle.dv_files.specs.Writing.{IsSweeping, IsSwept, Sweeps, swept}
+use Rattle.dv_files.proofs.Removing.{sweep_stays}
+use Rattle.dv_files.specs.Leavings.{Leaves}
 use Rattle.dv_writing.proofs.Opened.{may_open}
 use Rattle.dv_writing.proofs.Resting.{both_only}
 use Rattle.dv_maps.specs.Maps.{row_count, row_place}

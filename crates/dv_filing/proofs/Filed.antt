@@ -13,9 +13,9 @@ use Rattle.dv_logfile.specs.Settling.{StaysSettled}
 use Rattle.dv_logfile.proofs.Settling.{rose_settled}
 use Rattle.dv_chain.specs.declared.chain.Chain.{Chain}
 use Rattle.dv_chain.specs.Rest.{Nothing}
-use Rattle.dv_mails.proofs.Beside.{KeepsIndex, put_beside, resting_beside}
-use Rattle.dv_rotation.specs.Leavings.{IsPut, Leaves, Puts}
-use Rattle.dv_rotation.proofs.Replacing.{puts_either}
+use Rattle.dv_files.proofs.Beside.{KeepsIndex, put_beside, resting_beside}
+use Rattle.dv_files.specs.Leavings.{IsPut, Leaves, Puts}
+use Rattle.dv_files.proofs.Replacing.{puts_either}
 use Rattle.dv_model.specs.declared.types.Mailbox.{Mailbox}
 use Rattle.dv_filing.specs.declared.steps.Files.{Files}
 use Rattle.dv_filing.specs.declared.steps.Files.TheVariants as files

@@ -11,7 +11,7 @@ use Rattle.dv_logfile.specs.Gates.{FromOneOf}
 use Rattle.dv_apply.specs.States.{Held}
 use Rattle.dv_chain.specs.declared.chain.Chain.{Chain}
 use Rattle.dv_chain.specs.Rest.{IsPending, Nothing, Owed, Pending, Rests}
-use Rattle.dv_rotation.specs.Texts.{place_of}
+use Rattle.dv_files.specs.Texts.{place_of}
 use Rattle.dv_writing.specs.declared.committing.Committed.{Committed}
 use Rattle.dv_writing.specs.Commits.{AdvancesChain, CommitsGroup, OpensBeside, owed_after}
 use Rattle.dv_writing.specs.Opening.{mark_behind}

@@ -7,8 +7,8 @@ use Rattle.dv_shelf.specs.Sees.{SeesFolder}
 use Rattle.dv_shelf.proofs.Moments.{joined, weaker}
 use Rattle.dv_chain.specs.declared.chain.Chain.{Chain}
 use Rattle.dv_chain.specs.Rest.{Last, Nothing, Owed}
-use Rattle.dv_rotation.specs.declared.texts.Turn.{Turn}
-use Rattle.dv_rotation.specs.Texts.{Advances}
+use Rattle.dv_files.specs.declared.texts.Turn.{Turn}
+use Rattle.dv_files.specs.Texts.{Advances}
 use Rattle.dv_writing.specs.Turning.{TurnsOver}
 use Rattle.dv_writing.specs.Ways.{healed, held, repaired}
 use Rattle.dv_filing.specs.Standing.{Fits, MayGive, PaysQuietly, Stands, TurnsQuietly, owed_of}

@@ -8,10 +8,10 @@ use Rattle.dv_shelf.proofs.Moments.{weaker}
 use Rattle.dv_logfile.specs.Gates.{FromOneOf}
 use Rattle.dv_chain.specs.declared.chain.Chain.{Chain}
 use Rattle.dv_chain.specs.Rest.{Last, Nothing, Owed, Pending, Rests}
-use Rattle.dv_rotation.specs.declared.texts.Turn.{Turn}
-use Rattle.dv_rotation.specs.Leavings.{IsPut, Leaves, Puts}
-use Rattle.dv_rotation.specs.Quiet.{FinishesQuietly, RestsFinished}
-use Rattle.dv_rotation.proofs.Replacing.{puts_either}
+use Rattle.dv_files.specs.declared.texts.Turn.{Turn}
+use Rattle.dv_files.specs.Leavings.{IsPut, Leaves, Puts}
+use Rattle.dv_files.specs.Quiet.{FinishesQuietly, RestsFinished}
+use Rattle.dv_files.proofs.Replacing.{puts_either}
 use Rattle.dv_writing.specs.Commits.{HealsFolder, KeepsOthers, OpensBeside, healed}
 use Rattle.dv_writing.specs.Opening.{MayOpen}
 use Rattle.dv_writing.proofs.Kept.{KeepsMessages, beside_log, beside_put, of_log}

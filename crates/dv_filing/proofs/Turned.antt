@@ -5,11 +5,11 @@ use Rattle.dv_shelf.specs.Folders.{Folder}
 use Rattle.dv_shelf.specs.Sees.{SeesFolder}
 use Rattle.dv_chain.specs.declared.chain.Chain.{Chain}
 use Rattle.dv_chain.specs.Rest.{Last, Nothing, Owed, Rests}
-use Rattle.dv_rotation.specs.declared.fault.TurnEnd.{TurnEnd}
-use Rattle.dv_rotation.specs.declared.fault.TurnEnd.TheVariants as end
-use Rattle.dv_rotation.specs.declared.texts.Turn.{Turn}
-use Rattle.dv_rotation.specs.Leavings.{IsTurning, Leaves, Turns}
-use Rattle.dv_rotation.specs.Quiet as rotation
+use Rattle.dv_files.specs.declared.fault.TurnEnd.{TurnEnd}
+use Rattle.dv_files.specs.declared.fault.TurnEnd.TheVariants as end
+use Rattle.dv_files.specs.declared.texts.Turn.{Turn}
+use Rattle.dv_files.specs.Leavings.{IsTurning, Leaves, Turns}
+use Rattle.dv_files.specs.Quiet as rotation
 use Rattle.dv_writing.proofs.Kept.{beside_turn}
 use Rattle.dv_writing.proofs.Resting.{follows_since}
 use Rattle.dv_filing.specs.Standing.{KeepsOwed, Stands, TurnsQuietly, owed_of}

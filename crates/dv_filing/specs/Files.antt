@@ -6,7 +6,7 @@ use Rattle.dv_shelf.specs.Crashes.{LeavesOnly}
 use Rattle.dv_shelf.specs.Folders.{ChangesOnly, Folder, TornFile, contents, patched}
 use Rattle.dv_shelf.specs.Sees.{SeesFolder}
 use Rattle.dv_logfile.specs.Gates.{FromOneOf}
-use Rattle.dv_rotation.specs.Leavings.{IsPut}
+use Rattle.dv_files.specs.Leavings.{IsPut}
 use Rattle.dv_filing.specs.declared.steps.Files.{Files}
 use Rattle.dv_filing.specs.declared.steps.Files.TheVariants as files
 

@@ -7,7 +7,7 @@ use Rattle.dv_shelf.specs.Folders.{Folder}
 use Rattle.dv_shelf.specs.Sees.{SeesFolder}
 use Rattle.dv_chain.specs.declared.chain.Chain.{Chain}
 use Rattle.dv_chain.specs.Rest.{Last, Nothing, Owed, next_mark}
-use Rattle.dv_rotation.specs.declared.texts.Turn.{Turn}
+use Rattle.dv_files.specs.declared.texts.Turn.{Turn}
 use Rattle.dv_writing.specs.Ways.{Held}
 use Rattle.dv_filing.specs.Standing.{Fits, Gives, MayGive, Stands}
 use Rattle.dv_maps.specs.Texts.{Messages}

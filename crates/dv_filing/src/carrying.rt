@@ -14,7 +14,7 @@ ghost use Rattle.dv_filing.specs.Writes.{AreSteps, CarriesOut, IsWriteOf, Writes
 use crate::{Steps, make_way, write_files};
 use dv_chain::Chain;
 use dv_model::Bytes;
-use dv_rotation::Turn;
+use dv_files::Turn;
 use dv_shelf::{Failed, Shelf};
 use dv_writing::{Committed, commit};
 

@@ -5,13 +5,13 @@ ghost use Rattle.dv_shelf.specs.Causes.{HasCause};
 ghost use Rattle.dv_logfile.specs.Settling.{StaysSettled};
 ghost use Rattle.dv_chain.specs.declared.chain.Chain.{Chain};
 ghost use Rattle.dv_chain.specs.Rest.{Nothing};
-ghost use Rattle.dv_mails.specs.Writing.{IsSweeping, Sweeps};
-ghost use Rattle.dv_rotation.specs.Leavings.{Leaves};
+ghost use Rattle.dv_files.specs.Writing.{IsSweeping, Sweeps};
+ghost use Rattle.dv_files.specs.Leavings.{Leaves};
 ghost use Rattle.dv_maps.specs.Texts.{Messages};
 ghost use Rattle.dv_filing.specs.Clearing.{ClearsQuietly, Needs};
 ghost use Rattle.dv_filing.specs.Standing.{Stands};
 
-use dv_mails::sweep;
+use dv_files::sweep;
 use dv_shelf::{Failed, Shelf};
 
 /// Removes message files, by their numbers in this order and by one remove each; one that isn't

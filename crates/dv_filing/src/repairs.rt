@@ -9,7 +9,7 @@ ghost use Rattle.dv_maps.specs.Texts.{Messages};
 ghost use Rattle.dv_filing.specs.Standing.{Fits, PaysQuietly, Stands};
 
 use dv_chain::Chain;
-use dv_rotation::{Turn, finish};
+use dv_files::{Turn, finish};
 use dv_shelf::{Failed, Shelf};
 use dv_writing::heal;
 

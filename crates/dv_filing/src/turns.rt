@@ -3,14 +3,14 @@
 ghost use Rattle.std.specs.Prelude.{◌≡◌, ◌<◌, None};
 ghost use Rattle.dv_shelf.specs.Causes.{HasCause};
 ghost use Rattle.dv_chain.specs.Rest.{Nothing};
-ghost use Rattle.dv_rotation.specs.Leavings.{IsTurning, Leaves};
-ghost use Rattle.dv_rotation.specs.Texts.{ClosesLog, IsTurnOf};
+ghost use Rattle.dv_files.specs.Leavings.{IsTurning, Leaves};
+ghost use Rattle.dv_files.specs.Texts.{ClosesLog, IsTurnOf};
 ghost use Rattle.dv_writing.specs.Turning.{TurnsFiles, TurnsOver};
 ghost use Rattle.dv_maps.specs.Texts.{Messages};
 ghost use Rattle.dv_filing.specs.Standing.{Stands, TurnsQuietly};
 
 use dv_chain::Chain;
-use dv_rotation::{Turn, TurnEnd, rotate};
+use dv_files::{Turn, TurnEnd, rotate};
 use dv_shelf::{Failed, Shelf};
 
 /// Rotates the log by a turn's three replaces. Takes no memory. After `Failed` the log is as it

@@ -4,7 +4,7 @@ ghost use Rattle.std.specs.Prelude.{◌≡◌, IfSome};
 ghost use Rattle.dv_shelf.specs.Causes.{HasCause};
 ghost use Rattle.dv_logfile.specs.Settling.{StaysSettled};
 ghost use Rattle.dv_chain.specs.Rest.{Owed};
-ghost use Rattle.dv_rotation.specs.Texts.{ClosesLog};
+ghost use Rattle.dv_files.specs.Texts.{ClosesLog};
 ghost use Rattle.dv_writing.specs.Repairing.{IsOwing};
 ghost use Rattle.dv_writing.specs.Ways.{IsDue, MakesWay, MakesWayIn, held};
 ghost use Rattle.dv_maps.specs.Texts.{Messages};
@@ -13,7 +13,7 @@ ghost use Rattle.dv_filing.specs.Ways.{MakesWayQuietly};
 
 use crate::{pay, turn_over};
 use dv_chain::Chain;
-use dv_rotation::Turn;
+use dv_files::Turn;
 use dv_shelf::{Failed, Shelf};
 
 /// Pays what is owed, and then rotates the log by a turn that was made for it, where there is one.

@@ -2,10 +2,9 @@ ghost use Rattle.std.specs.Prelude.{◌≡◌, IfOk, filter};
 ghost use Rattle.dv_model.specs.Sessions.{deleted_uids, has_row, is_deleted, is_unchanged};
 ghost use Rattle.dv_groups.specs.Changes.{changed_uids, expunged_uids, removes};
 
-use dv_apply::Live;
 use dv_model::{Command, List, NoMemory, Row};
 use dv_responses::named_uids;
-use dv_view::View;
+use dv_view::{Live, View};
 use std::alloc::Global;
 
 // How many messages an EXPUNGE removes at most.

@@ -7,8 +7,8 @@ ghost use Rattle.dv_model.specs.Sessions.{cache_number, check_records, internal_
 
 use crate::cutting::PIECE;
 use crate::records::internal;
-use dv_apply::Live;
 use dv_model::{Body, Bytes, Extension, Intro, List, NoMemory, Record};
+use dv_view::Live;
 use std::alloc::Global;
 
 // Stands for the place of an extension that is named.

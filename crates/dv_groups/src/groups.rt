@@ -11,9 +11,8 @@ use crate::checks::check_records;
 use crate::lengths::{keywords_length, records_length, store_length};
 use crate::ranges::{range_count, ranges_of};
 use crate::records::{append_records, expunge_records, store_records};
-use dv_apply::Live;
 use dv_model::{Command, Group, GuidRow, List, NoMemory};
-use dv_view::View;
+use dv_view::{Live, View};
 use std::alloc::Global;
 
 /// The group that a command writes, where the messages that it changes were found before:

@@ -4,9 +4,9 @@ ghost use Rattle.dv_model.specs.Sessions.{is_log_full, limit_of, message_of};
 ghost use Rattle.dv_model.specs.Spelling.{group_text};
 ghost use Rattle.dv_groups.specs.Limits.{reply_of};
 
-use dv_apply::Live;
 use dv_model::{Command, Mark};
 use dv_responses::is_append;
+use dv_view::Live;
 
 /// A limit that a command meets (RFC 5530, LIMIT).
 #[derive(Clone, Copy, PartialEq, Eq, Debug)]

@@ -3,9 +3,9 @@ ghost use Rattle.dv_live.specs.Laws.{Became, IsOf};
 
 use crate::Saved;
 use dv_answer::fresh_of;
-use dv_apply::Live;
 use dv_model::NoMemory;
 use dv_touched::Touched;
+use dv_view::Live;
 use std::alloc::Global;
 
 /// Follows the mailbox by the UIDs that were touched since the search was kept of it: the rows of

@@ -13,11 +13,10 @@ ghost use Rattle.dv_live.specs.Turning.{RiseFrom, turned, verdict_of};
 
 use crate::merging::{add_met, turned};
 use crate::verdicts::{Verdict, is_met, verdicts_of};
-use dv_apply::Live;
 use dv_keywords::Table;
 use dv_model::{Bytes, Duplicate, Fresh, Key, List, NoMemory};
 use dv_search::Sought;
-use dv_view::shown;
+use dv_view::{Live, shown};
 use std::alloc::Global;
 use std::marker::Model;
 

@@ -14,7 +14,7 @@ use Rattle.dv_cache.specs.declared.row.CacheRow.{CacheRow}
 use Rattle.dv_cache.specs.declared.row.Known.{Known}
 use Rattle.dv_cache.specs.Caches.{cache_text, entries_from, field_size, fields_text, first_place, fits, header_text, kept, known_text, place_behind, row_entry, texts_from}
 use Rattle.dv_cached.proofs.Checks.{cached_writable}
-use Rattle.dv_mails.specs.Reading.{mail_at}
+use Rattle.dv_files.specs.Reading.{mail_at}
 use Rattle.dv_openings.specs.TrueCaches.{cached_rows, known_in, known_of}
 use Rattle.dv_lookups.specs.Founds.{AreMessages}
 use Rattle.dv_lookups.specs.Checks.{IsCacheText, has_sizes, held_of, held_row, held_rows}

@@ -14,7 +14,7 @@ use Rattle.dv_model.specs.declared.memory.NoMemory.{NoMemory}
 use Rattle.dv_shelf.specs.declared.shelf.ShelfFault.{ShelfFault}
 use Rattle.dv_shelf.specs.Folders.{Folder}
 use Rattle.dv_cache.specs.declared.row.Known.{Known}
-use Rattle.dv_mails.specs.Reading.{mail_at}
+use Rattle.dv_files.specs.Reading.{mail_at}
 use Rattle.dv_openings.specs.TrueCaches.{HasTrueCache, known_in, known_of}
 use Rattle.dv_lookups.specs.declared.source.Source.{Source}
 use Rattle.dv_lookups.specs.declared.source.Source.TheVariants as source

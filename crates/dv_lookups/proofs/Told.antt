@@ -14,7 +14,7 @@ use Rattle.dv_model.specs.Sessions.{candidate, fetch_lines, has_uid, is_damaged,
 use Rattle.dv_model.specs.Sets.{named, numbered}
 use Rattle.dv_model.specs.Views.{View}
 use Rattle.dv_shelf.specs.Folders.{Folder}
-use Rattle.dv_mails.specs.Reading.{mail_at}
+use Rattle.dv_files.specs.Reading.{mail_at}
 use Rattle.dv_search.specs.Facts.{found_rows, is_found}
 use Rattle.dv_responses.specs.Damaged.{damaged_uids}
 use Rattle.dv_responses.specs.Fetched.{lines_from}

@@ -7,8 +7,8 @@ use Rattle.dv_model.specs.Journals.{Mail, Held, Damaged}
 use Rattle.dv_model.specs.Sessions.{has_uid}
 use Rattle.dv_shelf.specs.declared.shelf.Name.TheVariants as name
 use Rattle.dv_shelf.specs.Folders.{Folder}
-use Rattle.dv_mails.specs.Reading.{IsTakenAs, mail_at}
-use Rattle.dv_mails.specs.declared.reading.MailFile.TheVariants as file
+use Rattle.dv_files.specs.Reading.{IsTakenAs, mail_at}
+use Rattle.dv_files.specs.declared.reading.MailFile.TheVariants as file
 use Rattle.dv_openings.specs.TrueCaches.{known_in}
 use Rattle.dv_responses.specs.declared.asking.Asked.{Asked}
 use Rattle.dv_responses.specs.Supplied.{facts_from}

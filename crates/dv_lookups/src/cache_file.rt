@@ -11,11 +11,11 @@ ghost use Rattle.dv_lookups.specs.Kept.{CountsReads, IsFileOf, IsLookedUp, Spare
 ghost use Rattle.dv_lookups.specs.Looks.{look_seen};
 
 use crate::looks::{Look, look_of};
-use dv_apply::Live;
 use dv_cache::{Known, find};
 use dv_chain::Chain;
 use dv_model::{Bytes, Row};
 use dv_shelf::{Name, Shelf, ShelfFault};
+use dv_view::Live;
 use std::alloc::Global;
 
 /// The cache file of a mailbox, as far as it was read.

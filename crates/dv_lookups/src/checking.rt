@@ -9,19 +9,19 @@ ghost use Rattle.dv_cache.specs.Caches.{HasFive, cache_text, first_place};
 ghost use Rattle.dv_shelf.specs.Causes.{HasCauseOf};
 ghost use Rattle.dv_shelf.specs.Folders.{counted};
 ghost use Rattle.dv_chain.specs.Openings.{OnlyLooks};
-ghost use Rattle.dv_mails.specs.Reading.{ReadsMails, mail_at};
+ghost use Rattle.dv_files.specs.Reading.{ReadsMails, mail_at};
 ghost use Rattle.dv_openings.specs.TrueCaches.{kept_names};
 ghost use Rattle.dv_lookups.specs.Checks.{IsCacheText, held_of, held_row, held_text};
 ghost use Rattle.dv_lookups.specs.Founds.{AreMessages};
 
 use crate::memory::in_memory;
-use dv_apply::Live;
 use dv_cache::{CacheRow, CacheText, Known};
 use dv_chain::Chain;
 use dv_fields::{field_of, physical, virtual_size};
-use dv_mails::{MailFile, read_mail};
+use dv_files::{MailFile, read_mail};
 use dv_model::{Bytes, List, NoMemory};
 use dv_shelf::{Shelf, ShelfFault};
+use dv_view::Live;
 use std::alloc::Global;
 
 // The largest size of a message that is kept.

@@ -19,12 +19,11 @@ ghost use Rattle.dv_lookups.specs.Reads.{damaged_in, damaged_of, item_room, line
 use crate::cache_file::CacheFile;
 use crate::found::FactsFound;
 use crate::memory::in_memory;
-use dv_apply::Live;
 use dv_chain::Chain;
 use dv_model::{Item, List, NoMemory, Shown, Span};
 use dv_responses::{Asked, Responses, named, row_at};
 use dv_shelf::{Shelf, ShelfFault};
-use dv_view::View;
+use dv_view::{Live, View};
 use std::alloc::Global;
 
 // About what stands around the value of an item.

@@ -5,9 +5,9 @@ ghost use Rattle.std.specs.Option.{option_copied, option_map};
 ghost use Rattle.dv_openings.specs.TrueCaches.{look_at, look_in, look_of};
 ghost use Rattle.dv_lookups.specs.Looks.{is_cache, look_seen};
 
-use dv_apply::Live;
 use dv_model::{Bytes, Extension, Row};
 use dv_num::u32_at;
+use dv_view::Live;
 
 /// The cache file's sequence, and the place of an entry in it.
 #[derive(Clone, Copy)]

@@ -24,13 +24,12 @@ ghost use Rattle.dv_lookups.specs.Reads.{damaged_in, damaged_of, held_in, number
 use crate::cache_file::CacheFile;
 use crate::found::FactsFound;
 use crate::memory::in_memory;
-use dv_apply::Live;
 use dv_chain::Chain;
 use dv_model::{Key, List, NoMemory, Reply, Shown};
 use dv_responses::{Asked, Responses};
 use dv_search::Sought;
 use dv_shelf::{Shelf, ShelfFault};
-use dv_view::View;
+use dv_view::{Live, View};
 use std::alloc::Global;
 
 // What a search has of the rows so far.

@@ -14,12 +14,12 @@ use crate::found::{BodyFound, FieldFound, SizesFound};
 use crate::known::{copy_of, is_kept, value_of};
 use crate::memory::in_memory;
 use crate::source::Source;
-use dv_apply::Live;
 use dv_chain::Chain;
 use dv_fields::{field_of, physical, virtual_size};
-use dv_mails::{MailFile, read_mail};
+use dv_files::{MailFile, read_mail};
 use dv_model::NoMemory;
 use dv_shelf::{Shelf, ShelfFault};
+use dv_view::Live;
 use std::alloc::Global;
 
 // Whether the mailbox has a row of this UID.

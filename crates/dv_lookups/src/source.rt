@@ -6,7 +6,7 @@ ghost use Rattle.dv_shelf.specs.Causes.{HasCauseOf};
 ghost use Rattle.dv_shelf.specs.Folders.{counted};
 ghost use Rattle.dv_chain.specs.Openings.{OnlyLooks};
 ghost use Rattle.dv_openings.specs.TrueCaches.{HasTrueCache};
-ghost use Rattle.dv_mails.specs.Reading.{mail_at};
+ghost use Rattle.dv_files.specs.Reading.{mail_at};
 ghost use Rattle.dv_lookups.specs.Founds.{IsFrom, IsSourceOf, mail_of};
 ghost use Rattle.dv_lookups.specs.Kept.{Economy, IsFileOf, IsSpared, Spares, row_of};
 
@@ -14,7 +14,7 @@ use crate::cache_file::CacheFile;
 use dv_cache::Known;
 use dv_chain::Chain;
 use dv_dbox::Message;
-use dv_mails::{MailFile, read_mail};
+use dv_files::{MailFile, read_mail};
 use dv_model::Row;
 use dv_shelf::{Shelf, ShelfFault};
 use std::alloc::Global;

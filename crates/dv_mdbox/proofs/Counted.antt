@@ -12,7 +12,7 @@ use Rattle.dv_shelf.specs.Sees.{SeesFolder}
 use Rattle.dv_shelf.proofs.Moments.{started}
 use Rattle.dv_chain.specs.declared.chain.Chain.{Chain}
 use Rattle.dv_chain.specs.Rest.{Owed}
-use Rattle.dv_rotation.specs.declared.texts.Turn.{Turn}
+use Rattle.dv_files.specs.declared.texts.Turn.{Turn}
 use Rattle.dv_filing.specs.declared.steps.Files.TheVariants as files
 use Rattle.dv_filing.specs.Standing.{Fits, Stands}
 use Rattle.dv_filing.specs.Writes.{KeepsThrough}

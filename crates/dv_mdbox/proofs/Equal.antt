@@ -6,8 +6,8 @@ use Rattle.dv_shelf.specs.Sees.{SeesFolder}
 use Rattle.dv_chain.specs.declared.chain.Chain.{Chain}
 use Rattle.dv_chain.specs.Openings.{HasBounds, OnlyLooks}
 use Rattle.dv_chain.specs.Rest.{Holds, IsPending, IsResting, Last, Nothing, Owed, Owes, Pending}
-use Rattle.dv_rotation.specs.declared.texts.Turn.{Turn}
-use Rattle.dv_rotation.specs.Texts.{IsTurnOf}
+use Rattle.dv_files.specs.declared.texts.Turn.{Turn}
+use Rattle.dv_files.specs.Texts.{IsTurnOf}
 use Rattle.dv_writing.specs.Opening.{AreEqual}
 use Rattle.dv_writing.specs.Repairing.{IsOwing}
 use Rattle.dv_filing.specs.Standing.{Stands}

@@ -11,8 +11,8 @@ use Rattle.dv_filing.specs.declared.steps.Files.{Files}
 use Rattle.dv_filing.specs.declared.steps.Files.TheVariants as kind
 use Rattle.dv_filing.specs.Clearing.{Needs}
 use Rattle.dv_filing.specs.Files.{IsNamed}
-use Rattle.dv_mails.specs.Writing.{IsSwept}
-use Rattle.dv_mails.proofs.Removing.{sweep_stays}
+use Rattle.dv_files.specs.Writing.{IsSwept}
+use Rattle.dv_files.proofs.Removing.{sweep_stays}
 use Rattle.dv_filing.proofs.Cleared.{sweeping}
 use Rattle.dv_maps.specs.Purges.{IsThinned, Rewrites, RewritesKeep, RewritesThin, ThinningsAre, all_mapped, file_records, kept_size}
 use Rattle.dv_maps.specs.Storages.{storage_of}

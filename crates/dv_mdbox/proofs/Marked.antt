@@ -9,8 +9,8 @@ use Rattle.dv_model.specs.Journals.{header_size, is_rotation_due, mark_behind}
 use Rattle.dv_model.specs.Spelling.{written}
 use Rattle.dv_chain.specs.declared.chain.Chain.{Chain}
 use Rattle.dv_plans.specs.Begins.{beginning, turns}
-use Rattle.dv_rotation.specs.declared.texts.Turn.{Turn}
-use Rattle.dv_rotation.specs.Texts.{place_of}
+use Rattle.dv_files.specs.declared.texts.Turn.{Turn}
+use Rattle.dv_files.specs.Texts.{place_of}
 use Rattle.dv_writing.specs.Repairing.{Repairs}
 use Rattle.dv_writing.specs.Ways.{IsDue, StopsOnWay, repaired}
 use Rattle.dv_mdbox.specs.States.{StandsAt, mark_from, next_file}

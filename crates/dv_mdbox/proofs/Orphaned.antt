@@ -8,7 +8,7 @@ use Rattle.dv_shelf.specs.declared.shelf.Name.{Name}
 use Rattle.dv_shelf.specs.declared.shelf.Name.TheVariants as name
 use Rattle.dv_shelf.specs.Folders.{Folder, Lists, has_name, same_name}
 use Rattle.dv_filing.specs.Clearing.{Needs}
-use Rattle.dv_mails.specs.Writing.{IsSwept, mail_names}
+use Rattle.dv_files.specs.Writing.{IsSwept, mail_names}
 use Rattle.dv_maps.specs.Maps.{row_place}
 use Rattle.dv_maps.specs.Purges.{all_mapped, mapped}
 use Rattle.dv_mdbox.specs.Gathering.{AreOrphans}

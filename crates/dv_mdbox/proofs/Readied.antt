@@ -13,7 +13,7 @@ use Rattle.dv_chain.specs.declared.chain.Chain.{Chain}
 use Rattle.dv_chain.specs.Rest.{IsPending}
 use Rattle.dv_plans.proofs.Applied.{after_of}
 use Rattle.dv_plans.proofs.Readied.{ready_live}
-use Rattle.dv_rotation.specs.declared.texts.Turn.{Turn}
+use Rattle.dv_files.specs.declared.texts.Turn.{Turn}
 use Rattle.dv_writing.specs.Commits.{IsReady}
 use Rattle.dv_writing.specs.Ways.{ready}
 

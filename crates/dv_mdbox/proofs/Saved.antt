@@ -22,8 +22,8 @@ use Rattle.dv_dbox.specs.BoxTexts.{BoxContent}
 use Rattle.dv_dbox.specs.Mails.{content_in, mail_in}
 use Rattle.dv_dbox.specs.Reading.{written_content}
 use Rattle.dv_dbox.proofs.Taken.{written_is_taken}
-use Rattle.dv_mails.specs.Writing.{IsFileOf}
-use Rattle.dv_rotation.specs.declared.texts.Turn.{Turn}
+use Rattle.dv_files.specs.Writing.{IsFileOf}
+use Rattle.dv_files.specs.declared.texts.Turn.{Turn}
 use Rattle.dv_filing.specs.Standing.{Fits, MayGive, Stands}
 use Rattle.dv_filing.proofs.Resting.{rests_give}
 use Rattle.dv_filing.specs.declared.steps.Files.TheVariants as files

@@ -17,8 +17,8 @@ use Rattle.dv_chain.specs.Openings.{OnlyLooks}
 use Rattle.dv_chain.specs.Rest.{Last, Nothing, Owed, Pending}
 use Rattle.dv_plans.specs.Begins.{beginning, turns}
 use Rattle.dv_plans.proofs.Readied.{ready_place}
-use Rattle.dv_rotation.specs.declared.texts.Turn.{Turn}
-use Rattle.dv_rotation.specs.Texts.{ClosesLog, place_of}
+use Rattle.dv_files.specs.declared.texts.Turn.{Turn}
+use Rattle.dv_files.specs.Texts.{ClosesLog, place_of}
 use Rattle.dv_writing.specs.declared.committing.Committed.{Committed}
 use Rattle.dv_writing.specs.Opening.{AreEqual, mark_behind}
 use Rattle.dv_writing.specs.Ways.{StopsOnWay, held, ready}

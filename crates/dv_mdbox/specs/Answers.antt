@@ -7,9 +7,9 @@ use Rattle.dv_shelf.specs.Clocks.{behind}
 use Rattle.dv_shelf.specs.declared.shelf.ShelfFault.{ShelfFault}
 use Rattle.dv_shelf.specs.declared.shelf.ShelfFault.TheVariants as shelf_fault
 use Rattle.dv_chain.specs.declared.chain.Chain.{Chain}
-use Rattle.dv_rotation.specs.declared.fault.ChainFault.{ChainFault}
-use Rattle.dv_rotation.specs.declared.fault.ChainFault.TheVariants as chain_fault
-use Rattle.dv_rotation.specs.Texts.{place_of}
+use Rattle.dv_files.specs.declared.fault.ChainFault.{ChainFault}
+use Rattle.dv_files.specs.declared.fault.ChainFault.TheVariants as chain_fault
+use Rattle.dv_files.specs.Texts.{place_of}
 use Rattle.dv_mdbox.specs.declared.fault.StorageFault.{StorageFault}
 use Rattle.dv_mdbox.specs.declared.fault.StorageFault.TheVariants as fault
 use Rattle.dv_mdbox.specs.declared.looking.Reference.{Reference}

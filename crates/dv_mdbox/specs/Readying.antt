@@ -11,7 +11,7 @@ use Rattle.dv_chain.specs.Openings.{OnlyLooks}
 use Rattle.dv_chain.specs.Rest.{IsPending}
 use Rattle.dv_plans.specs.Begins.{turns}
 use Rattle.dv_plans.specs.Counts.{CountsReads}
-use Rattle.dv_rotation.specs.declared.texts.Turn.{Turn}
+use Rattle.dv_files.specs.declared.texts.Turn.{Turn}
 use Rattle.dv_writing.specs.Ways.{ready}
 use Rattle.dv_filing.specs.declared.steps.Files.{Files}
 use Rattle.dv_filing.specs.declared.steps.Steps.{Steps}

@@ -6,8 +6,8 @@ use Rattle.dv_model.specs.declared.types.Mark.{Mark}
 use Rattle.dv_model.specs.Journals.{header_size, is_rotation_due, mark_behind}
 use Rattle.dv_chain.specs.declared.chain.Chain.{Chain}
 use Rattle.dv_chain.specs.Rest.{Owed}
-use Rattle.dv_rotation.specs.declared.texts.Turn.{Turn}
-use Rattle.dv_rotation.specs.Texts.{place_of}
+use Rattle.dv_files.specs.declared.texts.Turn.{Turn}
+use Rattle.dv_files.specs.Texts.{place_of}
 use Rattle.dv_shelf.specs.Sees.{SeesFolder}
 use Rattle.dv_filing.specs.Standing.{Fits, Stands}
 use Rattle.dv_maps.specs.Laws.{IsMap}

@@ -14,8 +14,8 @@ use Rattle.dv_chain.specs.declared.chain.Chain.{Chain}
 use Rattle.dv_chain.specs.Rest.{Nothing, Owed, Pending, next_mark}
 use Rattle.dv_plans.specs.Begins.{beginning, turns}
 use Rattle.dv_plans.specs.Counts.{CountsReads}
-use Rattle.dv_rotation.specs.declared.texts.Turn.{Turn}
-use Rattle.dv_rotation.specs.Texts.{place_of}
+use Rattle.dv_files.specs.declared.texts.Turn.{Turn}
+use Rattle.dv_files.specs.Texts.{place_of}
 use Rattle.dv_filing.specs.declared.steps.Files.{Files}
 use Rattle.dv_filing.specs.Files.{IsNamed}
 use Rattle.dv_filing.specs.Standing.{Fits, Gives, MayGive, Stands}

@@ -5,7 +5,7 @@ ghost use Rattle.dv_mdbox.specs.Answers.{chain_told, shelf_told};
 ghost use Rattle.dv_mdbox.specs.declared.fault.StorageFault.TheVariants as fault;
 
 use dv_model::OutOfMemory;
-use dv_rotation::ChainFault;
+use dv_files::ChainFault;
 use dv_shelf::{Failed, Shelf, ShelfFault};
 
 /// Why a call on a storage gave nothing. The ids are then as before, but for those that a purge has

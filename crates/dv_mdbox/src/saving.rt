@@ -21,7 +21,7 @@ use crate::{Storage, StorageFault};
 use dv_apply::Live;
 use dv_chain::Chain;
 use dv_filing::Files;
-use dv_mails::mail_text;
+use dv_files::mail_text;
 use dv_map_groups::save_records;
 use dv_maps::{Place, places_are, records_are_written, saves_are};
 use dv_model::{Bytes, NoMemory};

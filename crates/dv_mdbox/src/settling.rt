@@ -6,7 +6,7 @@ ghost use Rattle.dv_shelf.specs.Folders.{Lists};
 ghost use Rattle.dv_chain.specs.Openings.{OnlyLooks};
 ghost use Rattle.dv_chain.specs.Rest.{Nothing, Owed};
 ghost use Rattle.dv_filing.specs.Clearing.{Needs};
-ghost use Rattle.dv_mails.specs.Writing.{IsSwept};
+ghost use Rattle.dv_files.specs.Writing.{IsSwept};
 ghost use Rattle.dv_maps.specs.Texts.{Messages};
 ghost use Rattle.dv_mdbox.specs.Answers.{HasStorageCause, IsFailure};
 ghost use Rattle.dv_mdbox.specs.Gathering.{AreOrphans};

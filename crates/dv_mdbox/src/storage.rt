@@ -2,13 +2,13 @@
 
 ghost use Rattle.std.specs.Prelude.{◌≡◌};
 ghost use Rattle.dv_chain.specs.Openings.{HasBounds};
-ghost use Rattle.dv_rotation.specs.Texts.{place_of};
+ghost use Rattle.dv_files.specs.Texts.{place_of};
 ghost use Rattle.dv_mdbox.specs.States.{StandsAt, fresh_state};
 
 use crate::tails::Tail;
 use dv_chain::Chain;
 use dv_model::{Entry, List, Mark};
-use dv_rotation::Turn;
+use dv_files::Turn;
 use std::alloc::Global;
 use std::marker::Model;
 
@@ -33,10 +33,10 @@ pub struct Storage<S, C> {
 impl<S, C> Model for Storage<S, C> {
     ghost use Rattle.std.specs.Coded.{coded_list, coded_option};
     ghost use Rattle.dv_chain.specs.contracts.chain.Chain as chain_type;
-    ghost use Rattle.dv_rotation.specs.contracts.texts.Turn as turn_type;
+    ghost use Rattle.dv_files.specs.contracts.texts.Turn as turn_type;
     ghost use Rattle.dv_model.specs.contracts.types.Entry as entry_type;
     ghost use Rattle.dv_model.specs.contracts.types.Mark as mark_type;
-    ghost use Rattle.dv_rotation.specs.Texts.{place_of};
+    ghost use Rattle.dv_files.specs.Texts.{place_of};
     ghost use Rattle.dv_writing.specs.Repairing.{IsOwing};
     ghost use Rattle.dv_mdbox.specs.contracts.tails.Tail as tail_type;
     ghost use Rattle.dv_mdbox.specs.States.{StandsAt, State, state_code};

@@ -10,7 +10,7 @@ ghost use Rattle.dv_logfile.specs.Settling.{StaysSettled};
 ghost use Rattle.dv_shelf.specs.Clocks.{behind};
 ghost use Rattle.dv_chain.specs.Rest.{Owed};
 ghost use Rattle.dv_plans.specs.Begins.{count_of, turns};
-ghost use Rattle.dv_rotation.specs.Texts.{place_of};
+ghost use Rattle.dv_files.specs.Texts.{place_of};
 ghost use Rattle.dv_filing.specs.Files.{HasRoom};
 ghost use Rattle.dv_filing.specs.Standing.{Fits, Stands};
 ghost use Rattle.dv_filing.specs.Writes.{KeepsThrough};
@@ -28,7 +28,7 @@ use dv_apply::Live;
 use dv_chain::Chain;
 use dv_filing::{Files, carry_out};
 use dv_model::{Entry, Group, List, Record};
-use dv_rotation::Turn;
+use dv_files::Turn;
 use dv_shelf::{Clock, Shelf};
 use dv_writing::is_due;
 

@@ -7,8 +7,8 @@ use Rattle.dv_shelf.specs.Sees.{SeesFolder}
 use Rattle.dv_openings.specs.Openings.{Finds, IsFound}
 use Rattle.dv_chain.specs.declared.chain.Chain.{Chain}
 use Rattle.dv_chain.specs.Rest.{Last, Nothing, Owed, Pending, next_mark}
-use Rattle.dv_rotation.specs.declared.texts.Turn.{Turn}
-use Rattle.dv_rotation.specs.Texts.{place_of}
+use Rattle.dv_files.specs.declared.texts.Turn.{Turn}
+use Rattle.dv_files.specs.Texts.{place_of}
 use Rattle.dv_writing.specs.Opening.{mark_behind}
 use Rattle.dv_filing.specs.Standing.{Fits, Gives, MayGive as MayGiveNow}
 use Rattle.dv_filing.proofs.Resting.{rests_give}

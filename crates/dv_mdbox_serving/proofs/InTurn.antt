@@ -18,7 +18,7 @@ use Rattle.dv_playing.proofs.Failures.{rose_from}
 use Rattle.dv_chain.specs.declared.chain.Chain.{Chain}
 use Rattle.dv_chain.specs.Openings.{found_of}
 use Rattle.dv_mdbox.specs.Opening.{TellsFolder}
-use Rattle.dv_rotation.specs.Texts.{place_of}
+use Rattle.dv_files.specs.Texts.{place_of}
 use Rattle.dv_mdbox.specs.States.{StandsAt, State}
 use Rattle.dv_mdbox_lines.specs.declared.answers.Answer.{Answer}
 use Rattle.dv_mdbox_lines.specs.declared.lines.Call as declared

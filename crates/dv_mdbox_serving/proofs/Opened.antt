@@ -23,8 +23,8 @@ use Rattle.dv_chain.specs.Openings.{IsQuiet, UnlessDisk}
 use Rattle.dv_chain.specs.Rest.{Nothing}
 use Rattle.dv_chain.proofs.Created.{first_file, first_found, first_scanned}
 use Rattle.dv_logfile.specs.declared.commit.Debt.TheVariants as log_debt
-use Rattle.dv_rotation.specs.declared.texts.Turn.{Turn}
-use Rattle.dv_rotation.specs.Texts.{place_of}
+use Rattle.dv_files.specs.declared.texts.Turn.{Turn}
+use Rattle.dv_files.specs.Texts.{place_of}
 use Rattle.dv_filing.specs.Standing.{Fits, Stands}
 use Rattle.dv_filing.proofs.Resting.{texts_same}
 use Rattle.dv_maps.specs.Laws.{IsMap}

@@ -11,7 +11,7 @@ use Rattle.dv_shelf.proofs.Moments.{weaker}
 use Rattle.dv_chain.specs.declared.chain.Chain.{Chain}
 use Rattle.dv_chain.specs.Openings.{OnlyLooks}
 use Rattle.dv_chain.specs.Rest.{Owed}
-use Rattle.dv_rotation.specs.declared.texts.Turn.{Turn}
+use Rattle.dv_files.specs.declared.texts.Turn.{Turn}
 use Rattle.dv_filing.specs.Standing.{Fits, Stands}
 use Rattle.dv_maps.specs.Laws.{IsMap}
 use Rattle.dv_maps.specs.Maps.{row_count}

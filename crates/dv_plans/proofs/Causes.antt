@@ -3,9 +3,9 @@ use Rattle.std.proofs.Common.{◌≡◌, ℕ, ◌≤◌, Result, Ok, Err, refl, 
 use Rattle.dv_shelf.specs.Causes.{HasCauseOf}
 use Rattle.dv_shelf.specs.declared.shelf.ShelfFault.{ShelfFault}
 use Rattle.dv_shelf.specs.declared.shelf.ShelfFault.TheVariants as shelf_fault
-use Rattle.dv_rotation.specs.declared.fault.ChainFault.{ChainFault}
-use Rattle.dv_rotation.specs.declared.fault.ChainFault.TheVariants as chain_fault
-use Rattle.dv_rotation.specs.Leavings.{HasFaultCause, OnDisk}
+use Rattle.dv_files.specs.declared.fault.ChainFault.{ChainFault}
+use Rattle.dv_files.specs.declared.fault.ChainFault.TheVariants as chain_fault
+use Rattle.dv_files.specs.Leavings.{HasFaultCause, OnDisk}
 use Rattle.dv_plans.specs.Faults.{HasStoreCause, chain_told, shelf_told}
 
 -- a shelf's answer is told with its count

@@ -1,7 +1,7 @@
 -- Reads of message files, one call behind the other.
 use Rattle.std.proofs.Common.{◌≡◌, ℕ, zero, suc, ◌≤◌, refl, ◌∙◌, ap, arith}
 use Rattle.dv_shelf.specs.Folders.{counted}
-use Rattle.dv_mails.specs.Reading.{after_reads}
+use Rattle.dv_files.specs.Reading.{after_reads}
 use Rattle.dv_plans.specs.Counts.{CountsReads, CountsUpTo}
 
 -- nothing was called

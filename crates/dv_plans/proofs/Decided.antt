@@ -6,8 +6,8 @@ use Rattle.dv_model.specs.declared.types.Reply.{Reply}
 use Rattle.dv_groups.specs.declared.limits.Limit.{Limit}
 use Rattle.dv_groups.specs.declared.limits.Limit.TheVariants as limits
 use Rattle.dv_groups.specs.Limits.{reply_of}
-use Rattle.dv_rotation.specs.declared.fault.ChainFault.{ChainFault}
-use Rattle.dv_rotation.specs.declared.fault.ChainFault.TheVariants as chain_fault
+use Rattle.dv_files.specs.declared.fault.ChainFault.{ChainFault}
+use Rattle.dv_files.specs.declared.fault.ChainFault.TheVariants as chain_fault
 use Rattle.dv_plans.specs.declared.fault.StoreFault.{StoreFault}
 use Rattle.dv_plans.specs.declared.fault.StoreFault.TheVariants as faults
 use Rattle.dv_plans.specs.Faults.{chain_told, limit_told}

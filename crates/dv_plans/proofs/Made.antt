@@ -20,9 +20,9 @@ use Rattle.dv_chain.specs.declared.chain.Chain.{Chain}
 use Rattle.dv_groups.specs.Changes.{changed_uids, expunged_uids, guid_rows}
 use Rattle.dv_groups.specs.Groups.{HasSizes}
 use Rattle.dv_writing.specs.Keeping.{Keeps}
-use Rattle.dv_mails.specs.Reading.{guid_at}
-use Rattle.dv_rotation.specs.declared.texts.Turn.{Turn}
-use Rattle.dv_rotation.specs.Texts.{ClosesLog, next_log, place_of}
+use Rattle.dv_files.specs.Reading.{guid_at}
+use Rattle.dv_files.specs.declared.texts.Turn.{Turn}
+use Rattle.dv_files.specs.Texts.{ClosesLog, next_log, place_of}
 use Rattle.dv_writing.specs.declared.steps.Files.{Files}
 use Rattle.dv_writing.specs.Steps.{AreSteps}
 use Rattle.dv_writing.specs.Ways.{ready}

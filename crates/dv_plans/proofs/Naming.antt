@@ -15,7 +15,7 @@ use Rattle.dv_shelf.specs.Folders.{Folder}
 use Rattle.dv_dbox.specs.Mails.{no_guid}
 use Rattle.dv_groups.specs.Changes.{expunged_uids, guid_rows, removes}
 use Rattle.dv_writing.specs.Keeping.{Keeps}
-use Rattle.dv_mails.specs.Reading.{guid_at}
+use Rattle.dv_files.specs.Reading.{guid_at}
 use Rattle.dv_plans.specs.Guids.{guid_from, removed_of}
 use Rattle.dv_plans.proofs.Rising.{HasRow, expunged_there}
 

@@ -26,11 +26,11 @@ use Rattle.dv_chain.specs.declared.chain.Chain.{Chain}
 use Rattle.dv_groups.specs.Changes.{changed_uids, expunged_uids, guid_rows}
 use Rattle.dv_groups.specs.Groups.{HasSizes}
 use Rattle.dv_writing.specs.Keeping.{Keeps}
-use Rattle.dv_mails.specs.Reading.{mail_at}
-use Rattle.dv_mails.specs.Writing.{IsFileOf}
+use Rattle.dv_files.specs.Reading.{mail_at}
+use Rattle.dv_files.specs.Writing.{IsFileOf}
 use Rattle.dv_writing.specs.Removals.{IsFree}
-use Rattle.dv_rotation.specs.declared.texts.Turn.{Turn}
-use Rattle.dv_rotation.specs.Texts.{IsSnapshotOf, IsTurnOf, next_log, place_of}
+use Rattle.dv_files.specs.declared.texts.Turn.{Turn}
+use Rattle.dv_files.specs.Texts.{IsSnapshotOf, IsTurnOf, next_log, place_of}
 use Rattle.dv_writing.specs.declared.steps.Files.{Files}
 use Rattle.dv_writing.specs.declared.steps.Files.TheVariants as files
 use Rattle.dv_writing.specs.Steps.{AreFilesFor}

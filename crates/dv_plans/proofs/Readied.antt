@@ -13,9 +13,9 @@ use Rattle.dv_chain.specs.Rest.{IsPending}
 use Rattle.dv_apply.specs.Preparing.{Makes}
 use Rattle.dv_apply.specs.States.{Held}
 use Rattle.dv_writing.specs.Commits.{IsReady}
-use Rattle.dv_rotation.specs.declared.texts.Turn.{Turn}
+use Rattle.dv_files.specs.declared.texts.Turn.{Turn}
 use Rattle.dv_writing.specs.Repairing.{IsOwing}
-use Rattle.dv_rotation.specs.Texts.{IsTurnOf, place_of}
+use Rattle.dv_files.specs.Texts.{IsTurnOf, place_of}
 use Rattle.dv_writing.specs.Ways.{IsDue, ready}
 use Rattle.dv_plans.specs.declared.groups.Written.{Written}
 use Rattle.dv_plans.specs.Begins.{beginning, turns}

@@ -1,8 +1,8 @@
 -- The readings of the clock behind an error.
 use Rattle.std.proofs.Common.{◌≡◌, inl, inr, ℕ, Err, refl}
 use Rattle.dv_shelf.specs.Clocks.{behind}
-use Rattle.dv_rotation.specs.declared.fault.ChainFault.{ChainFault}
-use Rattle.dv_rotation.specs.declared.fault.ChainFault.TheVariants as chain_fault
+use Rattle.dv_files.specs.declared.fault.ChainFault.{ChainFault}
+use Rattle.dv_files.specs.declared.fault.ChainFault.TheVariants as chain_fault
 use Rattle.dv_plans.specs.declared.fault.StoreFault.{StoreFault}
 use Rattle.dv_plans.specs.declared.fault.StoreFault.TheVariants as fault
 use Rattle.dv_plans.specs.Begins.{TakesReadings}

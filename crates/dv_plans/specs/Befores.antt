@@ -5,9 +5,9 @@ use Rattle.dv_model.specs.declared.types.Command.TheVariants as command
 use Rattle.dv_model.specs.declared.types.Mailbox.{Mailbox}
 use Rattle.dv_shelf.specs.Folders.{Folder}
 use Rattle.dv_chain.specs.declared.chain.Chain.{Chain}
-use Rattle.dv_mails.specs.Reading.{guid_rows}
-use Rattle.dv_rotation.specs.declared.texts.Turn.{Turn}
-use Rattle.dv_rotation.specs.Texts.{ClosesLog}
+use Rattle.dv_files.specs.Reading.{guid_rows}
+use Rattle.dv_files.specs.declared.texts.Turn.{Turn}
+use Rattle.dv_files.specs.Texts.{ClosesLog}
 use Rattle.dv_writing.specs.Steps.{AreFilesFor}
 use Rattle.dv_writing.specs.Ways.{IsDue, ready}
 use Rattle.dv_plans.specs.declared.before.Before.{Before}

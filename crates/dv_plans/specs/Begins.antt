@@ -7,8 +7,8 @@ use Rattle.dv_model.specs.Sessions.{is_append}
 use Rattle.dv_shelf.specs.Clocks.{behind}
 use Rattle.dv_chain.specs.declared.chain.Chain.{Chain}
 use Rattle.dv_chain.specs.Rest.{next_mark}
-use Rattle.dv_rotation.specs.declared.texts.Turn.{Turn}
-use Rattle.dv_rotation.specs.Texts.{next_log, place_of}
+use Rattle.dv_files.specs.declared.texts.Turn.{Turn}
+use Rattle.dv_files.specs.Texts.{next_log, place_of}
 use Rattle.dv_plans.specs.declared.fault.StoreFault.{StoreFault}
 use Rattle.dv_plans.specs.declared.fault.StoreFault.TheVariants as fault
 

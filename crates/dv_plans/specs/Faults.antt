@@ -5,8 +5,8 @@ use Rattle.dv_shelf.specs.declared.shelf.ShelfFault.{ShelfFault}
 use Rattle.dv_shelf.specs.declared.shelf.ShelfFault.TheVariants as shelf_fault
 use Rattle.dv_groups.specs.declared.limits.Limit.{Limit}
 use Rattle.dv_groups.specs.declared.limits.Limit.TheVariants as limit
-use Rattle.dv_rotation.specs.declared.fault.ChainFault.{ChainFault}
-use Rattle.dv_rotation.specs.declared.fault.ChainFault.TheVariants as chain_fault
+use Rattle.dv_files.specs.declared.fault.ChainFault.{ChainFault}
+use Rattle.dv_files.specs.declared.fault.ChainFault.TheVariants as chain_fault
 use Rattle.dv_plans.specs.declared.fault.StoreFault.{StoreFault}
 use Rattle.dv_plans.specs.declared.fault.StoreFault.TheVariants as fault
 

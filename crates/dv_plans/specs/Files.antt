@@ -10,8 +10,8 @@ use Rattle.dv_shelf.specs.Folders.{Folder, Lists}
 use Rattle.dv_dbox.specs.BoxTexts.{written}
 use Rattle.dv_chain.specs.declared.chain.Chain.{Chain}
 use Rattle.dv_lookups.specs.Checks.{IsCacheText}
-use Rattle.dv_mails.specs.Reading.{mail_at}
-use Rattle.dv_mails.specs.Writing.{IsFileOf}
+use Rattle.dv_files.specs.Reading.{mail_at}
+use Rattle.dv_files.specs.Writing.{IsFileOf}
 use Rattle.dv_writing.specs.Removals.{AreUnlisted}
 use Rattle.dv_writing.specs.declared.steps.Files.{Files}
 use Rattle.dv_writing.specs.declared.steps.Files.TheVariants as files

@@ -7,7 +7,7 @@ use Rattle.dv_model.specs.Sessions.{group_of, limit_of}
 use Rattle.dv_model.specs.Views.{View}
 use Rattle.dv_groups.specs.Groups.{HasSizes}
 use Rattle.dv_chain.specs.declared.chain.Chain.{Chain}
-use Rattle.dv_rotation.specs.Texts.{place_of}
+use Rattle.dv_files.specs.Texts.{place_of}
 use Rattle.dv_plans.specs.declared.fault.StoreFault.{StoreFault}
 use Rattle.dv_plans.specs.Limits.{Decides, IsWritten}
 

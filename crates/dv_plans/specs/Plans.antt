@@ -13,8 +13,8 @@ use Rattle.dv_chain.specs.declared.chain.Chain.{Chain}
 use Rattle.dv_chain.specs.Rest.{IsPending}
 use Rattle.dv_groups.specs.Groups.{HasSizes}
 use Rattle.dv_writing.specs.Keeping.{Keeps}
-use Rattle.dv_rotation.specs.declared.texts.Turn.{Turn}
-use Rattle.dv_rotation.specs.Texts.{next_log}
+use Rattle.dv_files.specs.declared.texts.Turn.{Turn}
+use Rattle.dv_files.specs.Texts.{next_log}
 use Rattle.dv_writing.specs.Steps.{AreSteps}
 use Rattle.dv_writing.specs.Ways.{ready}
 use Rattle.dv_writing.specs.Writes.{IsWriteOf, Write, group_by}

@@ -6,7 +6,7 @@ ghost use Rattle.dv_plans.specs.declared.fault.StoreFault.TheVariants as fault;
 
 use dv_groups::Limit;
 use dv_model::OutOfMemory;
-use dv_rotation::ChainFault;
+use dv_files::ChainFault;
 use dv_shelf::{Shelf, ShelfFault};
 
 /// Why a command's write isn't made.

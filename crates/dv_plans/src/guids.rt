@@ -3,16 +3,15 @@
 ghost use Rattle.std.specs.Prelude.{◌≡◌, IfOk, length};
 ghost use Rattle.dv_model.specs.Journals.{new_guid};
 ghost use Rattle.dv_chain.specs.Openings.{OnlyLooks};
-ghost use Rattle.dv_mails.specs.Reading.{guid_rows};
-ghost use Rattle.dv_rotation.specs.Leavings.{HasFaultCause};
+ghost use Rattle.dv_files.specs.Reading.{guid_rows};
+ghost use Rattle.dv_files.specs.Leavings.{HasFaultCause};
 ghost use Rattle.dv_plans.specs.Counts.{CountsMails};
 ghost use Rattle.dv_plans.specs.Guids.{AreGuidsOf, removed_of};
 
 use crate::fault::told;
 use dv_groups::removes;
-use dv_mails::guids_of;
+use dv_files::{ChainFault, guids_of};
 use dv_model::{Command, GuidRow, List};
-use dv_rotation::ChainFault;
 use dv_shelf::Shelf;
 use std::alloc::Global;
 

@@ -21,7 +21,7 @@ use crate::fault::chain_fault;
 use crate::plan::{Plan, make_plan};
 use dv_chain::Chain;
 use dv_model::Command;
-use dv_rotation::Turn;
+use dv_files::Turn;
 use dv_shelf::{Clock, Shelf};
 use dv_view::View;
 use std::alloc::Global;

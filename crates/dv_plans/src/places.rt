@@ -2,7 +2,7 @@
 
 ghost use Rattle.std.specs.Prelude.{◌≡◌, ◌<◌, true};
 ghost use Rattle.dv_plans.specs.Begins as begins;
-ghost use Rattle.dv_rotation.specs.Texts as texts;
+ghost use Rattle.dv_files.specs.Texts as texts;
 
 use dv_chain::Chain;
 use dv_model::Mark;

@@ -4,7 +4,7 @@ ghost use Rattle.std.specs.Prelude.{◌≡◌, ◌≤◌, All, IfOk, List as Lis
 ghost use Rattle.dv_chain.specs.Openings.{OnlyLooks};
 ghost use Rattle.dv_writing.specs.Repairing.{IsOwing};
 ghost use Rattle.dv_writing.specs.Removals.{IsFree};
-ghost use Rattle.dv_rotation.specs.Leavings.{HasFaultCause};
+ghost use Rattle.dv_files.specs.Leavings.{HasFaultCause};
 ghost use Rattle.dv_plans.specs.Befores.{IsBefore, IsRead};
 ghost use Rattle.dv_plans.specs.Begins.{turns};
 ghost use Rattle.dv_plans.specs.Counts.{CountsMails, CountsReads};
@@ -20,7 +20,7 @@ use dv_chain::Chain;
 use dv_groups::next_cache_number;
 use dv_lookups::cache_of_messages;
 use dv_model::{Bytes, Command, List};
-use dv_rotation::{ChainFault, Turn, snapshot_at};
+use dv_files::{ChainFault, Turn, snapshot_at};
 use dv_shelf::Shelf;
 use dv_writing::{Files, Renewal, unlisted};
 use std::alloc::Global;

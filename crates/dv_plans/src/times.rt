@@ -7,7 +7,7 @@ ghost use Rattle.dv_plans.specs.Begins as begins;
 ghost use Rattle.dv_plans.specs.Begins.{count_of, received_at};
 
 use dv_chain::Chain;
-use dv_rotation::Turn;
+use dv_files::Turn;
 use dv_shelf::Clock;
 use dv_writing::is_due;
 

@@ -2,13 +2,13 @@
 
 ghost use Rattle.std.specs.Prelude.{◌≡◌, ◌<◌, ◌≤◌, IfOk, IfSome, is_some};
 ghost use Rattle.dv_chain.specs.Openings.{OnlyLooks};
-ghost use Rattle.dv_rotation.specs.Leavings.{HasFaultCause};
-ghost use Rattle.dv_rotation.specs.Texts.{ClosesLog, IsTurnOf};
+ghost use Rattle.dv_files.specs.Leavings.{HasFaultCause};
+ghost use Rattle.dv_files.specs.Texts.{ClosesLog, IsTurnOf};
 ghost use Rattle.dv_plans.specs.Begins.{IsMadeAt};
 ghost use Rattle.dv_plans.specs.Counts.{CountsReads};
 
 use dv_chain::Chain;
-use dv_rotation::{ChainFault, Turn, turn};
+use dv_files::{ChainFault, Turn, turn};
 use dv_shelf::Shelf;
 use std::alloc::Global;
 

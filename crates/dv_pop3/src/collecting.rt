@@ -8,13 +8,12 @@ ghost use Rattle.dv_maildrop.specs.declared.types.Found.TheVariants.{Held};
 ghost use Rattle.dv_responses.specs.Asked.{is_body};
 ghost use Rattle.dv_pop3.specs.Retrievals.{body_in};
 
-use dv_apply::Live;
 use dv_keywords::Table;
 use dv_maildrop::{Found, Listed, put_found, put_held};
 use dv_model::{Bytes, Item, List, NoMemory, Reply, Shown, Value};
 use dv_responses::Responses;
 use dv_search::MailFacts;
-use dv_view::Replies;
+use dv_view::{Live, Replies};
 use std::alloc::Global;
 use std::marker::Model;
 use std::mem;

@@ -5,13 +5,12 @@ ghost use Rattle.std.specs.List.{list_any};
 ghost use Rattle.dv_responses.specs.Asked.{is_size};
 ghost use Rattle.dv_pop3.specs.Listings.{size_in, sized};
 
-use dv_apply::Live;
 use dv_keywords::Table;
 use dv_maildrop::Listed;
 use dv_model::{Item, List, NoMemory, Reply, Shown, Value};
 use dv_responses::Responses;
 use dv_search::MailFacts;
-use dv_view::Replies;
+use dv_view::{Live, Replies};
 use std::alloc::Global;
 use std::marker::Model;
 use std::mem;

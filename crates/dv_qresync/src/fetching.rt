@@ -2,9 +2,8 @@ ghost use Rattle.std.specs.Prelude.{◌≡◌, ◌+◌, ◌++◌, ◌<◌, IfOk,
 ghost use Rattle.dv_qresync.specs.Answers.{fetch_of, fetches, is_told};
 
 use crate::types::Answer;
-use dv_apply::Live;
 use dv_model::{List, NoMemory, Row};
-use dv_view::names_at;
+use dv_view::{Live, names_at};
 use std::alloc::Global;
 
 /// The largest modification sequence (RFC 7162, section 7, `mod-sequence-value`).

@@ -6,9 +6,9 @@ ghost use Rattle.dv_ranges.specs.Ranges.{ArePairsApart};
 ghost use Rattle.dv_qresync.specs.Answers.{gone_ranges};
 ghost use Rattle.dv_qresync.specs.Ranges.{AreBefore, AreBehind, IsUidBefore, IsWithin, free_uids, uids_of, with_uids};
 
-use dv_apply::Live;
 use dv_model::{End, List, NoMemory, Pair, Span};
 use dv_ranges::join_pairs;
+use dv_view::Live;
 use std::alloc::Global;
 
 // The number that an end of a range is, where `*` is this one.

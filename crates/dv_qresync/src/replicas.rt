@@ -6,9 +6,8 @@ ghost use Rattle.dv_qresync.specs.Replicas.{cached, caught_up, heard, old_of, re
 use crate::merging::Merge;
 use crate::ranges::put_before;
 use crate::types::{Answer, Cached, Old, Replica};
-use dv_apply::Live;
 use dv_model::{End, List, NoMemory, Pair, Row, Span};
-use dv_view::names_at;
+use dv_view::{Live, names_at};
 use std::alloc::Global;
 
 fn cached(alloc: Global, live: &Live, row: &Row) -> Result<Cached, NoMemory>

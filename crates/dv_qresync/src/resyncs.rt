@@ -4,8 +4,8 @@ ghost use Rattle.dv_qresync.specs.Answers.{resynced, vanished};
 use crate::fetching::add_fetches;
 use crate::ranges::gone_ranges;
 use crate::types::{Answer, Old};
-use dv_apply::Live;
 use dv_model::{List, NoMemory, Pair};
+use dv_view::Live;
 use std::alloc::Global;
 
 // Adds which messages are gone, where some are.

@@ -9,9 +9,9 @@ ghost use Rattle.dv_responses.specs.Supplied.{AreSupplied};
 
 use crate::kinds::reads_mail;
 use crate::meeting::has_uid;
-use dv_apply::Live;
 use dv_model::{Command, List, NoMemory};
 use dv_search::Mail;
+use dv_view::Live;
 use std::alloc::Global;
 
 // Whether the mailbox has a row of this UID and no facts are known of it.

@@ -8,10 +8,9 @@ ghost use Rattle.dv_view.specs.Taken.{HasTaken};
 use crate::Responses;
 use crate::fetching::add_fetch_lines;
 use crate::searching::search_line;
-use dv_apply::Live;
 use dv_model::{Command, NoMemory};
 use dv_search::Mail;
-use dv_view::View;
+use dv_view::{Live, View};
 use std::alloc::Global;
 
 /// Adds the data that a command asked, over the view before it moves on (RFC 3501, sections 6.4.4

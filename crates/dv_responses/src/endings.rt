@@ -9,8 +9,8 @@ ghost use Rattle.dv_responses.specs.Met.{met_of};
 
 use crate::kinds::word_of;
 use crate::meeting::Met;
-use dv_apply::Live;
 use dv_model::{Command, Mark, Reply};
+use dv_view::Live;
 
 // The smallest of these UIDs.
 fn smallest(uids: &[u32]) -> Option<u32>

@@ -13,10 +13,9 @@ ghost use Rattle.dv_view.specs.Taken.{HasTaken};
 use crate::Responses;
 use crate::kinds::reads_messages;
 use crate::rows::{named, row_at};
-use dv_apply::Live;
 use dv_model::{Bytes, Duplicate, Item, List, NoMemory, Shown, Span, Value};
 use dv_search::{Mail, MailFacts};
-use dv_view::{View, names_at};
+use dv_view::{Live, View, names_at};
 use std::alloc::Global;
 
 // The message's bytes, where they are known.

@@ -8,10 +8,9 @@ ghost use Rattle.dv_responses.specs.Rows.{row_at};
 use crate::kinds::reads_messages;
 use crate::meeting::has_uid;
 use crate::rows::{named, uid_at};
-use dv_apply::Live;
 use dv_model::{Command, List, NoMemory, Shown, Span};
 use dv_search::needs_mail;
-use dv_view::View;
+use dv_view::{Live, View};
 use std::alloc::Global;
 
 // The smallest UID of these rows that the mailbox lacks.

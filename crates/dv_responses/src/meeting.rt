@@ -5,9 +5,8 @@ ghost use Rattle.dv_responses.specs.Met.{met_of};
 ghost use Rattle.dv_responses.specs.Rows.{IsNumber, rows_at};
 
 use crate::rows::{named, row_at};
-use dv_apply::Live;
 use dv_model::{Command, List, NoMemory, Shown};
-use dv_view::View;
+use dv_view::{Live, View};
 use std::alloc::Global;
 
 /// What a command takes from the mailbox that it meets, before it writes.

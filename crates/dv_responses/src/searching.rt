@@ -6,10 +6,9 @@ ghost use Rattle.dv_search.specs.Nesting.{levels_of, most_levels};
 ghost use Rattle.dv_responses.specs.Supplied.{AreSupplied};
 
 use crate::rows::uids_at;
-use dv_apply::Live;
 use dv_model::{Key, List, NoMemory, Reply};
 use dv_search::{Mail, eval};
-use dv_view::View;
+use dv_view::{Live, View};
 use std::alloc::Global;
 
 /// The SEARCH line: the numbers of the rows that are found, or their UIDs (RFC 3501, section

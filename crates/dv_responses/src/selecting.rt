@@ -4,9 +4,8 @@ ghost use Rattle.dv_model.specs.Sessions.{told_of};
 ghost use Rattle.dv_model.specs.Views.{empty_view};
 ghost use Rattle.dv_view.specs.Taken.{HasTaken};
 
-use dv_apply::Live;
 use dv_model::{NoMemory, Reply};
-use dv_view::{Replies, View, add_changes};
+use dv_view::{Live, Replies, View, add_changes};
 use std::alloc::Global;
 
 /// Adds what SELECT says of the mailbox that the view now shows: EXISTS, UIDVALIDITY and UIDNEXT

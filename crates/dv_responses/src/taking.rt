@@ -5,10 +5,9 @@ ghost use Rattle.dv_model.specs.Sessions.{fetch_line};
 ghost use Rattle.dv_responses.specs.Supplied.{DescribesItems};
 
 use crate::fetching::values_of;
-use dv_apply::Live;
 use dv_model::{Item, List, NoMemory, Reply, Shown};
 use dv_search::MailFacts;
-use dv_view::Replies;
+use dv_view::{Live, Replies};
 use std::alloc::Global;
 
 /// What takes the replies to any command, the lines of a FETCH among them.

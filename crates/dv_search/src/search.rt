@@ -6,9 +6,8 @@ ghost use Rattle.dv_search.specs.Sought.{IsSought};
 
 use crate::known::Mail;
 use crate::sought::Sought;
-use dv_apply::Live;
 use dv_model::{Key, List, NoMemory};
-use dv_view::View;
+use dv_view::{Live, View};
 use std::alloc::Global;
 
 // The numbers of the view's rows that meet a key that was made ready.

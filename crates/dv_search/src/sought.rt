@@ -13,10 +13,9 @@ use crate::facts::MailFacts;
 use crate::keys::{Candidate, is_found, meets};
 use crate::mail::needs_mail;
 use crate::prepared::prepared;
-use dv_apply::Live;
 use dv_model::{Bytes, Key, NoMemory, Shown};
 use dv_sets::largest_uid;
-use dv_view::View;
+use dv_view::{Live, View};
 use std::alloc::Global;
 
 /// A key made ready to be tried on the rows of a view, message by message.

@@ -18,7 +18,7 @@ use Rattle.dv_shelf.specs.Folders.{Folder}
 use Rattle.dv_shelf.proofs.Moments.{weaker}
 use Rattle.dv_logfile.specs.Settling.{StaysSettled}
 use Rattle.dv_groups.specs.Groups.{HasSizes}
-use Rattle.dv_rotation.specs.Texts.{place_of}
+use Rattle.dv_files.specs.Texts.{place_of}
 use Rattle.dv_writing.specs.Debts.{Nothing}
 use Rattle.dv_answer.specs.Following.{Leads}
 use Rattle.dv_answer.specs.Refusing.{own_refusal}

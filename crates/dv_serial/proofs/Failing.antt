@@ -14,8 +14,8 @@ use Rattle.dv_shelf.proofs.Moments.{weaker}
 use Rattle.dv_logfile.specs.Layout.{closing}
 use Rattle.dv_chain.specs.declared.chain.Chain.{Chain}
 use Rattle.dv_logfile.specs.Settling.{StaysSettled}
-use Rattle.dv_rotation.specs.declared.texts.Turn.{Turn}
-use Rattle.dv_rotation.specs.Texts.{place_of}
+use Rattle.dv_files.specs.declared.texts.Turn.{Turn}
+use Rattle.dv_files.specs.Texts.{place_of}
 use Rattle.dv_writing.specs.Debts.{Debt, Fits, Last, Nothing, Pending}
 use Rattle.dv_plans.specs.Begins.{turns}
 use Rattle.dv_writing.specs.Writes.{IsAfter, MayOweGate, Write, log_with}

@@ -5,7 +5,7 @@ use Rattle.dv_model.specs.declared.types.Mark.{Mark}
 use Rattle.dv_model.specs.declared.types.Reply.{Reply}
 use Rattle.dv_model.specs.Journals.{Log, is_rotation_due}
 use Rattle.dv_shelf.specs.Folders.{Folder}
-use Rattle.dv_rotation.specs.Texts.{place_of}
+use Rattle.dv_files.specs.Texts.{place_of}
 use Rattle.dv_writing.specs.Keeping.{Gives}
 use Rattle.dv_playing.specs.Playing.{Attempt, Play, begin, refused_here, stepped_by}
 use Rattle.dv_playing.proofs.Plays.{goes_on}

@@ -13,8 +13,8 @@ use Rattle.dv_shelf.specs.Clocks.{behind}
 use Rattle.dv_shelf.specs.Folders.{Folder}
 use Rattle.dv_logfile.proofs.Settling.{looked_settled}
 use Rattle.dv_chain.specs.declared.chain.Chain.{Chain}
-use Rattle.dv_rotation.specs.declared.texts.Turn.{Turn}
-use Rattle.dv_rotation.specs.Texts.{place_of}
+use Rattle.dv_files.specs.declared.texts.Turn.{Turn}
+use Rattle.dv_files.specs.Texts.{place_of}
 use Rattle.dv_answer.specs.Following.{Follower, IsAbreast}
 use Rattle.dv_playing.specs.Laws.{IsAttempt, IsLine, MayPlay, MayWrite, RiseFrom, failures_of}
 use Rattle.dv_playing.specs.Playing.{Attempt, Failed, Outcome, Play, Rotation, Served, Step, behind_failure, group_here, is_empty, refused_here, step, told, with_group_here}

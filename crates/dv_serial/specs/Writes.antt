@@ -8,7 +8,7 @@ use Rattle.dv_shelf.specs.Clocks.{behind}
 use Rattle.dv_shelf.specs.Crashes.{LeavesOnly}
 use Rattle.dv_shelf.specs.Folders.{Folder}
 use Rattle.dv_logfile.specs.Settling.{StaysSettled}
-use Rattle.dv_rotation.specs.Texts.{place_of}
+use Rattle.dv_files.specs.Texts.{place_of}
 use Rattle.dv_writing.specs.Debts.{Debt}
 use Rattle.dv_answer.specs.Following.{Leads}
 use Rattle.dv_plans.specs.declared.fault.StoreFault.{StoreFault}

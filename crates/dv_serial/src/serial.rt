@@ -25,7 +25,7 @@ impl<S, C> Model for Serial<S, C> {
     ghost use Rattle.std.specs.Coded.{coded_list, coded_option, coded_ℕ};
     ghost use Rattle.dv_model.specs.contracts.types.Mark as mark_type;
     ghost use Rattle.dv_chain.specs.contracts.chain.Chain as chain_type;
-    ghost use Rattle.dv_rotation.specs.contracts.texts.Turn as turn_type;
+    ghost use Rattle.dv_files.specs.contracts.texts.Turn as turn_type;
     ghost use Rattle.dv_lookups.specs.contracts.cache_file.CacheFile as file_type;
     ghost use Rattle.dv_answer.specs.contracts.session.Session as session_type;
     ghost use Rattle.dv_store.specs.States.{state_code};

@@ -15,7 +15,7 @@ use Rattle.dv_shelf.specs.Folders.{Folder}
 use Rattle.dv_shelf.specs.Sees.{SeesFolder}
 use Rattle.dv_shelf.proofs.Moments.{weaker}
 use Rattle.dv_groups.specs.Groups.{HasSizes}
-use Rattle.dv_rotation.specs.Texts.{place_of}
+use Rattle.dv_files.specs.Texts.{place_of}
 use Rattle.dv_writing.specs.Debts.{Debt, Fits, Nothing}
 use Rattle.dv_writing.specs.Writes.{Write}
 use Rattle.dv_answer.specs.Refusing.{own_refusal}

@@ -9,8 +9,8 @@ use Rattle.dv_model.specs.Spelling.{group_text}
 use Rattle.dv_model.specs.Transcripts.{Line}
 use Rattle.dv_logfile.specs.Layout.{closing}
 use Rattle.dv_chain.specs.declared.chain.Chain.{Chain}
-use Rattle.dv_rotation.specs.declared.texts.Turn.{Turn}
-use Rattle.dv_rotation.specs.Texts.{place_of}
+use Rattle.dv_files.specs.declared.texts.Turn.{Turn}
+use Rattle.dv_files.specs.Texts.{place_of}
 use Rattle.dv_writing.specs.Debts.{Debt, Last, Nothing, Pending}
 use Rattle.dv_writing.specs.Writes.{IsAfter, MayOweGate, Write, log_with}
 use Rattle.dv_plans.specs.Begins.{turns}

@@ -8,7 +8,7 @@ use Rattle.dv_model.specs.Sessions.{is_append}
 use Rattle.dv_model.specs.Views.{View}
 use Rattle.dv_shelf.specs.Clocks.{behind}
 use Rattle.dv_chain.specs.declared.chain.Chain.{Chain}
-use Rattle.dv_rotation.specs.declared.texts.Turn.{Turn}
+use Rattle.dv_files.specs.declared.texts.Turn.{Turn}
 use Rattle.dv_answer.specs.Following.{Leads}
 use Rattle.dv_answer.proofs.Keeping.{records_lead, stay_leads}
 use Rattle.dv_plans.specs.declared.fault.StoreFault.{StoreFault}

@@ -7,7 +7,7 @@ use Rattle.dv_model.specs.Effects.{applied}
 use Rattle.dv_model.specs.Journals.{mark_behind}
 use Rattle.dv_model.specs.Transcripts.{Line}
 use Rattle.dv_chain.specs.declared.chain.Chain.{Chain}
-use Rattle.dv_rotation.specs.declared.texts.Turn.{Turn}
+use Rattle.dv_files.specs.declared.texts.Turn.{Turn}
 use Rattle.dv_plans.specs.Begins.{turns}
 use Rattle.dv_writing.specs.Writes.{IsAfter, Write, group_by, log_with}
 use Rattle.dv_playing.specs.Playing.{Play, begins_file, group_here, is_empty, with_group_here}

@@ -18,8 +18,8 @@ use Rattle.dv_model.specs.Transcripts.{Line, with_written}
 use Rattle.dv_model.specs.Views.{View}
 use Rattle.dv_shelf.specs.Clocks.{behind}
 use Rattle.dv_chain.specs.declared.chain.Chain.{Chain}
-use Rattle.dv_rotation.specs.declared.texts.Turn.{Turn}
-use Rattle.dv_rotation.specs.Texts.{place_of}
+use Rattle.dv_files.specs.declared.texts.Turn.{Turn}
+use Rattle.dv_files.specs.Texts.{place_of}
 use Rattle.dv_playing.specs.Playing.{Play, begins_file, file_readings, group_here, is_empty, message_readings, used_by, with_group_here}
 use Rattle.dv_plans.specs.Begins.{beginning, count_of, readings_of, received_at, turns}
 use Rattle.dv_plans.specs.Overs.{limit_over}

@@ -11,8 +11,8 @@ use Rattle.dv_shelf.specs.Crashes.{LeavesOnly}
 use Rattle.dv_shelf.specs.Folders.{Folder}
 use Rattle.dv_shelf.specs.Sees.{SeesFolder}
 use Rattle.dv_chain.specs.declared.chain.Chain.{Chain}
-use Rattle.dv_rotation.specs.declared.texts.Turn.{Turn}
-use Rattle.dv_rotation.specs.Texts.{place_of}
+use Rattle.dv_files.specs.declared.texts.Turn.{Turn}
+use Rattle.dv_files.specs.Texts.{place_of}
 use Rattle.dv_writing.specs.Debts.{Debt, Last, Nothing, Pending}
 use Rattle.dv_writing.specs.Keeping.{Gives}
 use Rattle.dv_writing.specs.Opening.{mark_behind}

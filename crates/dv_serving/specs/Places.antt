@@ -8,7 +8,7 @@ use Rattle.dv_model.specs.Spelling.{group_text}
 use Rattle.dv_model.specs.Transcripts.{Line}
 use Rattle.dv_shelf.specs.Folders.{Folder}
 use Rattle.dv_logfile.specs.Layout.{closing}
-use Rattle.dv_rotation.specs.declared.texts.Turn.{Turn}
+use Rattle.dv_files.specs.declared.texts.Turn.{Turn}
 use Rattle.dv_writing.specs.Keeping.{Gives}
 use Rattle.dv_playing.specs.Laws.{MayWrite}
 use Rattle.dv_playing.specs.Playing.{Attempt, Failed, Play, Rotation, group_here, with_group_here}

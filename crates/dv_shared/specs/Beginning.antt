@@ -6,7 +6,7 @@ use Rattle.dv_shelf.specs.Folders.{Folder}
 use Rattle.dv_shelf.specs.Sees.{SeesFolder}
 use Rattle.dv_generations.specs.Feeds.{new_feed}
 use Rattle.dv_member.specs.Members.{IsStart}
-use Rattle.dv_rotation.specs.Texts.{place_of}
+use Rattle.dv_files.specs.Texts.{place_of}
 use Rattle.dv_store.specs.Rest.{IsAtRest}
 use Rattle.dv_store.specs.States.{State}
 use Rattle.dv_tries.specs.Images.{LeavesSince}

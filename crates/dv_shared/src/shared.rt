@@ -44,7 +44,7 @@ impl<S: Shelf, C: Clock, K: Keeping, L: Tally, M: Tally> Model for Shared<S, C, 
     ghost use Rattle.dv_model.specs.contracts.types.Mark as mark_type;
     ghost use Rattle.dv_view.specs.contracts.view.View as view_type;
     ghost use Rattle.dv_chain.specs.contracts.chain.Chain as chain_type;
-    ghost use Rattle.dv_rotation.specs.contracts.texts.Turn as turn_type;
+    ghost use Rattle.dv_files.specs.contracts.texts.Turn as turn_type;
     ghost use Rattle.dv_lookups.specs.contracts.cache_file.CacheFile as file_type;
     ghost use Rattle.dv_front.specs.contracts.notes.Note as note_type;
     ghost use Rattle.dv_store.specs.States.{state_code};

@@ -24,8 +24,8 @@ use Rattle.dv_chain.specs.Openings.{OnlyLooks}
 use Rattle.dv_chain.specs.Rest.{next_mark}
 use Rattle.dv_writing.specs.declared.committing.Committed.{Committed}
 use Rattle.dv_writing.specs.Opening.{AreEqual, mark_behind}
-use Rattle.dv_rotation.specs.declared.texts.Turn.{Turn}
-use Rattle.dv_rotation.specs.Texts.{next_log, place_of}
+use Rattle.dv_files.specs.declared.texts.Turn.{Turn}
+use Rattle.dv_files.specs.Texts.{next_log, place_of}
 use Rattle.dv_writing.specs.Debts.{Debt, Fits, Last, MayGive, Nothing, Pending, Stands}
 use Rattle.dv_writing.specs.Keeping.{Gives}
 use Rattle.dv_writing.proofs.Resting.{rests_give}

@@ -8,8 +8,8 @@ use Rattle.dv_chain.specs.Openings.{HasBounds}
 use Rattle.dv_chain.specs.Rest.{Holds, IsPending, IsResting, Owed, Owes, Rests, StandsOn}
 use Rattle.dv_chain.specs.Rest as rest
 use Rattle.dv_writing.specs.Opening.{AreEqual}
-use Rattle.dv_rotation.specs.declared.texts.Turn.{Turn}
-use Rattle.dv_rotation.specs.Texts.{IsTurnOf}
+use Rattle.dv_files.specs.declared.texts.Turn.{Turn}
+use Rattle.dv_files.specs.Texts.{IsTurnOf}
 use Rattle.dv_writing.specs.Debts.{Debt, Stands, owed_of}
 use Rattle.dv_writing.specs.Repairing.{IsOwing}
 use Rattle.dv_shelf.specs.Sees.{SeesFolder}

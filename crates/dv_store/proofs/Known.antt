@@ -8,7 +8,7 @@ use Rattle.dv_model.specs.Journals.{Log}
 use Rattle.dv_model.specs.Sessions.{has_uid}
 use Rattle.dv_shelf.specs.Folders.{Folder}
 use Rattle.dv_openings.specs.TrueCaches.{HasTrueCache}
-use Rattle.dv_mails.specs.Reading.{mail_at}
+use Rattle.dv_files.specs.Reading.{mail_at}
 use Rattle.dv_writing.specs.Debts.{Debt}
 use Rattle.dv_writing.specs.Keeping.{Keeps}
 use Rattle.dv_lookups.specs.Founds.{mail_of}

@@ -11,8 +11,8 @@ use Rattle.dv_apply.specs.States.{Held}
 use Rattle.dv_chain.specs.declared.chain.Chain.{Chain}
 use Rattle.dv_chain.specs.Rest.{next_mark}
 use Rattle.dv_writing.specs.Opening.{AreEqual, mark_behind}
-use Rattle.dv_rotation.specs.declared.texts.Turn.{Turn}
-use Rattle.dv_rotation.specs.Texts.{IsSnapshotOf, place_of}
+use Rattle.dv_files.specs.declared.texts.Turn.{Turn}
+use Rattle.dv_files.specs.Texts.{IsSnapshotOf, place_of}
 use Rattle.dv_plans.specs.Begins.{beginning, turns}
 use Rattle.dv_plans.proofs.Readied.{ready_indexid, ready_live, ready_place}
 use Rattle.dv_writing.specs.Ways.{IsDue, ready}

@@ -23,8 +23,8 @@ use Rattle.dv_groups.specs.Groups.{HasSizes}
 use Rattle.dv_chain.specs.declared.chain.Chain.{Chain}
 use Rattle.dv_writing.specs.declared.committing.Committed.{Committed}
 use Rattle.dv_writing.specs.Opening.{AreEqual}
-use Rattle.dv_rotation.specs.declared.texts.Turn.{Turn}
-use Rattle.dv_rotation.specs.Texts.{place_of}
+use Rattle.dv_files.specs.declared.texts.Turn.{Turn}
+use Rattle.dv_files.specs.Texts.{place_of}
 use Rattle.dv_lookups.specs.declared.cache_file.CacheFile.{CacheFile}
 use Rattle.dv_writing.proofs.Listing.{none_in}
 use Rattle.dv_plans.specs.declared.fault.StoreFault.{StoreFault}

@@ -2,8 +2,8 @@
 use Rattle.std.proofs.Common.{◌≡◌, ℕ, List, None, Result, Ok, Err, Contains, ◌∙◌, ap, cond}
 use Rattle.dv_shelf.specs.declared.shelf.Name.TheVariants as name
 use Rattle.dv_shelf.specs.Folders.{Folder}
-use Rattle.dv_mails.specs.Writing.{IsSweeping, IsSwept, Sweeps}
-use Rattle.dv_mails.proofs.Removing.{sweep_stays}
+use Rattle.dv_files.specs.Writing.{IsSweeping, IsSwept, Sweeps}
+use Rattle.dv_files.proofs.Removing.{sweep_stays}
 use Rattle.dv_writing.proofs.Beside.{sweeps_some}
 use Rattle.dv_writing.specs.Ways.{KeepsMails}
 use Rattle.dv_writing.proofs.Filing.{named_true, swept_else}

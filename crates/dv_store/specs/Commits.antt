@@ -25,8 +25,8 @@ use Rattle.dv_groups.specs.Groups.{HasSizes}
 use Rattle.dv_chain.specs.declared.chain.Chain.{Chain}
 use Rattle.dv_chain.specs.Rest.{next_mark}
 use Rattle.dv_writing.specs.Opening.{AreEqual}
-use Rattle.dv_rotation.specs.declared.texts.Turn.{Turn}
-use Rattle.dv_rotation.specs.Texts.{next_log, place_of}
+use Rattle.dv_files.specs.declared.texts.Turn.{Turn}
+use Rattle.dv_files.specs.Texts.{next_log, place_of}
 use Rattle.dv_writing.specs.Debts.{Debt, Last, MayGive, Nothing}
 use Rattle.dv_writing.specs.Keeping.{Gives}
 use Rattle.dv_lookups.specs.declared.cache_file.CacheFile.{CacheFile}

@@ -7,7 +7,7 @@ use Rattle.dv_shelf.specs.Crashes.{LeavesOnly}
 use Rattle.dv_shelf.specs.Folders.{Folder}
 use Rattle.dv_logfile.specs.declared.commit.Debt.TheVariants as log_debt
 use Rattle.dv_chain.specs.declared.chain.Chain.{Chain}
-use Rattle.dv_rotation.specs.Texts.{IsSnapshotOf}
+use Rattle.dv_files.specs.Texts.{IsSnapshotOf}
 use Rattle.dv_writing.specs.Debts.{Debt, MayGive, Nothing}
 use Rattle.dv_writing.specs.Ways.{repaired}
 use Rattle.dv_store.specs.Rest.{IsAtRest}

@@ -5,8 +5,8 @@ use Rattle.dv_model.specs.declared.types.Mark.{Mark}
 use Rattle.dv_chain.specs.declared.chain.Chain.{Chain}
 use Rattle.dv_lookups.specs.declared.cache_file.CacheFile.{CacheFile}
 use Rattle.dv_lookups.specs.declared.cache_file.CacheFile.TheVariants as cache
-use Rattle.dv_rotation.specs.declared.texts.Turn.{Turn}
-use Rattle.dv_rotation.specs.Texts.{place_of}
+use Rattle.dv_files.specs.declared.texts.Turn.{Turn}
+use Rattle.dv_files.specs.Texts.{place_of}
 
 -- the folder, the clock, the mailbox at the end of its log, the turn of a rotation whose last
 -- replace is owed, the cache file as far as it was read, and the place behind the last group

@@ -30,7 +30,7 @@ use dv_lookups::CacheFile;
 use dv_model::{Bytes, Command, Group, List, Mark};
 use dv_plans::{Plan, StoreFault, make_ready};
 use dv_responses::is_append;
-use dv_rotation::Turn;
+use dv_files::Turn;
 use dv_shelf::{Clock, Shelf};
 use dv_touched::Touched;
 use dv_view::View;

@@ -5,7 +5,7 @@ ghost use Rattle.dv_model.specs.Sessions.{IsCommand};
 ghost use Rattle.dv_model.specs.Spelling.{group_text};
 ghost use Rattle.dv_groups.specs.Changes.{expunged_uids};
 ghost use Rattle.dv_groups.specs.Groups.{HasFewKeywords, HasSizes};
-ghost use Rattle.dv_mails.specs.Reading.{guid_at};
+ghost use Rattle.dv_files.specs.Reading.{guid_at};
 ghost use Rattle.dv_plans.specs.Counts.{CountsMails};
 ghost use Rattle.dv_plans.specs.Faults.{HasStoreCause};
 ghost use Rattle.dv_plans.specs.Groups.{IsGroupOf};

@@ -2,14 +2,14 @@
 
 ghost use Rattle.std.specs.Prelude.{◌≡◌};
 ghost use Rattle.dv_chain.specs.Openings.{HasBounds};
-ghost use Rattle.dv_rotation.specs.Texts.{place_of};
+ghost use Rattle.dv_files.specs.Texts.{place_of};
 ghost use Rattle.dv_store.specs.States.{fresh_state};
 
 use dv_apply::Live;
 use dv_chain::Chain;
 use dv_lookups::CacheFile;
 use dv_model::Mark;
-use dv_rotation::Turn;
+use dv_files::Turn;
 use std::alloc::Global;
 use std::marker::Model;
 
@@ -30,7 +30,7 @@ pub struct Store<S, C> {
 impl<S, C> Model for Store<S, C> {
     ghost use Rattle.std.specs.Coded.{coded_option};
     ghost use Rattle.dv_chain.specs.contracts.chain.Chain as chain_type;
-    ghost use Rattle.dv_rotation.specs.contracts.texts.Turn as turn_type;
+    ghost use Rattle.dv_files.specs.contracts.texts.Turn as turn_type;
     ghost use Rattle.dv_lookups.specs.contracts.cache_file.CacheFile as file_type;
     ghost use Rattle.dv_model.specs.contracts.types.Mark as mark_type;
     ghost use Rattle.dv_writing.specs.Repairing.{IsOwing};

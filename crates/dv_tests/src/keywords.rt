@@ -3,7 +3,7 @@ ghost use Rattle.dv_chain.specs.Openings.{HasBounds};
 
 use dv_chain::{Chain, open};
 use dv_model::{Bytes, List, NoMemory};
-use dv_rotation::snapshot;
+use dv_files::snapshot;
 use dv_shelf::{MemShelf, Name};
 use std::alloc::Global;
 use std::test::*;

@@ -1,5 +1,5 @@
 use dv_model::{Change, List, NoMemory, Pair};
-use dv_overlaps::{change_flags, expunge, name_changed, name_pairs};
+use dv_portion::{change_flags, expunge, name_changed, name_pairs};
 use dv_rows::Rows;
 use std::alloc::Global;
 use std::test::*;

@@ -1,13 +1,13 @@
 ghost use Rattle.std.specs.Prelude.{◌≡◌, ◌<◌, IfOk, OnOk};
 ghost use Rattle.dv_chain.specs.Openings.{HasBounds};
-ghost use Rattle.dv_rotation.specs.Texts.{IsTurnOf};
+ghost use Rattle.dv_files.specs.Texts.{IsTurnOf};
 
 use crate::chain::LOG;
 use crate::ends::{is_so, no_other};
 use crate::folders::{File, copy_of, has_file, has_first, shelf_of};
 use dv_chain::{Chain, open};
 use dv_model::NoMemory;
-use dv_rotation::{ChainFault, Turn, TurnEnd, checkpoint, finish, rotate, snapshot, turn};
+use dv_files::{ChainFault, Turn, TurnEnd, checkpoint, finish, rotate, snapshot, turn};
 use dv_shelf::{MemShelf, Name};
 use std::alloc::Global;
 use std::test::Fail;

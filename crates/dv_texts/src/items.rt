@@ -9,13 +9,12 @@ ghost use Rattle.dv_responses.specs.Supplied.{DescribesItems};
 ghost use Rattle.dv_script.specs.Extending.{Extends};
 ghost use Rattle.dv_view.specs.Tells.{names_at};
 
-use dv_apply::Live;
 use dv_keywords::Table;
 use dv_model::{Bytes, Item, NoMemory, Shown, Value};
 use dv_responses::fields_in;
 use dv_script::{put_body, put_field, put_value};
 use dv_search::MailFacts;
-use dv_view::names_at;
+use dv_view::{Live, names_at};
 use std::alloc::Global;
 
 /// Adds a row's flags, with the names of its keywords.

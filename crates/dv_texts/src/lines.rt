@@ -8,11 +8,11 @@ ghost use Rattle.dv_script.specs.Extending.{Extends};
 ghost use Rattle.dv_view.specs.Tells.{fetch_of};
 
 use crate::items::{put_flags, put_items};
-use dv_apply::Live;
 use dv_keywords::Table;
 use dv_model::{Bytes, Item, NoMemory, Reply, Shown};
 use dv_script::{begin_fetch, end_fetch, put_line};
 use dv_search::MailFacts;
+use dv_view::Live;
 use std::alloc::Global;
 use std::mem;
 

@@ -7,13 +7,12 @@ ghost use Rattle.dv_shelf.specs.Streams.{Appends, AppendsFront};
 
 use crate::lines::{add_fetch_line, add_flags_line, add_line};
 use crate::pieces::{cut_pieces, write_pieces};
-use dv_apply::Live;
 use dv_keywords::Table;
 use dv_model::{Bytes, Item, NoMemory, Reply, Shown};
 use dv_responses::Responses;
 use dv_search::MailFacts;
 use dv_shelf::{Failed, Sink};
-use dv_view::Replies;
+use dv_view::{Live, Replies};
 use std::alloc::Global;
 use std::marker::Model;
 use std::mem;

@@ -12,9 +12,9 @@ use Rattle.dv_shelf.specs.Sees.{SeesFolder, SeesTime}
 use Rattle.dv_writing.specs.Debts.{Nothing}
 use Rattle.dv_writing.specs.Keeping.{Gives}
 use Rattle.dv_writing.proofs.Resting.{rests_give}
-use Rattle.dv_rotation.specs.Texts.{place_of}
+use Rattle.dv_files.specs.Texts.{place_of}
 use Rattle.dv_dbox.specs.Mails.{guid_in, mail_in}
-use Rattle.dv_mails.specs.Reading.{guid_at, mail_at}
+use Rattle.dv_files.specs.Reading.{guid_at, mail_at}
 use Rattle.dv_store.specs.States.{State}
 use Rattle.dv_serving.specs.Places.{next_file}
 use Rattle.dv_beginning.specs.Begins.{IsBegun, start_of}

@@ -14,7 +14,7 @@ use Rattle.dv_front.specs.Notes.{AreNotes, IsPlaced}
 use Rattle.dv_notes.specs.Logs.{AreNotesOf, guid_by, log_of, mail_by, mailbox_behind, named, posted}
 use Rattle.dv_notes.proofs.Logs.{guid_append, logs_are_sound, logs_extend, mail_append, mailbox_at_end}
 use Rattle.dv_notes.proofs.Notes.{fronts_are_good, mailbox_on}
-use Rattle.dv_mails.specs.Reading.{guid_at, mail_at}
+use Rattle.dv_files.specs.Reading.{guid_at, mail_at}
 use Rattle.dv_writing.specs.Keeping.{Gives, HasMessage}
 use Rattle.dv_writing.specs.Writes.{group_by}
 use Rattle.dv_tries.specs.Durable.{HasPost, IsDurable}

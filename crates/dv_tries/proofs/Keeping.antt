@@ -22,7 +22,7 @@ use Rattle.dv_groups.specs.Groups.{HasSizes}
 use Rattle.dv_front.specs.declared.notes.Note.{Note}
 use Rattle.dv_notes.specs.Logs.{log_of, note_of}
 use Rattle.dv_notes.proofs.Logs.{logs_are_sound, logs_go_on}
-use Rattle.dv_rotation.specs.Texts.{place_of}
+use Rattle.dv_files.specs.Texts.{place_of}
 use Rattle.dv_writing.specs.Debts.{Debt, Last, Nothing, Pending}
 use Rattle.dv_writing.specs.Keeping.{Gives}
 use Rattle.dv_writing.specs.Opening as opening

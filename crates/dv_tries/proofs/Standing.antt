@@ -22,8 +22,8 @@ use Rattle.dv_notes.specs.Logs.{AreNotesOf, log_of, note_of, post_of}
 use Rattle.dv_notes.proofs.Logs.{logs_are_sound, logs_go_on, mailbox_at_end}
 use Rattle.dv_notes.proofs.Notes.{notes_go_on}
 use Rattle.dv_notes.proofs.Writes.{is_placed, mark_at_end}
-use Rattle.dv_rotation.specs.declared.texts.Turn.{Turn}
-use Rattle.dv_rotation.specs.Texts.{place_of}
+use Rattle.dv_files.specs.declared.texts.Turn.{Turn}
+use Rattle.dv_files.specs.Texts.{place_of}
 use Rattle.dv_plans.specs.declared.fault.StoreFault.{StoreFault}
 use Rattle.dv_plans.specs.Begins.{turns}
 use Rattle.dv_playing.specs.Playing.{Play, is_empty}

@@ -10,7 +10,7 @@ use Rattle.dv_openings.specs.Openings.{Finds, IsFound}
 use Rattle.dv_front.specs.declared.notes.Note.{Note}
 use Rattle.dv_front.specs.declared.notes.Post.{Post}
 use Rattle.dv_notes.specs.Logs.{log_of}
-use Rattle.dv_mails.specs.Reading.{guid_at, mail_at}
+use Rattle.dv_files.specs.Reading.{guid_at, mail_at}
 use Rattle.dv_writing.specs.Keeping.{HasMessage}
 
 -- the message file of a note's UID gives its message and GUID

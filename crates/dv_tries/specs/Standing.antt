@@ -6,7 +6,7 @@ use Rattle.dv_model.specs.Journals.{Log, at}
 use Rattle.dv_shelf.specs.Sees.{SeesFolder}
 use Rattle.dv_front.specs.declared.notes.Note.{Note}
 use Rattle.dv_notes.specs.Logs.{AreNotesOf, log_of}
-use Rattle.dv_rotation.specs.Texts.{place_of}
+use Rattle.dv_files.specs.Texts.{place_of}
 use Rattle.dv_writing.specs.Debts.{Debt, Pending}
 use Rattle.dv_writing.specs.Writes.{IsAfter, log_with}
 use Rattle.dv_plans.specs.Begins.{AtReading}

@@ -17,6 +17,7 @@ mod view;
 
 pub use client::Client;
 pub use copies::{names_at, shown};
+pub use dv_apply::Live;
 pub use laws::{bare_client_has_view, changes_follow};
 pub use replies::add_changes;
 pub use taking::Replies;

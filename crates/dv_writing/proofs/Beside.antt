@@ -14,10 +14,10 @@ use Rattle.dv_shelf.specs.Folders.{Folder}
 use Rattle.dv_shelf.proofs.FolderLemmas.{with_else}
 use Rattle.dv_chain.specs.declared.chain.Chain.{Chain}
 use Rattle.dv_chain.specs.Rest as rest
-use Rattle.dv_rotation.specs.Leavings.{IsPut}
-use Rattle.dv_mails.specs.Writing.{IsSweeping, Sweeps, swept}
-use Rattle.dv_mails.proofs.Beside.{KeepsIndex, none_named, put_beside, resting_beside, swept_beside}
-use Rattle.dv_mails.proofs.Removing.{put_stays, sweep_stays}
+use Rattle.dv_files.specs.Leavings.{IsPut}
+use Rattle.dv_files.specs.Writing.{IsSweeping, Sweeps, swept}
+use Rattle.dv_files.proofs.Beside.{KeepsIndex, none_named, put_beside, resting_beside, swept_beside}
+use Rattle.dv_files.proofs.Removing.{put_stays, sweep_stays}
 use Rattle.dv_writing.specs.Laws.{SameMessages}
 use Rattle.dv_writing.specs.Removals.{IsFree}
 use Rattle.dv_writing.proofs.Kept.{kept_same}

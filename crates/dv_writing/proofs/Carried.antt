@@ -17,8 +17,8 @@ use Rattle.dv_chain.specs.Rest.{IsPending}
 use Rattle.dv_writing.specs.declared.committing.Committed.{Committed}
 use Rattle.dv_writing.specs.Commits.{AdvancesChain, KeepsOthers}
 use Rattle.dv_writing.specs.Opening.{mark_behind}
-use Rattle.dv_rotation.specs.declared.texts.Turn.{Turn}
-use Rattle.dv_rotation.specs.Texts.{IsTurnOf, next_header, place_of}
+use Rattle.dv_files.specs.declared.texts.Turn.{Turn}
+use Rattle.dv_files.specs.Texts.{IsTurnOf, next_header, place_of}
 use Rattle.dv_writing.specs.Debts.{Debt, Fits, MayGive, Nothing, Pending}
 use Rattle.dv_writing.specs.Keeping.{Gives}
 use Rattle.dv_writing.specs.Repairing.{IsOwing}

@@ -11,11 +11,11 @@ use Rattle.dv_shelf.specs.Folders.{Folder, has_name, same_name, with_file}
 use Rattle.dv_shelf.proofs.FolderLemmas.{is_same, with_else, with_here}
 use Rattle.dv_shelf.proofs.Moments.{started}
 use Rattle.dv_chain.specs.declared.chain.Chain.{Chain}
-use Rattle.dv_rotation.specs.Leavings.{IsPut, Leaves, Puts}
-use Rattle.dv_rotation.proofs.Replacing.{puts_either}
-use Rattle.dv_mails.specs.Writing.{IsSweeping, IsSwept, mail_names, swept}
-use Rattle.dv_mails.proofs.Beside.{none_named}
-use Rattle.dv_mails.proofs.Removing.{sweep_stays}
+use Rattle.dv_files.specs.Leavings.{IsPut, Leaves, Puts}
+use Rattle.dv_files.proofs.Replacing.{puts_either}
+use Rattle.dv_files.specs.Writing.{IsSweeping, IsSwept, mail_names, swept}
+use Rattle.dv_files.proofs.Beside.{none_named}
+use Rattle.dv_files.proofs.Removing.{sweep_stays}
 use Rattle.dv_writing.specs.Debts.{MayGive, Nothing, Stands}
 use Rattle.dv_writing.proofs.Resting.{rests_give}
 use Rattle.dv_writing.specs.Quiet.{IsQuiet}

@@ -9,8 +9,8 @@ use Rattle.dv_shelf.proofs.FolderLemmas.{with_else}
 use Rattle.dv_dbox.specs.Mails.{guid_in, mail_in}
 use Rattle.dv_openings.specs.TrueCaches.{known_of}
 use Rattle.dv_writing.specs.Commits.{KeepsOthers}
-use Rattle.dv_rotation.specs.declared.texts.Turn.{Turn}
-use Rattle.dv_rotation.specs.Leavings.{IsBeforeLast, IsPut, IsTurning, with_index, with_new, with_old}
+use Rattle.dv_files.specs.declared.texts.Turn.{Turn}
+use Rattle.dv_files.specs.Leavings.{IsBeforeLast, IsPut, IsTurning, with_index, with_new, with_old}
 use Rattle.dv_writing.specs.Laws.{KeptWhereSame, SameMessages}
 
 pub kept_same : KeptWhereSame

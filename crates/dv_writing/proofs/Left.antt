@@ -2,8 +2,8 @@
 use Rattle.std.proofs.Common.{◌≡◌, ◌⊎◌, inl, inr, ⊎_elim, List, ℕ, Option, Some, None}
 use Rattle.std.specs.Prelude.{IsSome}
 use Rattle.dv_chain.specs.declared.chain.Chain.{Chain}
-use Rattle.dv_rotation.specs.declared.texts.Turn.{Turn}
-use Rattle.dv_rotation.specs.Texts.{place_of}
+use Rattle.dv_files.specs.declared.texts.Turn.{Turn}
+use Rattle.dv_files.specs.Texts.{place_of}
 use Rattle.dv_writing.specs.Debts.{Debt, Last, debt_of}
 use Rattle.dv_writing.specs.Ways.{IsDue, StopsOnWay, ready}
 use Rattle.dv_writing.proofs.Ready.{stopped_place}

@@ -10,10 +10,10 @@ use Rattle.dv_shelf.proofs.FolderLemmas.{with_else, with_here}
 use Rattle.dv_shelf.proofs.Moments.{joined, weaker}
 use Rattle.dv_logfile.specs.declared.commit.LogFile.{LogFile}
 use Rattle.dv_chain.specs.declared.chain.Chain.{Chain}
-use Rattle.dv_rotation.specs.declared.texts.Turn.{Turn}
-use Rattle.dv_rotation.specs.Leavings.{IsBeforeLast, IsPut, with_index, with_new, with_old}
-use Rattle.dv_rotation.specs.Texts.{turned}
-use Rattle.dv_rotation.proofs.Replacing.{puts_either}
+use Rattle.dv_files.specs.declared.texts.Turn.{Turn}
+use Rattle.dv_files.specs.Leavings.{IsBeforeLast, IsPut, with_index, with_new, with_old}
+use Rattle.dv_files.specs.Texts.{turned}
+use Rattle.dv_files.proofs.Replacing.{puts_either}
 use Rattle.dv_writing.specs.Debts.{Debt, Fits, Last, MayGive, Nothing, Stands, debt_of}
 use Rattle.dv_writing.specs.Repairing.{IsOwing, Repairs, RepairsFiles, RepairsQuietly}
 use Rattle.dv_writing.specs.Turning.{TurnsFiles, TurnsOver, TurnsOverQuietly}

@@ -15,7 +15,7 @@ use Rattle.dv_model.specs.Sessions.{group_of}
 use Rattle.dv_model.specs.Transcripts.{with_written}
 use Rattle.dv_model.specs.Views.{View}
 use Rattle.dv_shelf.specs.Folders.{Folder}
-use Rattle.dv_mails.specs.Writing.{HasMail, HoldsMail, IsFileOf}
+use Rattle.dv_files.specs.Writing.{HasMail, HoldsMail, IsFileOf}
 use Rattle.dv_writing.specs.Keeping.{Keeps}
 use Rattle.dv_writing.specs.Groups.{KeepsNext}
 use Rattle.dv_writing.proofs.Keeping.{check_kept, group_kept}

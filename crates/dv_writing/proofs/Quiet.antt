@@ -8,8 +8,8 @@ use Rattle.dv_chain.specs.declared.chain.Chain.{Chain}
 use Rattle.dv_chain.specs.Rest as rest
 use Rattle.dv_chain.specs.Rest.{IsResting, Owes}
 use Rattle.dv_writing.proofs.Opened.{may_open}
-use Rattle.dv_rotation.specs.Leavings.{Leaves}
-use Rattle.dv_rotation.specs.Texts.{place_of}
+use Rattle.dv_files.specs.Leavings.{Leaves}
+use Rattle.dv_files.specs.Texts.{place_of}
 use Rattle.dv_writing.specs.Debts.{MayGive, Nothing, Stands}
 use Rattle.dv_writing.specs.Keeping.{Keeps}
 use Rattle.dv_writing.proofs.Resting.{gives_as}

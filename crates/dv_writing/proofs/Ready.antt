@@ -7,8 +7,8 @@ use Rattle.dv_logfile.specs.declared.commit.Debt.TheVariants as log_debt
 use Rattle.dv_chain.specs.declared.chain.Chain.{Chain}
 use Rattle.dv_chain.specs.Rest.{next_mark}
 use Rattle.dv_writing.specs.Commits.{HealsChain}
-use Rattle.dv_rotation.specs.declared.texts.Turn.{Turn}
-use Rattle.dv_rotation.specs.Texts.{IsTurnOf, place_of, turned}
+use Rattle.dv_files.specs.declared.texts.Turn.{Turn}
+use Rattle.dv_files.specs.Texts.{IsTurnOf, place_of, turned}
 use Rattle.dv_writing.specs.Debts.{Debt, Fits, Last, MayGive, Nothing, Pending}
 use Rattle.dv_writing.specs.Keeping.{Gives}
 use Rattle.dv_writing.specs.Repairing.{IsOwing, Repairs}

@@ -14,11 +14,11 @@ use Rattle.dv_chain.specs.declared.chain.Chain.{Chain}
 use Rattle.dv_chain.specs.Rest as rest
 use Rattle.dv_dbox.specs.Mails.{guid_in, mail_in}
 use Rattle.dv_openings.proofs.Cached.{written_true}
-use Rattle.dv_rotation.specs.Leavings.{IsPut, Leaves, Puts}
-use Rattle.dv_rotation.specs.Texts.{IsSnapshotOf}
-use Rattle.dv_rotation.proofs.Replacing.{leaves_both}
-use Rattle.dv_rotation.proofs.Turned.{alone_put}
-use Rattle.dv_mails.proofs.Beside.{KeepsIndex, resting_beside}
+use Rattle.dv_files.specs.Leavings.{IsPut, Leaves, Puts}
+use Rattle.dv_files.specs.Texts.{IsSnapshotOf}
+use Rattle.dv_files.proofs.Replacing.{leaves_both}
+use Rattle.dv_files.proofs.Turned.{alone_put}
+use Rattle.dv_files.proofs.Beside.{KeepsIndex, resting_beside}
 use Rattle.dv_writing.specs.Keeping.{Keeps}
 use Rattle.dv_writing.specs.Renewals.{IsCacheOf, IsRenewing, Renews, with_index}
 use Rattle.dv_writing.proofs.Quiet.{HasAll}

@@ -20,12 +20,12 @@ use Rattle.dv_chain.specs.Rest.{Rests}
 use Rattle.dv_chain.specs.Rest as chain_rest
 use Rattle.dv_writing.specs.Commits.{HealsChain, HealsFolder, KeepsOthers, OpensBeside, healed}
 use Rattle.dv_writing.specs.Opening.{MayOpen}
-use Rattle.dv_rotation.specs.declared.texts.Turn.{Turn}
-use Rattle.dv_rotation.specs.Leavings.{IsPut, Leaves, Puts}
-use Rattle.dv_rotation.specs.Quiet.{FinishesQuietly, RestsFinished}
-use Rattle.dv_rotation.specs.Texts.{IsTurnOf, closed_at}
-use Rattle.dv_rotation.proofs.Grounds.{closed_long}
-use Rattle.dv_rotation.proofs.Replacing.{puts_either}
+use Rattle.dv_files.specs.declared.texts.Turn.{Turn}
+use Rattle.dv_files.specs.Leavings.{IsPut, Leaves, Puts}
+use Rattle.dv_files.specs.Quiet.{FinishesQuietly, RestsFinished}
+use Rattle.dv_files.specs.Texts.{IsTurnOf, closed_at}
+use Rattle.dv_files.proofs.Grounds.{closed_long}
+use Rattle.dv_files.proofs.Replacing.{puts_either}
 use Rattle.dv_writing.specs.Debts.{Debt, Fits, Last, Nothing, Pending, Stands, owed_of}
 use Rattle.dv_writing.specs.Repairing.{HealsLog, KeepsTurn, RepairsQuietly}
 use Rattle.dv_writing.proofs.Kept.{beside_log, beside_put, of_log}

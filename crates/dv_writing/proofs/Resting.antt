@@ -11,7 +11,7 @@ use Rattle.dv_openings.specs.Openings.{Finds}
 use Rattle.dv_chain.specs.declared.chain.Chain.{Chain}
 use Rattle.dv_chain.specs.Rest.{Rests, next_mark}
 use Rattle.dv_writing.specs.Opening.{MayOpen, mark_behind}
-use Rattle.dv_rotation.specs.Texts.{place_of}
+use Rattle.dv_files.specs.Texts.{place_of}
 use Rattle.dv_writing.proofs.Opened.{may_open}
 use Rattle.dv_writing.specs.Debts.{Debt, IsOwedOf, KeepsOwed, Last, MayGive, Nothing, Pending, Stands, owed_of}
 use Rattle.dv_writing.specs.Keeping.{Gives, Keeps}

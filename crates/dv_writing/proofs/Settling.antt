@@ -7,9 +7,9 @@ use Rattle.dv_shelf.specs.Folders.{Folder, with_file}
 use Rattle.dv_shelf.specs.Sees.{SeesFolder}
 use Rattle.dv_logfile.specs.Settling.{StaysSettled}
 use Rattle.dv_logfile.proofs.Settling.{rose_settled, stepped_settled}
-use Rattle.dv_rotation.specs.declared.texts.Turn.{Turn}
-use Rattle.dv_rotation.specs.Leavings.{Leaves, Puts, with_new}
-use Rattle.dv_mails.specs.Writing.{Sweeps, swept}
+use Rattle.dv_files.specs.declared.texts.Turn.{Turn}
+use Rattle.dv_files.specs.Leavings.{Leaves, Puts, with_new}
+use Rattle.dv_files.specs.Writing.{Sweeps, swept}
 use Rattle.dv_writing.specs.Renewals.{Renews, renewed}
 use Rattle.dv_writing.specs.Turning.{TurnsFiles}
 

@@ -4,11 +4,11 @@ use Rattle.dv_model.specs.Journals.{Log}
 use Rattle.dv_shelf.specs.Folders.{Folder}
 use Rattle.dv_chain.specs.declared.chain.Chain.{Chain}
 use Rattle.dv_chain.specs.Rest.{Rests}
-use Rattle.dv_rotation.specs.declared.fault.TurnEnd.{TurnEnd}
-use Rattle.dv_rotation.specs.declared.fault.TurnEnd.TheVariants as end
-use Rattle.dv_rotation.specs.declared.texts.Turn.{Turn}
-use Rattle.dv_rotation.specs.Leavings.{IsTurning, Leaves, Turns}
-use Rattle.dv_rotation.specs.Quiet.{TurnsQuietly}
+use Rattle.dv_files.specs.declared.fault.TurnEnd.{TurnEnd}
+use Rattle.dv_files.specs.declared.fault.TurnEnd.TheVariants as end
+use Rattle.dv_files.specs.declared.texts.Turn.{Turn}
+use Rattle.dv_files.specs.Leavings.{IsTurning, Leaves, Turns}
+use Rattle.dv_files.specs.Quiet.{TurnsQuietly}
 use Rattle.dv_writing.specs.Debts.{IsOwedOf, KeepsOwed, Last, Nothing, Stands, debt_of, owed_of}
 use Rattle.dv_writing.specs.Turning.{TurnsOverQuietly}
 use Rattle.dv_writing.proofs.Kept.{beside_turn}

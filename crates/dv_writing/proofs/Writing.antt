@@ -14,7 +14,7 @@ use Rattle.dv_chain.specs.Rest.{IsPending, Rests}
 use Rattle.dv_writing.specs.declared.committing.Committed.{Committed}
 use Rattle.dv_writing.specs.Commits.{AdvancesChain, CommitsGroup, OpensBeside, owed_after}
 use Rattle.dv_writing.specs.Opening.{mark_behind}
-use Rattle.dv_rotation.specs.Texts.{place_of}
+use Rattle.dv_files.specs.Texts.{place_of}
 use Rattle.dv_writing.specs.Debts.{MayGive, Nothing, Pending, Stands}
 use Rattle.dv_writing.specs.Keeping.{Keeps}
 use Rattle.dv_writing.specs.Groups.{KeepsNext, WritesGroup, debt_after}

@@ -7,8 +7,8 @@ use Rattle.dv_chain.specs.declared.chain.Chain.{Chain}
 use Rattle.dv_chain.specs.Rest.{Owed, Rests, next_mark}
 use Rattle.dv_chain.specs.Rest as chain_rest
 use Rattle.dv_writing.specs.Opening.{mark_behind}
-use Rattle.dv_rotation.specs.declared.texts.Turn.{Turn}
-use Rattle.dv_rotation.specs.Texts.{place_of}
+use Rattle.dv_files.specs.declared.texts.Turn.{Turn}
+use Rattle.dv_files.specs.Texts.{place_of}
 use Rattle.dv_writing.specs.Keeping.{Gives, Keeps}
 use Rattle.dv_shelf.specs.Sees.{SeesFolder}
 

@@ -9,7 +9,7 @@ use Rattle.dv_shelf.specs.Folders.{Folder}
 use Rattle.dv_openings.specs.Numbers.{HasIndexid}
 use Rattle.dv_openings.specs.Openings.{Finds, IsFound}
 use Rattle.dv_openings.specs.TrueCaches.{HasTrueCache}
-use Rattle.dv_mails.specs.Reading.{guid_at, mail_at}
+use Rattle.dv_files.specs.Reading.{guid_at, mail_at}
 
 -- the message file of a UID gives the log's message and its GUID
 pub record HasMessage (log : Log) (uid : ℕ) (c : Folder) : Type 0 where

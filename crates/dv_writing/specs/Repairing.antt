@@ -11,9 +11,9 @@ use Rattle.dv_logfile.specs.Commits.{ShutsGate}
 use Rattle.dv_chain.specs.declared.chain.Chain.{Chain}
 use Rattle.dv_chain.specs.Openings.{HasBounds}
 use Rattle.dv_writing.specs.Commits.{HealsChain, KeepsOthers}
-use Rattle.dv_rotation.specs.declared.texts.Turn.{Turn}
-use Rattle.dv_rotation.specs.Leavings.{Puts}
-use Rattle.dv_rotation.specs.Texts.{Advances, ClosesLog, IsTurnOf, closed_at}
+use Rattle.dv_files.specs.declared.texts.Turn.{Turn}
+use Rattle.dv_files.specs.Leavings.{Puts}
+use Rattle.dv_files.specs.Texts.{Advances, ClosesLog, IsTurnOf, closed_at}
 use Rattle.dv_writing.specs.Debts.{Debt, MayGive, Nothing, Stands}
 use Rattle.dv_shelf.specs.Sees.{SeesFolder}
 

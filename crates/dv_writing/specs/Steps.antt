@@ -8,8 +8,8 @@ use Rattle.dv_shelf.specs.declared.shelf.Name.TheVariants as name
 use Rattle.dv_shelf.specs.Folders.{Folder}
 use Rattle.dv_chain.specs.declared.chain.Chain.{Chain}
 use Rattle.dv_writing.specs.Commits.{IsReady}
-use Rattle.dv_rotation.specs.declared.texts.Turn.{Turn}
-use Rattle.dv_rotation.specs.Texts.{IsSnapshotOf}
+use Rattle.dv_files.specs.declared.texts.Turn.{Turn}
+use Rattle.dv_files.specs.Texts.{IsSnapshotOf}
 use Rattle.dv_writing.specs.Removals.{IsFree}
 use Rattle.dv_writing.specs.Renewals.{IsCacheOf}
 use Rattle.dv_writing.specs.declared.steps.Files.{Files}

@@ -7,9 +7,9 @@ use Rattle.dv_shelf.specs.Crashes.{LeavesOnly}
 use Rattle.dv_shelf.specs.Folders.{Folder}
 use Rattle.dv_logfile.specs.declared.commit.Debt.TheVariants as debt
 use Rattle.dv_chain.specs.declared.chain.Chain.{Chain}
-use Rattle.dv_rotation.specs.declared.texts.Turn.{Turn}
-use Rattle.dv_rotation.specs.Leavings.{IsBeforeLast, IsPut, with_new, with_old}
-use Rattle.dv_rotation.specs.Texts.{Advances}
+use Rattle.dv_files.specs.declared.texts.Turn.{Turn}
+use Rattle.dv_files.specs.Leavings.{IsBeforeLast, IsPut, with_new, with_old}
+use Rattle.dv_files.specs.Texts.{Advances}
 use Rattle.dv_writing.specs.Debts.{Last, MayGive, Stands, debt_of}
 use Rattle.dv_writing.specs.Repairing.{IsOwing}
 use Rattle.dv_shelf.specs.Sees.{SeesFolder}

@@ -9,8 +9,8 @@ use Rattle.dv_shelf.specs.Folders.{Folder, contents}
 use Rattle.dv_logfile.specs.declared.commit.Debt.TheVariants as log_debt
 use Rattle.dv_chain.specs.declared.chain.Chain.{Chain}
 use Rattle.dv_chain.specs.Rest.{next_mark}
-use Rattle.dv_rotation.specs.declared.texts.Turn.{Turn}
-use Rattle.dv_rotation.specs.Texts.{IsTurnOf, turned}
+use Rattle.dv_files.specs.declared.texts.Turn.{Turn}
+use Rattle.dv_files.specs.Texts.{IsTurnOf, turned}
 use Rattle.dv_writing.specs.Debts.{Debt, Fits, Last, MayGive, Nothing, Stands, debt_of}
 use Rattle.dv_writing.specs.Keeping.{Gives}
 use Rattle.dv_writing.specs.Repairing.{IsOwing}

@@ -18,9 +18,9 @@ use Rattle.dv_chain.specs.declared.chain.Chain.{Chain}
 use Rattle.dv_chain.specs.Rest.{IsPending}
 use Rattle.dv_writing.specs.declared.committing.Committed.{Committed}
 use Rattle.dv_writing.specs.Opening.{mark_behind}
-use Rattle.dv_mails.specs.Writing.{IsFileOf}
-use Rattle.dv_rotation.specs.declared.texts.Turn.{Turn}
-use Rattle.dv_rotation.specs.Texts.{ClosesLog, place_of}
+use Rattle.dv_files.specs.Writing.{IsFileOf}
+use Rattle.dv_files.specs.declared.texts.Turn.{Turn}
+use Rattle.dv_files.specs.Texts.{ClosesLog, place_of}
 use Rattle.dv_writing.specs.Debts.{Debt, Fits, Nothing, Pending, Stands}
 use Rattle.dv_writing.specs.Keeping.{Gives}
 use Rattle.dv_writing.specs.Repairing.{IsOwing}

@@ -5,18 +5,18 @@ ghost use Rattle.dv_model.specs.Journals.{Log};
 ghost use Rattle.dv_model.specs.Mailboxes.{IsValid};
 ghost use Rattle.dv_shelf.specs.Causes.{HasCause};
 ghost use Rattle.dv_shelf.specs.declared.shelf.Name.TheVariants as name;
-ghost use Rattle.dv_rotation.specs.Leavings.{IsPut, Leaves, Puts};
-ghost use Rattle.dv_mails.specs.Writing.{HoldsMail, IsFileOf};
+ghost use Rattle.dv_files.specs.Leavings.{IsPut, Leaves, Puts};
+ghost use Rattle.dv_files.specs.Writing.{HoldsMail, IsFileOf};
 ghost use Rattle.dv_writing.specs.Debts.{Nothing, Stands};
 ghost use Rattle.dv_writing.specs.Quiet.{IsQuiet};
 
 use dv_chain::Chain;
-use dv_mails::put;
+use dv_files::put;
 use dv_model::Bytes;
 use dv_shelf::{Failed, Shelf};
 
 /// Writes the message file of the chain's UIDNEXT, which no row has: the text that
-/// `dv_mails::mail_text` gives for a message. Takes no memory. After `Failed` the file is as before
+/// `dv_files::mail_text` gives for a message. Takes no memory. After `Failed` the file is as before
 /// or has the text.
 pub fn put_message<S: Shelf>(chain: &Chain, shelf: &mut S, text: &Bytes) -> Result<(), Failed>
     // This file alone, in the files and in what a crash leaves of them.

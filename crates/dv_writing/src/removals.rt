@@ -3,8 +3,8 @@
 ghost use Rattle.std.specs.Prelude.{◌≡◌, All, IfOk, option_to_list};
 ghost use Rattle.dv_model.specs.Journals.{Log};
 ghost use Rattle.dv_shelf.specs.Causes.{HasCause};
-ghost use Rattle.dv_rotation.specs.Leavings.{Leaves};
-ghost use Rattle.dv_mails.specs.Writing.{IsSweeping, Sweeps};
+ghost use Rattle.dv_files.specs.Leavings.{Leaves};
+ghost use Rattle.dv_files.specs.Writing.{IsSweeping, Sweeps};
 ghost use Rattle.dv_writing.specs.Debts.{Nothing, Stands};
 ghost use Rattle.dv_writing.specs.Quiet.{IsQuiet};
 ghost use Rattle.dv_writing.specs.Removals as gone;
@@ -12,7 +12,7 @@ ghost use Rattle.dv_writing.specs.Removals.{AreUnlisted, IsFree, uid_in, uids_in
 
 use dv_apply::Live;
 use dv_chain::Chain;
-use dv_mails::sweep;
+use dv_files::sweep;
 use dv_model::{List, NoMemory};
 use dv_rows::sort_uids;
 use dv_shelf::{Failed, Name, Shelf};

@@ -4,15 +4,15 @@ ghost use Rattle.std.specs.Prelude.{◌≡◌};
 ghost use Rattle.dv_model.specs.Journals.{Log};
 ghost use Rattle.dv_shelf.specs.Causes.{HasCause};
 ghost use Rattle.dv_shelf.specs.declared.shelf.Name.TheVariants as name;
-ghost use Rattle.dv_rotation.specs.Leavings.{IsPut, Leaves, Puts};
-ghost use Rattle.dv_rotation.specs.Texts.{IsSnapshotOf};
+ghost use Rattle.dv_files.specs.Leavings.{IsPut, Leaves, Puts};
+ghost use Rattle.dv_files.specs.Texts.{IsSnapshotOf};
 ghost use Rattle.dv_writing.specs.Debts.{Nothing, Stands};
 ghost use Rattle.dv_writing.specs.Quiet.{IsQuiet};
 ghost use Rattle.dv_writing.specs.Renewals.{IsCacheOf, IsRenewing, Renews};
 
 use dv_chain::Chain;
 use dv_model::Bytes;
-use dv_rotation::checkpoint;
+use dv_files::checkpoint;
 use dv_shelf::{Failed, Name, Shelf};
 
 /// Replaces the cache file.

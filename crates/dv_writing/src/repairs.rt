@@ -11,7 +11,7 @@ ghost use Rattle.dv_writing.specs.Repairing.{RepairsQuietly};
 
 use crate::heal;
 use dv_chain::Chain;
-use dv_rotation::{Turn, finish};
+use dv_files::{Turn, finish};
 use dv_shelf::{Failed, Shelf};
 
 /// Takes back the group that a failed commit may have left, or makes the last replace of a rotation

@@ -3,13 +3,13 @@
 ghost use Rattle.std.specs.Prelude.{◌≡◌, ◌<◌, true, None};
 ghost use Rattle.dv_model.specs.Journals.{Log, is_rotation_due};
 ghost use Rattle.dv_shelf.specs.Causes.{HasCause};
-ghost use Rattle.dv_rotation.specs.Leavings.{IsTurning, Leaves};
-ghost use Rattle.dv_rotation.specs.Texts.{ClosesLog, IsTurnOf, place_of};
+ghost use Rattle.dv_files.specs.Leavings.{IsTurning, Leaves};
+ghost use Rattle.dv_files.specs.Texts.{ClosesLog, IsTurnOf, place_of};
 ghost use Rattle.dv_writing.specs.Debts.{Nothing, Stands};
 ghost use Rattle.dv_writing.specs.Turning.{TurnsFiles, TurnsOver, TurnsOverQuietly};
 
 use dv_chain::Chain;
-use dv_rotation::{Turn, TurnEnd, rotate};
+use dv_files::{Turn, TurnEnd, rotate};
 use dv_shelf::{Failed, Shelf};
 
 /// A log that ends here or later, in bytes, is rotated.

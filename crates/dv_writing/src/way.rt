@@ -4,14 +4,14 @@ ghost use Rattle.std.specs.Prelude.{◌≡◌, IfSome};
 ghost use Rattle.dv_model.specs.Journals.{Log};
 ghost use Rattle.dv_shelf.specs.Causes.{HasCause};
 ghost use Rattle.dv_logfile.specs.Settling.{StaysSettled};
-ghost use Rattle.dv_rotation.specs.Texts.{ClosesLog};
+ghost use Rattle.dv_files.specs.Texts.{ClosesLog};
 ghost use Rattle.dv_writing.specs.Debts.{Debt, Fits, Stands};
 ghost use Rattle.dv_writing.specs.Repairing.{IsOwing};
 ghost use Rattle.dv_writing.specs.Ways.{IsDue, MakesWay, MakesWayIn, MakesWayQuietly, held};
 
 use crate::{repair, turn_over};
 use dv_chain::Chain;
-use dv_rotation::Turn;
+use dv_files::Turn;
 use dv_shelf::{Failed, Shelf};
 
 /// Pays what is owed, and then rotates the log by a turn that was made for it, where there is one.

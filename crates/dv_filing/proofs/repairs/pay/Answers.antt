@@ -3,7 +3,7 @@ use Rattle.std.proofs.lemmas.Result.{err_from_is_err_and}
 use Rattle.dv_shelf.specs.declared.shelf.Name.TheVariants.{Log}
 use Rattle.dv_logfile.proofs.Settling.{rose_settled}
 use Rattle.dv_chain.specs.declared.chain.Chain.{Chain}
-use Rattle.dv_rotation.specs.declared.texts.Turn.{Turn}
+use Rattle.dv_files.specs.declared.texts.Turn.{Turn}
 use Rattle.dv_writing.proofs.Repaired.{heals_log, turn_stays}
 use Rattle.dv_writing.proofs.Settling.{put_settled}
 use Rattle.dv_filing.specs.Standing.{Fits}

@@ -1,7 +1,7 @@
 use Rattle.std.proofs.Common.{Option, subst}
 use Rattle.std.proofs.lemmas.Result.{err_from_is_err_and}
-use Rattle.dv_rotation.specs.declared.texts.Turn.{Turn}
-use Rattle.dv_rotation.specs.Texts.{ClosesLog}
+use Rattle.dv_files.specs.declared.texts.Turn.{Turn}
+use Rattle.dv_files.specs.Texts.{ClosesLog}
 use Rattle.std.specs.Prelude.{IfSome}
 use Rattle.dv_writing.specs.Ways.{IsDue}
 use Rattle.dv_writing.proofs.Making.{failed_in, paid_in, turned_in, way_failed, way_paid, way_turned}

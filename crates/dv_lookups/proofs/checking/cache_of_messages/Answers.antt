@@ -3,7 +3,7 @@ use Rattle.std.proofs.lemmas.List.{length-map}
 use Rattle.dv_model.specs.declared.types.Row.{Row}
 use Rattle.dv_cache.specs.Begun.{begun}
 use Rattle.dv_cache.specs.Caches.{cache_text, first_place}
-use Rattle.dv_mails.specs.Reading.{mail_at}
+use Rattle.dv_files.specs.Reading.{mail_at}
 use Rattle.dv_lookups.specs.Checks.{IsCacheText, held_row, held_rows}
 use Rattle.dv_lookups.proofs.Holding.{is_text}
 use Rattle.dv_lookups.proofs.Rows.{if_in_memory, if_ok}

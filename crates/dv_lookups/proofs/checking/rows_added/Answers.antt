@@ -2,8 +2,8 @@ use Rattle.std.proofs.Common.{rules, ◌≡◌, ◌∙◌, ◌+◌, ◌*◌, ◌
 use Rattle.std.proofs.lemmas.Result.{err_from_is_err_and}
 use Rattle.dv_cache.specs.declared.row.CacheRow.{CacheRow}
 use Rattle.dv_cache.specs.Begun.{begun}
-use Rattle.dv_mails.proofs.Looking.{reads_more}
-use Rattle.dv_mails.specs.Reading.{mail_at}
+use Rattle.dv_files.proofs.Looking.{reads_more}
+use Rattle.dv_files.specs.Reading.{mail_at}
 use Rattle.dv_shelf.specs.Folders.{Folder}
 use Rattle.dv_lookups.specs.Checks.{held_row, held_rows}
 use Rattle.dv_lookups.proofs.Holding.{rows_more}

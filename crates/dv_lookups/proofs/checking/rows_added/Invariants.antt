@@ -1,6 +1,6 @@
 use Rattle.std.proofs.Common.{◌≡◌, length, take}
 use Rattle.dv_chain.specs.Openings.{OnlyLooks}
-use Rattle.dv_mails.specs.Reading.{after_reads, mail_at}
+use Rattle.dv_files.specs.Reading.{after_reads, mail_at}
 use Rattle.dv_lookups.specs.Checks.{held_text}
 use Rattle.dv_lookups.proofs.checking.rows_added.Given as goal
 

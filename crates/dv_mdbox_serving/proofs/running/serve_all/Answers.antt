@@ -1,12 +1,12 @@
 use Rattle.std.proofs.Common.{◌≡◌, Option, refl, subst}
 use Rattle.dv_model.specs.declared.types.Mark.{Mark}
-use Rattle.dv_rotation.specs.declared.texts.Turn.{Turn}
+use Rattle.dv_files.specs.declared.texts.Turn.{Turn}
 use Rattle.dv_mdbox.specs.States.{StandsAt}
 use Rattle.dv_serving.specs.Faults.{faults_between, faults_of}
 use Rattle.dv_serving.specs.Outputs.{output_of}
 use Rattle.dv_mdbox_lines.specs.Views.{calls_left}
 use Rattle.dv_mdbox_serving.specs.Runs.{end_behind}
-use Rattle.dv_rotation.specs.Texts.{place_of}
+use Rattle.dv_files.specs.Texts.{place_of}
 use Rattle.dv_mdbox_serving.proofs.InTurn.{served_cause, served_ends, serves_folder}
 use Rattle.dv_mdbox_serving.proofs.running.serve_all.Goals as goal
 

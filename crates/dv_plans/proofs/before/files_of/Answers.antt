@@ -1,6 +1,6 @@
 use Rattle.std.proofs.Common.{List, ℕ, sym, ap, subst}
 use Rattle.dv_model.specs.declared.types.Command.{Command}
-use Rattle.dv_mails.specs.Writing.{IsFileOf}
+use Rattle.dv_files.specs.Writing.{IsFileOf}
 use Rattle.dv_writing.specs.declared.steps.Files.TheVariants as files
 use Rattle.dv_plans.specs.Files.{AreFewFiles, IsAppended, guid_for}
 use Rattle.dv_plans.proofs.before.files_of.Goals as goal

@@ -2,7 +2,7 @@ use Rattle.std.proofs.Common.{◌≡◌, ℕ, List, ◌∙◌, ap, subst}
 use Rattle.std.proofs.lemmas.Result.{IfOk-weaker}
 use Rattle.dv_model.specs.Journals.{new_guid}
 use Rattle.dv_dbox.specs.BoxTexts.{written}
-use Rattle.dv_mails.specs.Writing.{IsFileOf}
+use Rattle.dv_files.specs.Writing.{IsFileOf}
 use Rattle.dv_plans.specs.Files.{guid_for, new_file}
 use Rattle.dv_plans.proofs.before.message_file.Goals as goal
 

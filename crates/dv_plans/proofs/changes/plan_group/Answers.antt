@@ -1,7 +1,7 @@
 use Rattle.std.proofs.Common.{◌≡◌, ℕ, List, length, ◌∙◌, ap, subst}
 use Rattle.std.proofs.lemmas.Result.{err_from_is_err_and}
 use Rattle.dv_groups.specs.Changes.{changed_uids, expunged_uids, guid_rows}
-use Rattle.dv_mails.specs.Reading.{guid_at}
+use Rattle.dv_files.specs.Reading.{guid_at}
 use Rattle.dv_plans.specs.Counts.{CountsReads, CountsUpTo}
 use Rattle.dv_plans.specs.Guids.{guid_from, removed_of}
 use Rattle.dv_plans.proofs.Counts.{all_counted}

@@ -3,7 +3,7 @@ use Rattle.dv_model.specs.declared.types.GuidRow.{GuidRow}
 use Rattle.dv_model.specs.Sessions.{group_of, is_append}
 use Rattle.dv_dbox.specs.Mails.{no_guid}
 use Rattle.dv_shelf.specs.Clocks.{behind}
-use Rattle.dv_rotation.specs.Texts.{place_of}
+use Rattle.dv_files.specs.Texts.{place_of}
 use Rattle.dv_plans.specs.Begins.{count_of, received_at, turns}
 use Rattle.dv_plans.specs.Groups.{AreFound}
 use Rattle.dv_plans.proofs.Dated.{dated_at}

@@ -1,6 +1,6 @@
 use Rattle.std.proofs.Common.{ℕ, length, refl, subst}
 use Rattle.dv_lookups.specs.Checks.{IsCacheText}
-use Rattle.dv_mails.specs.Reading.{mail_at}
+use Rattle.dv_files.specs.Reading.{mail_at}
 use Rattle.dv_plans.proofs.Counts.{reads_counted, some_counted}
 use Rattle.dv_plans.proofs.renewals.next_cache.Goals as goal
 

@@ -1,6 +1,6 @@
 use Rattle.dv_shelf.specs.declared.shelf.Name.TheVariants as name
-use Rattle.dv_rotation.specs.Leavings.{IsPut, Puts}
-use Rattle.dv_rotation.proofs.Replacing.{puts_either}
+use Rattle.dv_files.specs.Leavings.{IsPut, Puts}
+use Rattle.dv_files.proofs.Replacing.{puts_either}
 use Rattle.dv_writing.proofs.Quiet.{quiet_steps}
 use Rattle.dv_writing.proofs.Renewing.{index_put, put_else}
 use Rattle.dv_store.proofs.sweeping.put_snapshot.Goals as goal

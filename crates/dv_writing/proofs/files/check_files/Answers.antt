@@ -1,8 +1,8 @@
 use Rattle.std.proofs.Common.{List, ℕ, subst, sym}
 use Rattle.std.specs.Prelude.{All}
 use Rattle.std.proofs.lemmas.Result.{err_from_is_err_and}
-use Rattle.dv_rotation.specs.Leavings.{Leaves}
-use Rattle.dv_mails.specs.Writing.{IsSweeping, IsSwept}
+use Rattle.dv_files.specs.Leavings.{Leaves}
+use Rattle.dv_files.specs.Writing.{IsSweeping, IsSwept}
 use Rattle.dv_writing.specs.Removals.{IsFree}
 use Rattle.dv_writing.proofs.Quiet.{quiet_both}
 use Rattle.dv_writing.proofs.Filing.{check_others, check_written, sweep_unnamed}

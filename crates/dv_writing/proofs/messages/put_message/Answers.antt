@@ -1,7 +1,7 @@
 use Rattle.dv_shelf.specs.declared.shelf.Name.TheVariants as name
 use Rattle.std.proofs.Common.{ℕ, subst}
-use Rattle.dv_rotation.specs.Leavings.{IsPut, Leaves, Puts}
-use Rattle.dv_rotation.proofs.Replacing.{puts_either}
+use Rattle.dv_files.specs.Leavings.{IsPut, Leaves, Puts}
+use Rattle.dv_files.proofs.Replacing.{puts_either}
 use Rattle.dv_writing.proofs.Beside.{next_put}
 use Rattle.dv_writing.proofs.Quiet.{quiet_steps}
 use Rattle.dv_writing.proofs.messages.put_message.Goals as goal

@@ -1,4 +1,4 @@
-use Rattle.dv_mails.specs.Writing.{IsSweeping, Sweeps}
+use Rattle.dv_files.specs.Writing.{IsSweeping, Sweeps}
 use Rattle.dv_writing.proofs.Beside.{rows_left, sweeps_some}
 use Rattle.dv_writing.proofs.Quiet.{quiet_steps}
 use Rattle.dv_writing.proofs.removals.clear.Goals as goal

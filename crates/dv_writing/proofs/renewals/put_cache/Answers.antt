@@ -1,7 +1,7 @@
 use Rattle.std.proofs.Common.{List, ℕ, subst}
 use Rattle.dv_shelf.specs.declared.shelf.Name.TheVariants as name
-use Rattle.dv_rotation.specs.Leavings.{IsPut, Leaves, Puts}
-use Rattle.dv_rotation.proofs.Replacing.{replaced}
+use Rattle.dv_files.specs.Leavings.{IsPut, Leaves, Puts}
+use Rattle.dv_files.proofs.Replacing.{replaced}
 use Rattle.dv_writing.proofs.renewals.put_cache.Goals as goal
 
 pub returns-clause-leaves : goal.returns-clause-leaves

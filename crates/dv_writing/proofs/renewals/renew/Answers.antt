@@ -1,8 +1,8 @@
 use Rattle.std.proofs.Common.{◌≡◌, inr}
 use Rattle.std.proofs.lemmas.Result.{err_from_is_err_and}
 use Rattle.dv_shelf.specs.declared.shelf.Name.TheVariants as name
-use Rattle.dv_rotation.specs.Leavings.{IsPut, Puts}
-use Rattle.dv_rotation.proofs.Replacing.{puts_either}
+use Rattle.dv_files.specs.Leavings.{IsPut, Puts}
+use Rattle.dv_files.proofs.Replacing.{puts_either}
 use Rattle.dv_writing.specs.Renewals.{with_index}
 use Rattle.dv_writing.proofs.Quiet.{quiet_both, quiet_steps}
 use Rattle.dv_writing.proofs.Renewing.{both_renew, cache_put, first_renews, index_put}

@@ -1,6 +1,6 @@
 use Rattle.std.proofs.Common.{Option, sym, ap, subst}
 use Rattle.dv_chain.specs.declared.chain.Chain.{Chain}
-use Rattle.dv_rotation.specs.declared.texts.Turn.{Turn}
+use Rattle.dv_files.specs.declared.texts.Turn.{Turn}
 use Rattle.dv_writing.specs.Turning.{TurnsOverQuietly}
 use Rattle.dv_writing.proofs.Turned.{over_before, over_done, over_last}
 use Rattle.dv_writing.proofs.turns.turn_over.Goals as goal

@@ -1,6 +1,6 @@
 use Rattle.std.proofs.Common.{◌≡◌, Some, Option, true, subst}
 use Rattle.dv_shelf.specs.Folders.{Folder}
-use Rattle.dv_mails.specs.Reading.{mail_at}
+use Rattle.dv_files.specs.Reading.{mail_at}
 use Rattle.dv_lookups.specs.Founds.{IsSourceOf, mail_of}
 use Rattle.dv_lookups.specs.Kept.{IsLookedUp}
 use Rattle.dv_lookups.proofs.Economies.{economy_of, none_upto, one_upto}

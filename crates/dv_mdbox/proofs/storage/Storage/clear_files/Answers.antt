@@ -1,6 +1,6 @@
 use Rattle.std.proofs.Common.{List, ℕ, Result, Ok, Err, OnOk, refl}
 use Rattle.dv_shelf.specs.Folders.{Folder}
-use Rattle.dv_mails.specs.Writing.{IsSwept, Sweeps}
+use Rattle.dv_files.specs.Writing.{IsSwept, Sweeps}
 use Rattle.dv_mdbox.proofs.Thinning.{outcome_failure, outcome_ok, quiet_cleared}
 use Rattle.dv_mdbox.proofs.storage.Storage.clear_files.Goals as goal
 

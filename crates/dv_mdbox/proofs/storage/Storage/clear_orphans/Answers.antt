@@ -3,7 +3,7 @@ use Rattle.dv_shelf.specs.Folders.{Folder, Lists}
 use Rattle.dv_logfile.proofs.Settling.{looked_settled, settled_then}
 use Rattle.dv_chain.specs.declared.chain.Chain.{Chain}
 use Rattle.dv_filing.specs.Clearing.{Needs}
-use Rattle.dv_mails.specs.Writing.{IsSwept}
+use Rattle.dv_files.specs.Writing.{IsSwept}
 use Rattle.dv_mdbox.specs.Purging.{AllNamed}
 use Rattle.dv_mdbox.proofs.Finished.{looked_both, on_ok}
 use Rattle.dv_mdbox.proofs.Orphaned.{none_unnamed, orphans_spared}

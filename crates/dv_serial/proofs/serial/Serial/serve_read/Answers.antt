@@ -74,14 +74,14 @@ returns-in-Err-clause-serves g c =
     λ tells origin attempts small follows.
     seat_failed S.sees g.C.Clock.sees origin.clock origin.start origin.base attempts (S.sees.fault_count c.args.self.now.store.shelf) c.args.self.now follows c.args.at (c.args.at + 1) refl c.args.c.now c.requires.allowed.seat small
     c.requires.allowed.servable.command c.requires.allowed.allowed c.requires.read c.add_data.new.self did.looks (did.reads tells) g.R.Replies.with c.args.replies.now c.take_fault.new.replies (S.sees.fault_count c.add_data.new.self.store.shelf) c.in-Err.fault c.take_fault.result (λ count e. did.touches count (disk_of c.in-Err.fault count e)) did.err did.cause
-    (fault_alone g.R.Replies.with c.args.replies.now c.add_data.new.replies c.take_fault.new.replies c.in-Err.fault c.take_fault.result did.err (λ count e. did.failed tells (play_of origin.clock origin.start attempts).log follows.keeps.debt follows.keeps.rests count (disk_of c.in-Err.fault count e)) c.take_fault.ensures)
+    (fault_alone g.R.Replies.with c.args.replies.now c.add_data.new.replies c.take_fault.new.replies c.in-Err.fault c.take_fault.result did.err (λ count e. did.failed tells (play_of origin.clock origin.start attempts).log follows.keeps.debt follows.keeps.rests count (disk_of c.in-Err.fault count e)) c.take_fault.ensures.told)
 
 pub returns-in-Err-clause-cause : goal.returns-in-Err-clause-cause
 returns-in-Err-clause-cause g c =
     let S = g.S.Shelf in
     λ tells log debt rest.
     taken_fault (S.sees.fault_count c.args.self.now.store.shelf) (S.sees.fault_count c.add_data.new.self.store.shelf) g.R.Replies.with c.args.replies.now c.take_fault.new.replies c.take_fault.result c.in-Err.fault c.in-Err.ensures.cause
-    (fault_alone g.R.Replies.with c.args.replies.now c.add_data.new.replies c.take_fault.new.replies c.in-Err.fault c.take_fault.result c.in-Err.ensures.err (λ count e. c.in-Err.ensures.failed tells log debt rest count (disk_of c.in-Err.fault count e)) c.take_fault.ensures)
+    (fault_alone g.R.Replies.with c.args.replies.now c.add_data.new.replies c.take_fault.new.replies c.in-Err.fault c.take_fault.result c.in-Err.ensures.err (λ count e. c.in-Err.ensures.failed tells log debt rest count (disk_of c.in-Err.fault count e)) c.take_fault.ensures.told)
 
 pub returns-in_ok-met-in-Ok-clause-stays : goal.returns-in_ok-met-in-Ok-clause-stays
 returns-in_ok-met-in-Ok-clause-stays g c =

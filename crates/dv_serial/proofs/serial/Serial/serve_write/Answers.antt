@@ -149,12 +149,12 @@ returns-in-Err-clause-serves g c =
     (λ next following both.
     seat_unwritten S.sees g.C.Clock.sees next origin.start origin.base attempts (S.sees.fault_count old.store.shelf) old following c.args.at (c.args.at + 1) refl c.args.c.now c.requires.allowed.seat
     small c.requires.allowed.servable.command c.requires.write c.commit.new.self g.R.Replies.with c.args.replies.now c.take_fault.new.replies (S.sees.fault_count c.commit.new.self.store.shelf) c.in-Err.fault c.take_fault.result both.0 did.cause
-    did.seats both.1 c.take_fault.ensures)
+    did.seats both.1 c.take_fault.ensures.told)
 
 pub returns-in-Err-clause-cause : goal.returns-in-Err-clause-cause
 returns-in-Err-clause-cause g c =
     let S = g.S.Shelf in
-    taken_fault (S.sees.fault_count c.args.self.now.store.shelf) (S.sees.fault_count c.commit.new.self.store.shelf) g.R.Replies.with c.args.replies.now c.take_fault.new.replies c.take_fault.result c.in-Err.fault c.in-Err.ensures.cause c.take_fault.ensures
+    taken_fault (S.sees.fault_count c.args.self.now.store.shelf) (S.sees.fault_count c.commit.new.self.store.shelf) g.R.Replies.with c.args.replies.now c.take_fault.new.replies c.take_fault.result c.in-Err.fault c.in-Err.ensures.cause c.take_fault.ensures.told
 
 -- ---- groups
 

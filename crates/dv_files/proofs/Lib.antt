@@ -1,0 +1,11 @@
+pub mod Beside
+pub mod Empty
+pub mod Grounds
+pub mod Holding
+pub mod Looking
+pub mod Places
+pub mod Removing
+pub mod Replacing
+pub mod Resting
+pub mod Resumed
+pub mod Turned

@@ -1,4 +1,0 @@
-pub mod Holding
-pub mod Removing
-pub mod Beside
-pub mod Looking

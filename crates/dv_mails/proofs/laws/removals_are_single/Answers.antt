@@ -1,5 +1,0 @@
-use Rattle.dv_mails.proofs.Removing.{each_swept}
-use Rattle.dv_mails.proofs.laws.removals_are_single.Goals as goal
-
-pub returns : goal.returns
-returns c = λ uids old new some n. each_swept uids old new some n
