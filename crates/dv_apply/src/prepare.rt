@@ -19,8 +19,8 @@ use crate::refusals::test_records;
 use crate::share::{Light, Made, Way};
 use crate::state::State;
 use dv_model::{NoMemory, Record, Row};
-use dv_rows::{Rows, sort_uids};
 use dv_portion::named_rows;
+use dv_rows::{Rows, sort_uids};
 use dv_touched::Touched;
 use std::alloc::Global;
 

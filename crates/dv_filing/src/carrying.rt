@@ -13,8 +13,8 @@ ghost use Rattle.dv_filing.specs.Writes.{AreSteps, CarriesOut, IsWriteOf, Writes
 
 use crate::{Steps, make_way, write_files};
 use dv_chain::Chain;
-use dv_model::Bytes;
 use dv_files::Turn;
+use dv_model::Bytes;
 use dv_shelf::{Failed, Shelf};
 use dv_writing::{Committed, commit};
 

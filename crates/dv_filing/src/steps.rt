@@ -1,7 +1,7 @@
 //! What a write does, made ready.
 use dv_apply::Prepared;
-use dv_model::Bytes;
 use dv_files::Turn;
+use dv_model::Bytes;
 
 /// The file that is written before a group.
 #[derive(Drop)]

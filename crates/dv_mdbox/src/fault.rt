@@ -4,8 +4,8 @@ ghost use Rattle.std.specs.Prelude.{◌≡◌, Err, MatchResult, Ok};
 ghost use Rattle.dv_mdbox.specs.Answers.{chain_told, shelf_told};
 ghost use Rattle.dv_mdbox.specs.declared.fault.StorageFault.TheVariants as fault;
 
-use dv_model::OutOfMemory;
 use dv_files::ChainFault;
+use dv_model::OutOfMemory;
 use dv_shelf::{Failed, Shelf, ShelfFault};
 
 /// Why a call on a storage gave nothing. The ids are then as before, but for those that a purge has

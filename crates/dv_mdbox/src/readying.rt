@@ -20,10 +20,10 @@ use crate::StorageFault;
 use crate::fault::chain_fault;
 use dv_apply::{ApplyFault, Live, Prepared};
 use dv_chain::Chain;
+use dv_files::{ChainFault, Turn, turn};
 use dv_filing::{Files, Steps};
 use dv_logfile::group_text;
 use dv_model::{Bytes, Group, NoMemory};
-use dv_files::{ChainFault, Turn, turn};
 use dv_shelf::Shelf;
 use std::alloc::Global;
 

@@ -7,8 +7,8 @@ ghost use Rattle.dv_mdbox.specs.States.{StandsAt, fresh_state};
 
 use crate::tails::Tail;
 use dv_chain::Chain;
-use dv_model::{Entry, List, Mark};
 use dv_files::Turn;
+use dv_model::{Entry, List, Mark};
 use std::alloc::Global;
 use std::marker::Model;
 

@@ -26,9 +26,9 @@ use crate::tails::Tail;
 use crate::{Storage, StorageFault};
 use dv_apply::Live;
 use dv_chain::Chain;
+use dv_files::Turn;
 use dv_filing::{Files, carry_out};
 use dv_model::{Entry, Group, List, Record};
-use dv_files::Turn;
 use dv_shelf::{Clock, Shelf};
 use dv_writing::is_due;
 

@@ -4,9 +4,9 @@ ghost use Rattle.std.specs.Prelude.{◌≡◌};
 ghost use Rattle.dv_plans.specs.Faults.{chain_told, limit_told, shelf_told};
 ghost use Rattle.dv_plans.specs.declared.fault.StoreFault.TheVariants as fault;
 
+use dv_files::ChainFault;
 use dv_groups::Limit;
 use dv_model::OutOfMemory;
-use dv_files::ChainFault;
 use dv_shelf::{Shelf, ShelfFault};
 
 /// Why a command's write isn't made.

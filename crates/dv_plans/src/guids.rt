@@ -9,8 +9,8 @@ ghost use Rattle.dv_plans.specs.Counts.{CountsMails};
 ghost use Rattle.dv_plans.specs.Guids.{AreGuidsOf, removed_of};
 
 use crate::fault::told;
-use dv_groups::removes;
 use dv_files::{ChainFault, guids_of};
+use dv_groups::removes;
 use dv_model::{Command, GuidRow, List};
 use dv_shelf::Shelf;
 use std::alloc::Global;

@@ -11,9 +11,9 @@ ghost use Rattle.dv_rows.specs.Parted.{HasUid};
 ghost use Rattle.dv_validity.specs.Laws.{IsInRange};
 ghost use Rattle.std.specs.Prelude.{Some};
 
+use crate::{name_changed, name_pairs};
 use dv_ext::{Extensions, RowUpdates};
 use dv_model::{Body, Current, Duplicate, NoMemory, Pair, Record};
-use crate::{name_changed, name_pairs};
 use dv_rows::Rows;
 use std::alloc::Global;
 

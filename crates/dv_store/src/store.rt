@@ -7,9 +7,9 @@ ghost use Rattle.dv_store.specs.States.{fresh_state};
 
 use dv_apply::Live;
 use dv_chain::Chain;
+use dv_files::Turn;
 use dv_lookups::CacheFile;
 use dv_model::Mark;
-use dv_files::Turn;
 use std::alloc::Global;
 use std::marker::Model;
 

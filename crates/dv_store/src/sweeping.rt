@@ -21,9 +21,9 @@ use crate::Store;
 use crate::fault::disk;
 use crate::store::place_of;
 use dv_chain::Chain;
+use dv_files::{Turn, checkpoint, snapshot_at};
 use dv_model::{Bytes, List, Mark};
 use dv_plans::StoreFault;
-use dv_files::{Turn, checkpoint, snapshot_at};
 use dv_shelf::{Failed, Shelf};
 use dv_writing::{clear, repair};
 

@@ -2,8 +2,8 @@ ghost use Rattle.std.specs.Prelude.{IfOk};
 ghost use Rattle.dv_chain.specs.Openings.{HasBounds};
 
 use dv_chain::{Chain, open};
-use dv_model::{Bytes, List, NoMemory};
 use dv_files::snapshot;
+use dv_model::{Bytes, List, NoMemory};
 use dv_shelf::{MemShelf, Name};
 use std::alloc::Global;
 use std::test::*;

@@ -12,8 +12,8 @@ ghost use Rattle.dv_writing.specs.Writes.{CarriesOut, IsWriteOf, Write, WritesSt
 
 use crate::{Committed, Steps, commit, make_way, write_files};
 use dv_chain::Chain;
-use dv_model::Bytes;
 use dv_files::Turn;
+use dv_model::Bytes;
 use dv_shelf::{Failed, Shelf};
 
 /// Carries out a write whose group has this text: pays what is owed, rotates the log where that is

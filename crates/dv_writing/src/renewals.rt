@@ -11,8 +11,8 @@ ghost use Rattle.dv_writing.specs.Quiet.{IsQuiet};
 ghost use Rattle.dv_writing.specs.Renewals.{IsCacheOf, IsRenewing, Renews};
 
 use dv_chain::Chain;
-use dv_model::Bytes;
 use dv_files::checkpoint;
+use dv_model::Bytes;
 use dv_shelf::{Failed, Name, Shelf};
 
 /// Replaces the cache file.

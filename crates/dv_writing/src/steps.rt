@@ -1,7 +1,7 @@
 //! What a write does, made ready.
 use dv_apply::Prepared;
-use dv_model::{Bytes, List};
 use dv_files::Turn;
+use dv_model::{Bytes, List};
 
 /// The files that are written or removed before a group.
 #[derive(Drop)]
