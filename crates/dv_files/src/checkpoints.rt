@@ -6,7 +6,7 @@ ghost use Rattle.dv_files.specs.Leavings.{IsPut, Leaves, Puts};
 ghost use Rattle.dv_files.specs.Quiet.{StaysAtRest};
 ghost use Rattle.dv_files.specs.Texts.{IsSnapshotOf};
 
-use crate::replacing::put;
+use crate::storing::put;
 use dv_chain::Chain;
 use dv_model::Bytes;
 use dv_shelf::{Failed, Name, Shelf};

@@ -8,7 +8,7 @@ ghost use Rattle.dv_files.specs.Leavings.{IsPut, IsTurning, Leaves, Puts, Turns}
 ghost use Rattle.dv_files.specs.Quiet.{FinishesQuietly, TurnsQuietly};
 ghost use Rattle.dv_files.specs.Texts.{Advances, ClosesLog, IsTurnOf, turned};
 
-use crate::replacing::{put, put_both};
+use crate::storing::{put, put_both};
 use crate::{Turn, TurnEnd};
 use dv_chain::Chain;
 use dv_shelf::{Failed, Name, Shelf};

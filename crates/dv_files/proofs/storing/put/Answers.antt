@@ -1,7 +1,7 @@
 use Rattle.std.proofs.Common.{List, ℕ, subst}
 use Rattle.dv_files.specs.Leavings.{IsPut, Leaves, Puts}
 use Rattle.dv_files.proofs.Replacing.{replaced}
-use Rattle.dv_files.proofs.replacing.put.Goals as goal
+use Rattle.dv_files.proofs.storing.put.Goals as goal
 
 pub returns-clause-leaves : goal.returns-clause-leaves
 returns-clause-leaves g c = λ tells.
