@@ -3,6 +3,9 @@
 //! any order.
 #![tactic(auto)]
 
+ghost use Rattle.std.specs.Prelude.{All, IfOk};
+ghost use Rattle.dv_model.specs.Spelling.{IsRecord};
+
 mod fault;
 mod kept;
 mod records;
@@ -11,25 +14,15 @@ mod timing;
 mod worlds;
 
 use crate::fault::Fault;
+use crate::records::read_all;
+use crate::timing::{Times, Way, time_records};
+use dv_model::Record;
 use std::env;
 use std::io::Read;
 use std::process::ExitCode;
 
 const USAGE: &str =
     "usage: dv_bench FIRST [touched | sessions | kept] < RECORDS, or dv_bench ROWS worlds";
-
-// What is done with the records that don't come first.
-#[derive(Clone, Copy)]
-enum Way {
-    // They are applied.
-    Alone,
-    // The UIDs that they touch are handed out.
-    Touched,
-    // Sessions are told of each.
-    Sessions,
-    // A kept search follows each.
-    Kept,
-}
 
 // What is timed.
 #[derive(Clone, Copy)]
@@ -63,41 +56,43 @@ fn asked(rt: HostRuntime) -> Option<Task> {
     task_of(first, word.as_str())
 }
 
-// Times standard input's records.
-fn time_input(rt: HostRuntime, first: usize, way: Way) -> Result<(), Fault> {
+// Standard input's records.
+fn input(rt: HostRuntime) -> Result<Vec<Record>, Fault>
+    ensures { IfOk result (λ records. All IsRecord records.items) }
+{
     let mut bytes = Vec::new(rt.alloc());
     rt.stdin().read_to_end(&mut bytes)?;
-    let records = records::read_all(rt.alloc(), bytes.as_slice())?;
-    let count = records.len();
-    let times = match way {
-        Way::Alone => timing::time_records(rt, &records, first, false)?,
-        Way::Touched => timing::time_records(rt, &records, first, true)?,
-        Way::Sessions => {
-            let told = sessions::time_sessions(rt, &records, first)?;
-            println!(rt; "{} lines told", told.lines)?;
-            told.times
-        }
-        Way::Kept => {
-            let found = kept::time_kept(rt, &records, first)?;
-            println!(rt; "{} messages found", found.found)?;
-            found.times
-        }
-    };
+    read_all(rt.alloc(), bytes.as_slice())
+}
+
+// Tells how long these records took.
+fn tell(rt: HostRuntime, records: usize, times: Times, way: Way) -> Result<(), Fault> {
+    let others = times.others;
+    match way {
+        Way::Sessions => println!(rt; "{} lines told", others.count)?,
+        Way::Kept => println!(rt; "{} messages found", others.count)?,
+        Way::Alone | Way::Touched => {}
+    }
     println!(rt;
-        "{count} records, first {} us, others {} us",
-        times.first, times.others
+        "{records} records, first {} us, others {} us",
+        times.first, others.micros
     )?;
     Ok(())
 }
 
+// Times standard input's records.
+fn time_input(rt: HostRuntime, first: usize, way: Way) -> Result<(), Fault> {
+    let records = input(rt)?;
+    let times = time_records(rt, records.as_slice(), first, way)?;
+    tell(rt, records.len(), times, way)
+}
+
 // Times sessions over a log with so many messages.
 fn time_events(rt: HostRuntime, rows: u32) -> Result<(), Fault> {
-    let times = worlds::time_world(rt, rows)?;
+    let (appends, events) = worlds::time_world(rt, rows)?;
     println!(rt;
-        "{rows} appends {} us, {} events {} us",
-        times.first,
-        worlds::EVENTS,
-        times.others
+        "{rows} appends {appends} us, {} events {events} us",
+        worlds::EVENTS
     )?;
     Ok(())
 }

@@ -4,7 +4,8 @@ ghost use Rattle.dv_model.specs.Spelling.{IsRecord};
 ghost use Rattle.dv_answer.specs.Following.{IsAbreast, Leads};
 
 use crate::fault::Fault;
-use crate::timing::{Times, apply_all};
+use crate::records::apply;
+use crate::timing::Behind;
 use dv_answer::Session;
 use dv_apply::Live;
 use dv_model::{Command, List, Mark, Record, Reply, Word};
@@ -22,13 +23,6 @@ const MARK: Mark = Mark {
     file_seq: 1,
     offset: 56,
 };
-
-/// How long it took, and how many lines the sessions were told behind the first records.
-#[derive(Clone, Copy)]
-pub struct Told {
-    pub times: Times,
-    pub lines: usize,
-}
 
 fn selected(alloc: Global, live: &Live) -> Result<Session, Fault>
     ensures { IfOk result (IsAbreast live.now.mailbox) }
@@ -54,19 +48,6 @@ fn all_selected(alloc: Global, live: &Live) -> Result<Vec<Session>, Fault>
     Ok(sessions)
 }
 
-// Applies a record, and gives the UIDs that it touches.
-fn apply(alloc: Global, live: &mut Live, r: &Record) -> Result<Touched, Fault>
-    requires { IsRecord r.now }
-    ensures { IfOk result (Leads live.old.mailbox live.new.mailbox) }
-{
-    let mut touched = Touched::empty(alloc);
-    // A UIDNEXT is known of a valid mailbox alone.
-    let _before = live.next_uid();
-    live.apply_touched(r, &mut touched)?;
-    let _behind = live.next_uid();
-    Ok(touched)
-}
-
 // Gives each session notice of these UIDs.
 fn touch_all(touched: &Touched, sessions: &mut [Session]) -> Result<(), Fault>
     ensures { OnOk result ((old new : Mailbox) → All (IsAbreast old) sessions.old
@@ -75,17 +56,6 @@ fn touch_all(touched: &Touched, sessions: &mut [Session]) -> Result<(), Fault>
     for session in sessions.iter_mut() {
         session.touch(touched)?;
     }
-    Ok(())
-}
-
-// Applies a record, and gives notice of the UIDs that it touches.
-fn write(alloc: Global, live: &mut Live, r: &Record, sessions: &mut [Session]) -> Result<(), Fault>
-    requires entry { IsRecord r.now }
-    requires abreast { All (IsAbreast live.old.mailbox) sessions.old }
-    ensures { OnOk result (All (IsAbreast live.new.mailbox) sessions.new) }
-{
-    let touched = apply(alloc, live, r)?;
-    touch_all(&touched, sessions)?;
     Ok(())
 }
 
@@ -120,40 +90,32 @@ fn answer_all(alloc: Global, live: &Live, sessions: &mut [Session]) -> Result<us
     Ok(lines)
 }
 
-// The number of lines that tell all sessions of each record in turn.
+// Applies them in turn, and tells all sessions of each.
 fn tell_all(
-    alloc: Global,
+    rt: HostRuntime,
     live: &mut Live,
     records: &[Record],
     sessions: &mut [Session],
-) -> Result<usize, Fault>
+) -> Result<Behind, Fault>
     requires entries { All IsRecord records.now }
     requires abreast { All (IsAbreast live.old.mailbox) sessions.old }
 {
-    let mut lines: usize = 0;
+    let start = Instant::now(&rt)?;
+    let mut count: usize = 0;
     for record in records {
-        write(alloc, live, record, sessions)?;
-        let more = answer_all(alloc, live, sessions)?;
-        lines = lines.saturating_add(more);
+        let touched = apply(rt.alloc(), live, record)?;
+        touch_all(&touched, sessions)?;
+        count = count.saturating_add(answer_all(rt.alloc(), live, sessions)?);
     }
-    Ok(lines)
+    let micros = start.elapsed(&rt)?.as_micros();
+    Ok(Behind { micros, count })
 }
 
-/// Applies them all to a new mailbox. Behind the first so many of them, where there are as many,
-/// four sessions select it, and each is then told of each record by its NOOP.
-pub fn time_sessions(rt: HostRuntime, records: &[Record], first: usize) -> Result<Told, Fault>
+/// Applies them in turn, while four sessions that select the mailbox first are told of each by
+/// their NOOPs, and gives how many lines they were told.
+pub fn time_sessions(rt: HostRuntime, live: &mut Live, records: &[Record]) -> Result<Behind, Fault>
     requires { All IsRecord records.now }
 {
-    let alloc = rt.alloc();
-    let mut live = Live::empty(alloc, 1);
-    let (front, behind) = records.split_at(first.min(records.len()));
-    let first = apply_all(rt, &mut live, front)?;
-    let mut sessions = all_selected(alloc, &live)?;
-    let start = Instant::now(&rt)?;
-    let lines = tell_all(alloc, &mut live, behind, sessions.as_mut_slice())?;
-    let others = start.elapsed(&rt)?.as_micros();
-    Ok(Told {
-        times: Times { first, others },
-        lines,
-    })
+    let mut sessions = all_selected(rt.alloc(), live)?;
+    tell_all(rt, live, records, sessions.as_mut_slice())
 }

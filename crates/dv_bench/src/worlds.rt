@@ -4,7 +4,6 @@ ghost use Rattle.dv_responses.specs.Depth.{IsShallow};
 ghost use Rattle.dv_world.specs.Shapes.{IsPlayable};
 
 use crate::fault::Fault;
-use crate::timing::Times;
 use dv_model::{Bytes, Command, End, How, List, NoMemory, Span};
 use dv_world::{Event, World, run_events};
 use std::alloc::Global;
@@ -107,39 +106,26 @@ fn change_all(alloc: Global, world: &mut World, number: u32) -> Result<(), Fault
     Ok(())
 }
 
-// Whether all these writes are entries, and all are published.
-fn has_all(world: &World, count: u32) -> bool {
-    world.count() == count as usize && world.published() == count as usize
-}
-
-// The microseconds that it takes the first session to append so many messages.
-fn time_appends(rt: HostRuntime, world: &mut World, rows: u32) -> Result<u128, Fault> {
+fn time_in(rt: HostRuntime, world: &mut World, rows: u32) -> Result<(u128, u128), Fault> {
+    begin(world, 1)?;
     let start = Instant::now(&rt)?;
     append_all(rt.alloc(), world, rows)?;
-    Ok(start.elapsed(&rt)?.as_micros())
-}
-
-// The microseconds that the events behind them take.
-fn time_changes(rt: HostRuntime, world: &mut World, number: u32) -> Result<u128, Fault> {
-    let start = Instant::now(&rt)?;
-    change_all(rt.alloc(), world, number)?;
-    Ok(start.elapsed(&rt)?.as_micros())
-}
-
-fn time_in(rt: HostRuntime, world: &mut World, rows: u32) -> Result<Times, Fault> {
-    begin(world, 1)?;
-    let first = time_appends(rt, world, rows)?;
+    let appends = start.elapsed(&rt)?.as_micros();
     begin(world, 2)?;
-    let others = time_changes(rt, world, rows / 2 + 1)?;
-    if !has_all(world, rows.saturating_add(CHANGES)) {
+    let start = Instant::now(&rt)?;
+    change_all(rt.alloc(), world, rows / 2 + 1)?;
+    let events = start.elapsed(&rt)?.as_micros();
+    let count = rows.saturating_add(CHANGES) as usize;
+    if world.count() != count || world.published() != count {
         return Err(Fault::NotWritten);
     }
-    Ok(Times { first, others })
+    Ok((appends, events))
 }
 
 /// A session appends so many messages to the mailbox of a new folder. Then a second one selects it,
-/// and both change a flag of the message in the middle by turns. The appends are timed first.
-pub fn time_world(rt: HostRuntime, rows: u32) -> Result<Times, Fault> {
+/// and both change a flag of the message in the middle by turns. How many microseconds the appends
+/// take comes first.
+pub fn time_world(rt: HostRuntime, rows: u32) -> Result<(u128, u128), Fault> {
     let alloc = rt.alloc();
     let mut world = run_events(alloc, &List::new(alloc))?;
     time_in(rt, &mut world, rows)

@@ -1,3 +1,4 @@
+pub mod Debts
 pub mod Stepping
 pub mod Loading
 pub mod Telling

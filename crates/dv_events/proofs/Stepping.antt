@@ -240,7 +240,7 @@ module _ (start : Log) (h : History) (old : Member) (answers : Answers) (rest : 
           ∙ allowed;
     }
 
-    group_is : group_met w mine.session c m ≡ g
+    pub group_is : group_met w mine.session c m ≡ g
     group_is = ap (λ (l : Log). group_of c mine.session.state.view m l.guid) is_at.log ∙ ap (λ (z : State). group_of c z.view m log.guid) mine.state
 
     -- how it wrote

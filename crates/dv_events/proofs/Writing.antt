@@ -1,6 +1,6 @@
 -- Writes under the lock.
-use Rattle.std.proofs.Common.{◌≡◌, ◌⊎◌, ◌∙◌, inl, inr, ℕ, ◌+◌, ◌-◌, ◌≤◌, Bool, List, [], ◌∷◌, ◌++◌, length, Some, None, Result, Ok, Err, ap, append-nil, arith, refl, subst, sym}
-use Rattle.std.specs.Prelude.{Any, IfOk, min}
+use Rattle.std.proofs.Common.{◌≡◌, ◌⊎◌, ◌∙◌, inl, inr, ℕ, ◌+◌, ◌-◌, ◌≤◌, Bool, true, false, List, [], ◌∷◌, ◌++◌, length, Option, Some, None, Result, Ok, Err, ap, append-nil, arith, refl, subst, sym}
+use Rattle.std.specs.Prelude.{All, Any, IfOk, is_some, min, option_map}
 use Rattle.std.proofs.lemmas.List.{length_push}
 use Rattle.std.proofs.lemmas.List.Quantifiers.{Any-push}
 use mathlib.Core.List.{IsPrefix}
@@ -12,9 +12,10 @@ use Rattle.dv_model.specs.declared.types.Reply.{Reply}
 use Rattle.dv_model.specs.Journals.{Log, at}
 use Rattle.dv_model.specs.Sessions.{Answer, State, group_of}
 use Rattle.dv_model.specs.Transcripts.{IsTold, refused_at}
-use Rattle.dv_interleavings.specs.Worlds.{World, Session, Pending, Wrote, loaded_number}
+use Rattle.dv_interleavings.specs.Worlds.{World, Session, Pending, Wrote, loaded_number, stopped}
 use Rattle.dv_promises.specs.Standing.{Stands}
-use Rattle.dv_schedules.specs.Calls.{Answer as AnswerCall, Commit as CommitCall, Done, Ending, Failed, Refresh, Unwritten, all_called}
+use Rattle.dv_schedules.specs.Calls.{Answer as AnswerCall, Call, Commit as CommitCall, Done, Ending, Failed, MayCommit, Refresh, Unwritten, all_called, group_met, left_pending}
+use Rattle.dv_schedules.proofs.Calls.{commit_empties, commit_fails, commit_writes}
 use Rattle.dv_schedules.proofs.Prefixes.{allowed_good}
 use Rattle.dv_shelf.specs.Folders.{Folder}
 use Rattle.dv_shelf.specs.Sees.{SeesFolder, SeesTime}
@@ -30,16 +31,19 @@ use Rattle.dv_member.specs.Members.{Member}
 use Rattle.dv_shared.specs.declared.written.Written.{Written}
 use Rattle.dv_shared.specs.Committing.{IsWritten, given}
 use Rattle.dv_shared.specs.Kept.{notes_in}
+use Rattle.dv_shared.specs.Owing.{OwesBehind}
 use Rattle.dv_shared.specs.Writing.{HasOutcome, IsNoted, NotesBehind, refused_behind, with_failed}
 use Rattle.dv_keeper.specs.declared.fault.SessionFault.{SessionFault}
 use Rattle.dv_keeper.specs.declared.fault.SessionFault.TheVariants as session_fault
 use Rattle.dv_keeper.specs.Commits.{Commit, HoldsBoth}
-use Rattle.dv_keeper.specs.Turns.{EndsBy, HasAnswered, HasMet, HasSeen, HasSpent, HasTold}
+use Rattle.dv_keeper.specs.Turns.{EndsBy, HasAnswered, HasMet, HasSeen, HasSpent, HasTold, LeavesWriter}
 use Rattle.dv_keeper.proofs.Turning.{records_begin, there}
+use Rattle.dv_events.specs.Debts.{DebtsLead, EndsWith, IsPendingOf, IsReading, WriteMovesDebt}
 use Rattle.dv_events.specs.Worlds.{AreOthers, Conversation, History, IsAtWorld, IsOfTry, IsUnanswered, history_of}
 use Rattle.dv_events.specs.Writes.{IsWrite, MayEnd, RefusedWriteLoads, SpentWriteStands, UntoldWriteStays, WriteTells}
+use Rattle.dv_events.proofs.Debts.{pending_stopped, pends_read}
 use Rattle.dv_events.proofs.Loading.{same_of}
-use Rattle.dv_events.proofs.Stepping.{Answers, Steps, lead, mine, none, none_more, stands_on, steps_committed, steps_empty, steps_failed, steps_loaded, steps_unwritten, steps_wrote, with, wrote_at}
+use Rattle.dv_events.proofs.Stepping.{Answers, Steps, group_is, lead, may_commit, mine, none, none_more, stands_on, steps_committed, steps_empty, steps_failed, steps_loaded, steps_unwritten, steps_wrote, with, wrote_at}
 use Rattle.dv_events.proofs.Telling.{is_told}
 
 -- what a commit answers
@@ -128,6 +132,39 @@ module _ {S C : Type 0} (sees : SeesFolder S) (times : SeesTime C) (start : Log)
         by_group (inl more) = inr (ap (λ (l : List Note). length l) more.1 ∙ length_push notes note)
         by_group (inr none) = inl (ap (λ (l : List Note). length l) none.1)
 
+    -- what is pending behind it
+    module _ (owed left : Option Try) (w : World) (answers : Answers) (rest : List Conversation) (others : AreOthers old rest) (is_at : IsAtWorld start (history_of k.before) (with old answers ∷ rest) w) (pends : IsPendingOf start notes owed w.pending) (received : ℕ) where
+      abbrev own : Session
+      own = (mine start (history_of k.before) old answers rest others w is_at).session
+
+      may_now : MayCommit w old.number own c m
+      may_now = may_commit start (history_of k.before) old answers rest others w is_at is.fresh c m is.write met_there outcome.0
+
+      same_group : group_met w own c m ≡ g
+      same_group = group_is start (history_of k.before) old answers rest others w is_at is.fresh c m is.write met_there outcome.0
+
+      abbrev Pends : World → Type 0
+      Pends u = IsPendingOf start now left u.pending
+
+      pub pends_empty : now ≡ notes → left ≡ owed → Pends (all_called w (CommitCall old.number c received false Done ∷ []))
+      pends_empty same same_debt = by_group grew
+        where
+          by_group : Grew → Pends (all_called w (CommitCall old.number c received false Done ∷ []))
+          by_group (inl more) = absurd (omega (arith, ap (λ (l : List Note). length l) same, ap (λ (l : List Note). length l) more.1, length_push notes note))
+          by_group (inr none) =
+              subst Pends (sym (commit_empties w old.number own c m received false may_now (ap (λ (y : Group). y.records) same_group ∙ none.0)))
+              (subst (λ (ns : List Note). IsPendingOf start ns left (option_map stopped w.pending)) (sym same)
+              (subst (λ (o : Option Try). IsPendingOf start notes o (option_map stopped w.pending)) (sym same_debt) (pending_stopped start notes owed w.pending pends)))
+
+      pub pends_done : (healed : Bool) → length now ≡ length notes + 1 → left ≡ None → Pends (all_called w (CommitCall old.number c received healed Done ∷ []))
+      pends_done healed longer paid = by_group grew
+        where
+          by_group : Grew → Pends (all_called w (CommitCall old.number c received healed Done ∷ []))
+          by_group (inl more) =
+              subst Pends (sym (commit_writes w old.number own c m received healed may_now (subst (λ (y : Group). 1 ≤ length y.records) (sym same_group) more.0)))
+              (subst (λ (o : Option Try). IsPendingOf start now o None) (sym paid) tt)
+          by_group (inr none) = absurd (omega (arith, ap (λ (l : List Note). length l) none.1, longer))
+
     module _ (healed : Bool) (w : World) (answers : Answers) (rest : List Conversation) (others : AreOthers old rest) (is_at : IsAtWorld start (history_of k.before) (with old answers ∷ rest) w) where
       abbrev committed : World
       committed = all_called w (CommitCall old.number c noted.received healed Done ∷ [])
@@ -201,7 +238,7 @@ module _ {S C : Type 0} (sees : SeesFolder S) (times : SeesTime C) (start : Log)
       write_spent : v.number ≡ length notes + 1 → HasSeen now new → HasSpent old new → IsAtWorld start (history_of k.behind) (with new answers ∷ rest) refreshed
       write_spent number sees_all spent =
           let one = mine start (history_of k.before) old answers rest others w is_at in
-          let counted : IsWritten start c k.before k.behind v = subst (λ (r : Came). IfOk r (IsWritten start c k.before k.behind)) came is.commit.told in
+          let counted : IsWritten start c k.before k.behind v = subst (λ (r : Came). IfOk r (IsWritten start c k.before k.behind)) came is.commit.value.told in
           let more : length now ≡ length notes + 1 = sym counted.number ∙ number in
           let write : Wrote = record { place = length now; met = length notes; command = c } in
           at_behind (with new answers) refreshed
@@ -280,6 +317,86 @@ module _ {S C : Type 0} (sees : SeesFolder S) (times : SeesTime C) (start : Log)
           wrote = subst (λ (b : Bool). IsUnanswered b after.seen after.wrote) (sym (ap (λ (s : Member). s.spent) met.now ∙ is.fresh)) nothing;
         }))
 
+  -- what is pending behind it
+  module _ (same : now ≡ notes) (owed left : Option Try) (w : World) (answers : Answers) (rest : List Conversation) (others : AreOthers old rest) (is_at : IsAtWorld start (history_of k.before) (with old answers ∷ rest) w) (pends : IsPendingOf start notes owed w.pending)
+      (received : ℕ) where
+    abbrev PendsNow : World → Type 0
+    PendsNow u = IsPendingOf start now left u.pending
+
+    pub pends_still : left ≡ owed → PendsNow (all_called w (CommitCall old.number c received false Unwritten ∷ []))
+    pends_still same_debt =
+        subst (λ (ns : List Note). IsPendingOf start ns left w.pending) (sym same) (subst (λ (o : Option Try). IsPendingOf start notes o w.pending) (sym same_debt) pends)
+
+    pub pends_healed : left ≡ None → PendsNow (all_called w (CommitCall old.number c received true Unwritten ∷ []))
+    pends_healed none_left = subst (λ (o : Option Try). IsPendingOf start now o None) (sym none_left) tt
+
+    pub pends_failed : (healed : Bool) (faults : ℕ) → HasOutcome {A = Written} start old.number x c m notes now (Err (fault.Disk faults)) → left ≡ Some t → PendsNow (all_called w (CommitCall old.number c received healed Failed ∷ []))
+    pends_failed healed faults by_rules tried_now =
+        let own : Session = (mine start (history_of k.before) old answers rest others w is_at).session in
+        let may = may_commit start (history_of k.before) old answers rest others w is_at is.fresh c m is.write met_there by_rules.0 in
+        let same_group : group_met w own c m ≡ g = group_is start (history_of k.before) old answers rest others w is_at is.fresh c m is.write met_there by_rules.0 in
+        let some : 1 ≤ length (group_met w own c m).records = subst (λ (y : Group). 1 ≤ length y.records) (sym same_group) by_rules.1 in
+        subst PendsNow (sym (commit_fails w old.number own c m received healed may some))
+        (subst (λ (o : Option Try). IsPendingOf start now o (left_pending w old.number own c received m).pending) (sym tried_now)
+        (subst (λ (ns : List Note). IsPendingOf start ns (Some t) (left_pending w old.number own c received m).pending) (sym same)
+        (record { place = refl; author = refl; command = refl; met = m; was_there = met_there; group = same_group })))
+
+  -- the events of its commit lead from the one debt to the other
+  module _ (owed left : Option Try) where
+    abbrev Leads : Bool → Ending → Type 0
+    Leads healed ending = (received : ℕ) (calls : List Call) → All IsReading calls → DebtsLead start (CommitCall old.number c received healed ending ∷ calls) (history_of k.before) owed now left old
+
+    abbrev Moves : Came → Result (Unit {0}) SessionFault → Type 0
+    Moves came r = (healed : Bool) × (ending : Ending) × EndsWith ending came r × Leads healed ending
+
+    read_on : (w : World) (call : Call) (calls : List Call) → All IsReading calls → IsPendingOf start now left (all_called w (call ∷ [])).pending → IsPendingOf start now left (all_called w (call ∷ calls)).pending
+    read_on w call calls reads pends = pends_read start now left (all_called w (call ∷ [])) calls reads pends
+
+    kept_from : (e : StoreFault) → k.came ≡ Err e → now ≡ notes
+    kept_from e came = subst (λ (r : Came). NotesBehind honest times.tells log t m notes now r) came is.commit.value.notes
+
+    still_moves : now ≡ notes → left ≡ owed → Leads false Unwritten
+    still_moves same same_debt received calls reads w answers rest others is_at pends =
+        read_on w (CommitCall old.number c received false Unwritten) calls reads (pends_still same owed left w answers rest others is_at pends received same_debt)
+
+    fault_moves : (faults : ℕ) → k.came ≡ Err (fault.Disk faults) → (r : Result (Unit {0}) SessionFault) → OwesBehind notes now t owed left (Err (fault.Disk faults)) → Moves (Err (fault.Disk faults)) r
+    fault_moves faults came r (inl same_debt) = (false, Unwritten, tt, still_moves (kept_from (fault.Disk faults) came) same_debt)
+    fault_moves faults came r (inr (inl none_left)) = (
+      true,
+      Unwritten,
+      tt,
+      λ received calls reads w answers rest others is_at pends. read_on w (CommitCall old.number c received true Unwritten) calls reads
+          (pends_healed (kept_from (fault.Disk faults) came) owed left w answers rest others is_at pends received none_left),
+    )
+    fault_moves faults came r (inr (inr tried_now)) = (
+      is_some owed,
+      Failed,
+      tt,
+      λ received calls reads w answers rest others is_at pends. read_on w (CommitCall old.number c received (is_some owed) Failed) calls reads
+          (pends_failed (kept_from (fault.Disk faults) came) owed left w answers rest others is_at pends received (is_some owed) faults
+          (subst (λ (r : Came). HasOutcome start old.number x c m notes now r) came (is.commit.outcome is.told)) tried_now),
+    )
+
+    done_leads : (v : Written) → k.came ≡ Ok v → OwesBehind notes now t owed left (Ok v) → (healed : Bool) × Leads healed Done
+    done_leads v came (inl same) =
+        (false, λ received calls reads w answers rest others is_at pends. read_on w (CommitCall old.number c received false Done) calls reads (pends_empty v came owed left w answers rest others is_at pends received same.0 same.1))
+    done_leads v came (inr longer) = (
+      is_some owed,
+      λ received calls reads w answers rest others is_at pends. read_on w (CommitCall old.number c received (is_some owed) Done) calls reads
+          (pends_done v came owed left w answers rest others is_at pends received (is_some owed) longer.0 longer.1),
+    )
+
+    -- by what came of it, and by what the call answers
+    pub moves : (came : Came) → k.came ≡ came → (r : Result (Unit {0}) SessionFault) → LeavesWriter notes now came old new r → OwesBehind notes now t owed left came → Moves came r
+    moves (Ok v) came (Ok done) leaves behind = let leads = done_leads v came behind in (leads.0, Done, refl, leads.1)
+    moves (Ok v) came (Err (session_fault.NoMemoryAfter u)) leaves behind = let leads = done_leads v came behind in (leads.0, Done, refl, leads.1)
+    moves (Ok v) came (Err session_fault.NoMemory) leaves (inl same) = (false, Unwritten, refl, still_moves leaves.0 same.1)
+    moves (Ok v) came (Err session_fault.NoMemory) leaves (inr longer) = absurd (omega (arith, ap (λ (l : List Note). length l) leaves.0, longer.0))
+    moves (Err (fault.Disk faults)) came r leaves behind = fault_moves faults came r behind
+    moves (Err fault.NoMemory) came r leaves behind = (false, Unwritten, tt, still_moves (kept_from fault.NoMemory came) behind)
+    moves (Err fault.UidsUsedUp) came r leaves behind = (false, Unwritten, tt, still_moves (kept_from fault.UidsUsedUp came) behind)
+    moves (Err (fault.TooLong bytes)) came r leaves behind = (false, Unwritten, tt, still_moves (kept_from (fault.TooLong bytes) came) behind)
+
 -- ---- the laws
 
 module _ {S C : Type 0} (sees : SeesFolder S) (times : SeesTime C) (start : Log) (moment : ℕ) (past : ℕ → Folder → Type 0) (honest : Type 0) where
@@ -309,3 +426,9 @@ module _ {S C : Type 0} (sees : SeesFolder S) (times : SeesTime C) (start : Log)
     λ w answers rest others is_at. none_more start (history_of k.behind) new answers rest _
         (write_spent sees times start moment past honest old new c k holds (Err (session_fault.NoMemoryAfter v)) is v is.leaves.0 healed w answers rest others is_at is.leaves.1 is.leaves.2 is.leaves.3),
   )
+
+  pub write_moves_debt : WriteMovesDebt sees times start moment past honest
+  write_moves_debt old new c k result owed holds is owes =
+      let moved = is.commit.owes is.told owed owes in
+      let ends = moves sees times start moment past honest old new c k holds result is owed moved.0 k.came refl result is.leaves moved.2 in
+      (moved.0, moved.1, ends.0, ends.1, ends.2, ends.3)

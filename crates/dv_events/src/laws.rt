@@ -1,6 +1,7 @@
 ghost use Rattle.dv_events.specs.Worlds.{PromisesHold};
 ghost use Rattle.dv_events.specs.Loads.{FailedRefreshStays, GatherLoads, MadeSessionsOpen, NothingHappens, RefreshLoads, RejoinLoads};
 ghost use Rattle.dv_events.specs.Answers.{AnswerTells, MailTells, SelectAndReadTells, SelectTells, TellTells, UnreadSelectTells};
+ghost use Rattle.dv_events.specs.Debts.{KeptOwes, NothingPends, ReadingsKeepDebt, WriteMovesDebt};
 ghost use Rattle.dv_events.specs.Writes.{RefusedWriteLoads, SpentWriteStands, UntoldWriteStays, WriteTells};
 
 use dv_naming::Keeping;
@@ -49,6 +50,16 @@ pub fn writes_are_events<S: Shelf, C: Clock, K: Keeping>()
     ensures refused { RefusedWriteLoads S.sees C.sees K.start K.moment K.past K.honest }
     ensures untold { UntoldWriteStays S.sees C.sees K.start K.moment K.past K.honest }
     ensures spent { SpentWriteStands S.sees C.sees K.start K.moment K.past K.honest }
+{}
+
+/// The pending entry of the world is that of the store's debt, which is the group of a write that
+/// the disk failed, or of none: nothing at the beginning, where nothing is owed, and behind a commit
+/// what is owed then. Loads and answers leave it as it is.
+pub fn debts_are_pending<S: Shelf, C: Clock, K: Keeping>()
+    ensures kept { KeptOwes S.sees C.sees K.start K.moment K.past K.honest }
+    ensures begins { NothingPends }
+    ensures write { WriteMovesDebt S.sees C.sees K.start K.moment K.past K.honest }
+    ensures reads { ReadingsKeepDebt }
 {}
 
 /// All that is promised of interleavings holds of each world that a keeper is at: answers by the

@@ -6,6 +6,6 @@
 mod laws;
 
 pub use laws::{
-    answers_are_events, loads_are_events, nothing_is_no_event, promises_hold, readings_are_events,
-    sessions_are_opened, writes_are_events,
+    answers_are_events, debts_are_pending, loads_are_events, nothing_is_no_event, promises_hold,
+    readings_are_events, sessions_are_opened, writes_are_events,
 };

@@ -27,8 +27,9 @@ use Rattle.dv_store.specs.States.{State as StoreState}
 use Rattle.dv_tries.specs.Commits.{with_records}
 use Rattle.dv_tries.specs.Standing.{StandsBehind}
 use Rattle.dv_shared.specs.declared.written.Written.{Written}
-use Rattle.dv_shared.specs.Committing.{CommitsKept, IsWritten, given, with_outcome}
+use Rattle.dv_shared.specs.Committing.{CommitsKept, given, with_outcome}
 use Rattle.dv_shared.specs.Kept.{Kept, notes_in}
+use Rattle.dv_shared.specs.Owing.{MovesDebt, OwesSome}
 use Rattle.dv_shared.specs.Writing.{HasOutcome, refused_behind}
 use Rattle.dv_shared.proofs.Committed.{stays_same}
 use Rattle.dv_keeper.specs.declared.fault.SessionFault.{SessionFault}
@@ -47,27 +48,30 @@ both_ok (Err e) p q f = tt
 
 module _ {S C : Type 0} (sees : SeesFolder S) (times : SeesTime C) (start : Log) (honest : Type 0) (old f : Member) (as_before : IsAsBefore old f) (c : Command) (before : Kept S C) (begins : IsPrefix (notes_of f) (notes_in before)) where
   pub commit_of : (behind : Kept S C) (came : Came) → CommitsKept honest times.tells start (given f.number c f.follower.state.view before (times.upcoming before.store.clock)) before behind came
-      → IfOk came (IsWritten start c before behind) → (honest → HasOutcome start f.number f.follower.state c before.store.chain.live.mailbox (notes_in before) (notes_in behind) came)
+      → (honest → HasOutcome start f.number f.follower.state c before.store.chain.live.mailbox (notes_in before) (notes_in behind) came)
+      → (honest → OwesSome sees times.tells start before) → (honest → MovesDebt sees times.tells start (given f.number c f.follower.state.view before (times.upcoming before.store.clock)) before behind came)
       → HasStoreCause (sees.fault_count before.store.shelf) (sees.fault_count behind.store.shelf) came → (sees.tells → StaysSettled sees before.store.shelf behind.store.shelf)
       → IsCommitOf sees times start honest old c (record { before = before; behind = behind; came = came })
-  commit_of behind came value told outcome cause settled = record {
+  commit_of behind came value outcome owed owes cause settled = record {
     begins = subst (λ (ns : List Note). IsPrefix ns (notes_in before)) as_before.notes begins;
     value = subst (λ (x : Member). CommitsKept honest times.tells start (given x.number c x.follower.state.view before (times.upcoming before.store.clock)) before behind came) as_before.now value;
-    told = told;
     outcome = λ h. subst (λ (x : Member). HasOutcome start x.number x.follower.state c before.store.chain.live.mailbox (notes_in before) (notes_in behind) came) as_before.now (outcome h);
+    owed = owed;
+    owes = λ h. subst (λ (x : Member). MovesDebt sees times.tells start (given x.number c x.follower.state.view before (times.upcoming before.store.clock)) before behind came) as_before.now (owes h);
     cause = cause;
     settled = settled;
   }
 
   -- memory ran out before it
-  pub no_commit : IsCommitOf sees times start honest old c (record { before = before; behind = before; came = Err fault.NoMemory })
-  no_commit = commit_of before (Err fault.NoMemory) (record {
+  pub no_commit : (honest → OwesSome sees times.tells start before) → IsCommitOf sees times start honest old c (record { before = before; behind = before; came = Err fault.NoMemory })
+  no_commit owed = commit_of before (Err fault.NoMemory) (record {
     notes = refl;
     tries = refl;
+    told = tt;
     stays = λ none. stays_same before.store;
     words = λ is. record { parts = refl; left = refl; words = refl };
     pass = λ more. absurd (omega (arith, more));
-  }) tt (λ h. tt) (record { later = omega arith; rose = tt }) (λ told stayed settled. settled)
+  }) (λ h. tt) owed (λ h debt owes. (debt, owes, refl)) (record { later = omega arith; rose = tt }) (λ told stayed settled. settled)
 
 -- ---- what the session had seen
 

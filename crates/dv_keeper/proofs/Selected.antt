@@ -15,7 +15,7 @@ use Rattle.dv_plans.specs.declared.fault.StoreFault.{StoreFault}
 use Rattle.dv_serving.specs.Taking.{Takes}
 use Rattle.dv_keeper.specs.Selecting.{HasSelected, LeavesSelected, SelectsAndReads}
 use Rattle.dv_keeper.specs.Sessions.{HasRejoined}
-use Rattle.dv_keeper.specs.Turns.{HasAnswered, LeavesReader}
+use Rattle.dv_keeper.specs.Turns.{HasAnswered, HasSeen, LeavesReader}
 
 -- ---- the SELECT
 
@@ -24,6 +24,10 @@ rejoined f old new has = record {
   newest = record { unsealed = has.all.unsealed; newest = has.all.tables.0 ∙ sym has.all.newest; tables = has.all.tables.1 };
   now = has.now;
 }
+
+-- it has seen all, and no more
+pub caught_seen : (start : Log) (count : ℕ) (f : Feed) (old new : Member) → HasCaughtUp f old new → IsSession start count new → HasSeen (journal f) new
+caught_seen start count f old new has session = record { are = has.all.notes; many = sym session.seen ∙ ap (λ (ns : List Note). length ns) has.all.notes }
 
 pub selects : (start : Log) (count : ℕ) (f : Feed) (old caught new : Member) → HasCaughtUp f old caught → IsSession start count caught → IsSession start count new
     → IsTurn (log_seen start caught) count caught.number (turn_of (log_seen start caught) caught Select)
@@ -43,7 +47,7 @@ selects start count f old caught new has met session turn now =
     }
 
 -- memory ran out before it was answered
-pub left_early : {A : Type 0} (start : Log) (count : ℕ) (notes : List Note) (came : Result A StoreFault) (old new : Member) (e : NoMemory) → IsAsBefore old new ⊎ HasRejoined old new → LeavesSelected start count notes came old new (Err e)
+pub left_early : {A : Type 0} (start : Log) (count : ℕ) (notes : List Note) (came : Result A StoreFault) (old new : Member) (e : NoMemory) → IsAsBefore old new ⊎ (HasRejoined old new × HasSeen notes new) → LeavesSelected start count notes came old new (Err e)
 left_early start count notes came old new e (inl before) = inl before
 left_early start count notes came old new e (inr caught) = inr (inl caught)
 

@@ -59,10 +59,12 @@ pub record IsLeftShown {A : Type 0} (start : Log) (count : ℕ) (notes : List No
   pub reads : LeavesReader notes came shown new result
 
 -- Where the call answers, the session was shown the mailbox. Where memory ran out, it may be as
--- before, or have caught up alone.
+-- before, or have caught up with these notes alone.
 abbrev pub LeavesSelected : {A : Type 0} → Log → ℕ → List Note → Result A StoreFault
     → Member → Member → Result (Unit {0}) NoMemory → Type 0
 LeavesSelected start count notes came old new (Ok done) =
     IsLeftShown start count notes came old new (Ok done)
 LeavesSelected start count notes came old new (Err e) =
-    IsAsBefore old new ⊎ HasRejoined old new ⊎ IsLeftShown start count notes came old new (Err e)
+    IsAsBefore old new
+    ⊎ (HasRejoined old new × HasSeen notes new)
+    ⊎ IsLeftShown start count notes came old new (Err e)

@@ -14,6 +14,7 @@ ghost use Rattle.dv_shared.specs.Kept.{Kept, notes_in};
 ghost use Rattle.dv_view.specs.Taken.{HasTaken};
 ghost use Rattle.dv_keeper.specs.Selecting.{HasSelected, LeavesSelected, SelectsAndReads};
 ghost use Rattle.dv_keeper.specs.Sessions.{HasRejoined};
+ghost use Rattle.dv_keeper.specs.Turns.{HasSeen};
 
 use crate::keeper::Keeper;
 use crate::mailing::serve_mail;
@@ -36,7 +37,8 @@ fn select_newest<S: Shelf, C: Clock, K: Keeping, L: Tally, M: Tally, R: Response
     ensures begins { IsPrefix (notes_of s.old) (notes_of s.new) }
     ensures turn { Takes R.with replies.old replies.new result (λ told. IfOk told (λ lines.
         HasSelected K.start K.count (notes_in shared.old.kept) lines s.old s.new)) }
-    ensures err { OnErr result (IsAsBefore s.old s.new ⊎ HasRejoined s.old s.new) }
+    ensures err { OnErr result (IsAsBefore s.old s.new
+        ⊎ (HasRejoined s.old s.new × HasSeen (notes_in shared.old.kept) s.new)) }
     ensures replies { OnErr result (HasTaken R.with replies.old replies.new) }
     ensures same { shared.new ≡ shared.old }
 {

@@ -11,3 +11,4 @@ pub mod Thinned
 pub mod Kept
 mod Respelled
 pub mod Leaving
+pub mod ByFile

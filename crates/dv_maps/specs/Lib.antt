@@ -5,3 +5,4 @@ pub mod Storages
 pub mod Groups
 pub mod Laws
 pub mod Purges
+pub mod Tables

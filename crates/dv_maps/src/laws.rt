@@ -2,6 +2,7 @@
 
 ghost use Rattle.dv_maps.specs.Laws.{CountsAre, CountsAreWritten, PlacesAre, SavesAre, SavesAreWritten};
 ghost use Rattle.dv_maps.specs.Purges.{RewritesAre, RewritesAreWritten, RewritesKeep, RewritesThin, ThinningsAre};
+ghost use Rattle.dv_maps.specs.Tables.{TablesStay};
 
 /// A copy and a drop change the count of one id, and leave what is kept of the texts.
 pub fn counts_are()
@@ -46,4 +47,10 @@ pub fn thinnings_are()
 /// The records of the purge of a file have a spelling, and apply to any map.
 pub fn rewrites_are_written()
     ensures { RewritesAreWritten }
+{}
+
+/// A table of the rows by file tells of each file that isn't rewritten yet, while files are
+/// rewritten one after another by rising number.
+pub fn tables_stay()
+    ensures { TablesStay }
 {}

@@ -135,4 +135,4 @@ module _ (from file : ℕ) (m : Mailbox) (next : IsNextGone m from file) where
 
 pub cleared_more : (from file : ℕ) (m after : Mailbox) (old new : Folder) → IsNextGone m from file → IsTaken file old new m after → IsClearedTo from old m → IsClearedTo (file + 1) new after
 cleared_more from file m after old new next taken was =
-    ⊎_elim (λ passed. passed_more from file m next old new after passed.0 passed.1 passed.2 was) (λ away. taken_more from file m next old new after away was) taken
+    ⊎_elim (λ passed. passed_more from file m next old new after passed.0 passed.1 passed.2 was) (λ away. taken_more from file m next old new after away.1 was) taken

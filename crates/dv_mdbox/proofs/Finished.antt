@@ -1,8 +1,11 @@
 -- A file is rewritten, and then removed.
-use Rattle.std.proofs.Common.{◌≡◌, ◌≢◌, ◌⊎◌, inr, ⊎_elim, ℕ, ◌+◌, ◌^◌, ◌<◌, zero, suc, Bool, cond, Contains, List, [], ◌∷◌, get_or, Some, None, Result, Ok, Err, OnOk, refl, sym, ◌∙◌, ap, subst, arith}
+use Rattle.std.proofs.Common.{◌≡◌, ◌≢◌, ◌⊎◌, inl, inr, ⊎_elim, ℕ, ◌+◌, ◌^◌, ◌<◌, ◌≤◌, zero, suc, Bool, cond, Contains, List, [], ◌∷◌, get_or, length, Option, Some, None, Result, Ok, Err, OnOk, refl, sym, ◌∙◌, ap, subst, arith}
+use Rattle.std.specs.Prelude.{IfErr}
 use Rattle.dv_model.specs.declared.types.Mailbox.{Mailbox}
+use Rattle.dv_model.specs.declared.types.Mark.{Mark}
 use Rattle.dv_model.specs.declared.types.Record.{Record}
 use Rattle.dv_model.specs.Effects.{applied}
+use Rattle.dv_model.specs.Mailboxes.{IsValid}
 use Rattle.dv_shelf.specs.declared.shelf.Name.TheVariants as name
 use Rattle.dv_shelf.specs.Folders.{Folder}
 use Rattle.dv_shelf.specs.Sees.{SeesFolder}
@@ -14,15 +17,19 @@ use Rattle.dv_filing.specs.Files.{IsNamed}
 use Rattle.dv_files.specs.Writing.{IsSwept}
 use Rattle.dv_files.proofs.Removing.{sweep_stays}
 use Rattle.dv_filing.proofs.Cleared.{sweeping}
-use Rattle.dv_maps.specs.Purges.{IsThinned, Rewrites, RewritesKeep, RewritesThin, ThinningsAre, all_mapped, file_records, kept_size}
+use Rattle.dv_maps.specs.Laws.{IsMap}
+use Rattle.dv_maps.specs.Purges.{IsThinned, Rewrites, RewritesAre, RewritesKeep, RewritesThin, ThinningsAre, all_mapped, file_records, is_gone, kept_size}
 use Rattle.dv_maps.specs.Storages.{storage_of}
 use Rattle.dv_maps.specs.Texts.{Messages}
-use Rattle.dv_mdbox.specs.Purging.{IsNextFile, IsNextGone, IsTakenAway, PurgesQuietly, PurgesTo, TakesFile, WritesKept, WritesLater, kept_rows}
+use Rattle.dv_mdbox.specs.declared.fault.StorageFault.{StorageFault}
+use Rattle.dv_mdbox.specs.declared.fault.StorageFault.TheVariants as fault
+use Rattle.dv_mdbox.specs.Answers.{IsFailure}
+use Rattle.dv_mdbox.specs.Purging.{FindsRoomAt, FitsKnown, HasRoomAt, IsNextFile, IsNextGone, IsNumberFor, IsStuck, IsTakenAway, LacksRoomAt, NumbersFile, PurgesQuietly, PurgesTo, TakesFile, WritesKept, WritesLater, gone_ids, group_size, kept_rows}
 use Rattle.dv_mdbox.specs.States.{IsAtRest, IsLookedAt, State}
 use Rattle.dv_mdbox.specs.Writes.{WritesGroup}
 use Rattle.dv_mdbox.proofs.Orphaned.{has_mail}
-use Rattle.dv_mdbox.proofs.Rewritten.{IsRewrittenBy, apart, not_needed, one_mail, through_kept}
-use Rattle.dv_mdbox.proofs.Stepping.{group_taken, to_looked}
+use Rattle.dv_mdbox.proofs.Rewritten.{IsRewrittenBy, apart, not_needed, one_mail, some_rows, through_kept}
+use Rattle.dv_mdbox.proofs.Stepping.{group_missed, group_taken, none_taken, to_looked}
 use Rattle.dv_mdbox.proofs.Thinning.{quiet_group, quiet_then}
 
 pub on_ok : {T E : Type 0} {P Q : Type 0} (r : Result T E) → (P → Q) → OnOk r P → OnOk r Q
@@ -42,20 +49,65 @@ looked_both old mid new one two = record {
 
 -- ---- the map
 
-pub file_taken : {S C : Type 0} (from file new_file : ℕ) (old mid new : State S C) → IsNextGone old.chain.live.mailbox from file → kept_size file (all_mapped old.chain.live.mailbox) < 2 ^ 32
-    → (kept_rows old.chain.live.mailbox file ≡ []) ⊎ IsNextFile old.chain.live.mailbox new_file → new_file < 2 ^ 32 → (records : List Record) → records ≡ file_records file new_file (all_mapped old.chain.live.mailbox) → {A B : Type 0} (x : A)
-    → WritesGroup records old mid {T = A} {E = B} (Ok x) → IsLookedAt mid new → {T E : Type 0} (result : Result T E) → TakesFile from file old new result
-file_taken {S} {C} from file new_file old mid new next short is_new low records same {A} {B} x writes looked {T} {E} result = by_result result
+-- its records make another map of one
+pub rewrites_map : RewritesAre → (m after : Mailbox) (file new : ℕ) → IsValid m → 1 ≤ length (gone_ids m file) → new < 2 ^ 32 → kept_size file (all_mapped m) < 2 ^ 32 → applied m (file_records file new (all_mapped m)) ≡ Some after → IsMap m → Rewrites file new m after
+rewrites_map law m after file new valid some low short gives map = law m after file new map valid (some_rows m (is_gone file) some) low short gives
+
+pub file_taken : {S C : Type 0} (known : Option Folder) (from file new_file : ℕ) (old mid new : State S C) → IsNextGone old.chain.live.mailbox from file → FitsKnown known old.chain.live.mailbox file → IsNumberFor old.chain.live.mailbox file new_file → (records : List Record)
+    → records ≡ file_records file new_file (all_mapped old.chain.live.mailbox) → HasRoomAt old.mark (group_size records) → ((after : Mailbox) → applied old.chain.live.mailbox (file_records file new_file (all_mapped old.chain.live.mailbox)) ≡ Some after → IsMap old.chain.live.mailbox → Rewrites file new_file old.chain.live.mailbox after)
+    → {A B : Type 0} (x : A) → WritesGroup records old mid {T = A} {E = B} (Ok x) → IsLookedAt mid new → {T : Type 0} (result : Result T StorageFault) → IfErr result IsFailure → TakesFile known from file old new result
+file_taken {S} {C} known from file new_file old mid new next fits number records same room rewrites {A} {B} x writes looked {T} result = by_result result
   where
     here : WritesGroup (file_records file new_file (all_mapped old.chain.live.mailbox)) old mid {T = A} {E = B} (Ok x)
     here = subst (λ (rs : List Record). WritesGroup rs old mid {T = A} {E = B} (Ok x)) same writes
 
-    taken : PurgesTo from (file ∷ []) (file + 1) old new
-    taken = to_looked (file ∷ []) from (file + 1) old mid new (group_taken from file new_file old mid next {T = A} {E = B} x here (record { short = short; above = is_new; low = low; group = here.map })) looked
+    room_here : HasRoomAt old.mark (group_size (file_records file new_file (all_mapped old.chain.live.mailbox)))
+    room_here = subst (λ (rs : List Record). HasRoomAt old.mark (group_size rs)) same room
 
-    by_result : (r : Result T E) → TakesFile from file old new r
-    by_result (Ok y) = taken
-    by_result (Err e) = inr taken
+    taken : PurgesTo known from (file ∷ []) (file + 1) old new
+    taken =
+        to_looked known (file ∷ []) from (file + 1) old mid new
+        (group_taken known from file new_file old mid next fits room_here {T = A} {E = B} x here (record { number = number; group = here.map; map = rewrites mid.chain.live.mailbox here.map })) looked
+
+    by_result : (r : Result T StorageFault) → IfErr r IsFailure → TakesFile known from file old new r
+    by_result (Ok y) failed = taken
+    by_result (Err e) failed = inr (taken, failed)
+
+-- or it wasn't: memory ran out or the disk failed before that, or the group has no room
+pub file_missed : {S C : Type 0} (known : Option Folder) (from file new_file : ℕ) (old new : State S C) → FitsKnown known old.chain.live.mailbox file → IsNumberFor old.chain.live.mailbox file new_file → (records : List Record) → records ≡ file_records file new_file (all_mapped old.chain.live.mailbox)
+    → {A : Type 0} (e : StorageFault) → WritesGroup records old new {T = A} (Err e) → FindsRoomAt old.mark (group_size records) {A = A} (Err e) → (f : StorageFault) → f ≡ e → TakesFile known from file old new {T = Unit {0}} (Err f)
+file_missed {S} {C} known from file new_file old new fits number records same {A} e writes room f is = inl (group_missed known records from old new {T = A} e writes, subst Why (sym is) (why e room))
+  where
+    Why : StorageFault → Type 0
+    Why x = IsFailure x ⊎ IsStuck known new.mark new.chain.live.mailbox file x
+
+    stuck : (bytes : ℕ) → (bytes ≡ group_size records) × LacksRoomAt old.mark (group_size records) → IsStuck known old.mark old.chain.live.mailbox file (fault.TooLong bytes)
+    stuck bytes lacks = (fits, new_file, number, lacks.0 ∙ ap group_size same, subst (LacksRoomAt old.mark) (sym lacks.0) lacks.1)
+
+    why : (e : StorageFault) → FindsRoomAt old.mark (group_size records) {A = A} (Err e) → Why e
+    why fault.NoMemory found = inl tt
+    why (fault.Disk faults) found = inl tt
+    why (fault.TooLong bytes) found =
+        inr (subst (λ (m : Mark). IsStuck known m new.chain.live.mailbox file (fault.TooLong bytes)) (sym writes.kept.2)
+        (subst (λ (m : Mailbox). IsStuck known old.mark m file (fault.TooLong bytes)) (sym writes.kept.0) (stuck bytes found)))
+    why fault.None found = absurd found
+    why fault.Full found = absurd found
+    why fault.Ids found = absurd found
+    why fault.Files found = absurd found
+
+-- no number is left for the file that it needs
+pub number_missed : {S C : Type 0} (known : Option Folder) (from file : ℕ) (s : State S C) → FitsKnown known s.chain.live.mailbox file → (kept_rows s.chain.live.mailbox file ≡ [] → ⊥) → (e : StorageFault) → NumbersFile s.chain.live.mailbox (Err e) → (f : StorageFault) → f ≡ e
+    → TakesFile known from file s s {T = Unit {0}} (Err f)
+number_missed known from file s fits some e none f is = inl (none_taken known from s s refl refl refl refl refl, inr (subst (IsStuck known s.mark s.chain.live.mailbox file) (sym is) (stuck e none)))
+  where
+    stuck : (e : StorageFault) → NumbersFile s.chain.live.mailbox (Err e) → IsStuck known s.mark s.chain.live.mailbox file e
+    stuck fault.Files none = (fits, some, none)
+    stuck fault.NoMemory none = absurd none
+    stuck (fault.Disk faults) none = absurd none
+    stuck fault.None none = absurd none
+    stuck fault.Full none = absurd none
+    stuck fault.Ids none = absurd none
+    stuck (fault.TooLong bytes) none = absurd none
 
 -- ---- the folder
 

@@ -1,25 +1,27 @@
 -- What a purge finds in the rows of a map and in a file.
-use Rattle.std.proofs.Common.{◌≡◌, ◌⊎◌, inl, inr, ⊎_elim, ℕ, ◌+◌, ◌^◌, ◌<◌, ◌≤◌, min, Bool, true, false, cond, Contains, List, [], ◌∷◌, ◌++◌, length, map, take, get_or, nat_eq, Option, Some, None, refl, sym, ◌∙◌, ap, subst, arith, append_assoc}
+use Rattle.std.proofs.Common.{◌≡◌, ◌≢◌, ◌⊎◌, inl, inr, ⊎_elim, ℕ, ◌+◌, ◌^◌, ◌<◌, ◌≤◌, min, Bool, true, false, cond, Contains, List, [], ◌∷◌, ◌++◌, length, map, take, get_or, nat_eq, Option, Some, None, refl, sym, ◌∙◌, ap, subst, arith, append_assoc}
 use Rattle.std.specs.Prelude.{◌&&◌, All, IfSome, IsSomeAnd, MatchOption, filter, nat_le, nat_lt, slice_get}
 use Rattle.std.proofs.lemmas.Bool.{cases_lt, leb-true}
 use Rattle.std.proofs.lemmas.Bool.Decides.{nat_tests}
-use Rattle.std.proofs.lemmas.List.{append-nil, get_or-map, get_or_default, length-map, map-append, take_all, take_more}
+use Rattle.std.proofs.lemmas.List.{append-nil, get_or_default, map-append, take_all, take_more}
 use Rattle.std.proofs.lemmas.List.Elements.{All-nil, All-push, Contains-append_left, Contains-push, filter-append}
 use Rattle.std.proofs.lemmas.List.Sums.{sum_by-take-le, sum_by_push}
 use Rattle.std.proofs.lemmas.Option.{get_or_from_slice_get}
 use Rattle.dv_model.specs.declared.types.Extension.{Extension}
 use Rattle.dv_model.specs.declared.types.Mailbox.{Mailbox}
 use Rattle.dv_model.specs.declared.types.Row.{Row}
-use Rattle.dv_model.specs.Journals.{Damaged}
+use Rattle.dv_model.specs.Journals.{Damaged, Held}
 use Rattle.dv_dbox.specs.Mails.{mail_in}
 use Rattle.dv_maps.specs.declared.mapped.Mapped.{Mapped}
 use Rattle.dv_maps.specs.declared.place.Place.{Place}
+use Rattle.dv_maps.specs.declared.tables.Listed.{Listed}
 use Rattle.dv_maps.specs.Maps.{count_of, place_of}
 use Rattle.dv_maps.specs.Purges.{all_mapped, bytes_in, is_gone, is_kept, mapped, size_of, texts_in}
+use Rattle.dv_maps.specs.Tables.{all_listed, listed}
 use Rattle.dv_maps.specs.Texts.{text_in}
 use Rattle.dv_mdbox.specs.declared.gathering.FileRows.{FileRows}
 use Rattle.dv_mdbox.specs.Gathering.{AddsRow, AreRowsOf, Gathers, GathersFrom, IsLess}
-use Rattle.dv_mdbox.specs.Purging.{IsNamed, IsNextGone, NoneGoneFrom}
+use Rattle.dv_mdbox.specs.Purging.{IsNextGone, NoneGoneFrom}
 
 -- ---- the first rows of a map
 
@@ -36,19 +38,16 @@ front_more m k row less get =
 pub front_all : (m : Mailbox) (k : ℕ) → length m.rows ≤ k → front m k ≡ all_mapped m
 front_all m k through = ap (map (mapped m)) (take_all k m.rows through)
 
-pub contains_row : (m : Mailbox) (k : ℕ) (row : Row) → k < length m.rows → slice_get m.rows k ≡ Some row → Contains (all_mapped m) (mapped m row)
-contains_row m k row less get =
-    let count = length-map m.rows (mapped m) in (k, omega (arith, count, less), get_or-map (mapped m) m.rows k row (mapped m row) less ∙ ap (mapped m) (get_or_from_slice_get m.rows k row row get))
+-- ---- the table of a map's rows by file
 
--- ---- named files
+pub listed_more : (m : Mailbox) (k : ℕ) (row : Row) (old new : List Listed) (one : Listed) → k < length m.rows → slice_get m.rows k ≡ Some row → old ≡ all_listed (front m k) → one ≡ listed (mapped m row) → new ≡ old ++ one ∷ [] → new ≡ all_listed (front m (k + 1))
+listed_more m k row old new one less get was is more =
+    more ∙ ap (λ (l : List Listed). l ++ one ∷ []) was ∙ ap (λ (x : Listed). all_listed (front m k) ++ x ∷ []) is
+    ∙ sym (map-append listed (front m k) (mapped m row ∷ []))
+    ∙ ap all_listed (sym (front_more m k row less get))
 
-abbrev pub NoneNamed : Mailbox → ℕ → ℕ → Type 0
-NoneNamed m file k = All (λ (r : Mapped). r.place.file ≡ file → ⊥) (front m k)
-
-pub none_named : (m : Mailbox) (file k : ℕ) → length m.rows ≤ k → NoneNamed m file k → IsNamed m file → ⊥
-none_named m file k through none (r, (j, less, is), named) =
-    let all : All (λ (r : Mapped). r.place.file ≡ file → ⊥) (all_mapped m) = subst (All (λ (r : Mapped). r.place.file ≡ file → ⊥)) (front_all m k through) none in
-    all j r less (ap (λ (x : Mapped). x.place.file) is ∙ named)
+pub listed_all : (m : Mailbox) (k : ℕ) (rows : List Listed) → length m.rows ≤ k → rows ≡ all_listed (front m k) → rows ≡ all_listed (all_mapped m)
+listed_all m k rows through is = is ∙ ap all_listed (front_all m k through)
 
 -- ---- the next file
 
@@ -157,7 +156,6 @@ whole_none bytes place is = by_test (nat_le (place.offset + place.size) (length 
 
 pub record IsWhole (bytes text : List ℕ) (place : Place) : Type 0 where
   pub text_is : text ≡ bytes_in bytes place
-  pub inside : place.offset + place.size ≤ length bytes
   pub mail : text_in (Some bytes) place ≡ mail_in (Some text)
 
 pub whole_some : (bytes text : List ℕ) (place : Place) → Some text ≡ cond (nat_le (place.offset + place.size) (length bytes)) (Some (bytes_in bytes place)) None → IsWhole bytes text place
@@ -172,36 +170,53 @@ whole_some bytes text place is = by_test (nat_le (place.offset + place.size) (le
         let same : text ≡ bytes_in bytes place = one_text text (bytes_in bytes place) is in
         record {
           text_is = same;
-          inside = leb-true (place.offset + place.size) (length bytes) test;
           mail = ap (λ (b : Bool). cond b (mail_in (Some (bytes_in bytes place))) Damaged) test ∙ ap (λ (t : List ℕ). mail_in (Some t)) (sym same);
         }
+
+-- what holds a message isn't damaged
+pub whole_held : (bytes text message : List ℕ) (place : Place) → IsWhole bytes text place → Held message ≡ mail_in (Some text) → text_in (Some bytes) place ≢ Damaged
+whole_held bytes text message place whole held damaged = let both : Held message ≡ Damaged = held ∙ sym whole.mail ∙ damaged in cc
 
 -- ---- texts one behind another
 
 abbrev pub IsInside : List ℕ → Mapped → Type 0
 IsInside bytes r = r.place.offset + r.place.size ≤ length bytes
 
+-- a text that isn't damaged is in its file
+inside_one : (bytes : List ℕ) (r : Mapped) → text_in (Some bytes) r.place ≢ Damaged → IsInside bytes r
+inside_one bytes r whole = by_test (nat_le (r.place.offset + r.place.size) (length bytes)) refl whole
+  where
+    by_test : (b : Bool) → nat_le (r.place.offset + r.place.size) (length bytes) ≡ b → cond b (mail_in (Some (bytes_in bytes r.place))) Damaged ≢ Damaged → IsInside bytes r
+    by_test true test whole = leb-true (r.place.offset + r.place.size) (length bytes) test
+    by_test false test whole = absurd (whole refl)
+
+abbrev pub IsHeld : List ℕ → Mapped → Type 0
+IsHeld bytes r = text_in (Some bytes) r.place ≢ Damaged
+
+pub all_inside : (bytes : List ℕ) (rows : List Mapped) → All (IsHeld bytes) rows → All (IsInside bytes) rows
+all_inside bytes rows all = λ k d less. inside_one bytes (get_or rows k d) (all k d less)
+
 pub record AreGathered (bytes : List ℕ) (rows : List Mapped) (texts : List ℕ) (size : ℕ) : Type 0 where
   pub texts_are : texts ≡ texts_in bytes rows
-  pub inside : All (IsInside bytes) rows
+  pub whole : All (IsHeld bytes) rows
   pub size_is : size ≡ size_of rows
   pub short : size < 2 ^ 32
 
 pub none_gathered : (bytes : List ℕ) → AreGathered bytes [] [] 0
-none_gathered bytes = record { texts_are = refl; inside = All-nil (IsInside bytes); size_is = refl; short = omega arith }
+none_gathered bytes = record { texts_are = refl; whole = All-nil (IsHeld bytes); size_is = refl; short = omega arith }
 
 texts_push : (bytes : List ℕ) (rows : List Mapped) (r : Mapped) → texts_in bytes (rows ++ r ∷ []) ≡ texts_in bytes rows ++ bytes_in bytes r.place
 texts_push bytes [] r = append-nil (bytes_in bytes r.place)
 texts_push bytes (x ∷ rows) r = ap (λ (l : List ℕ). bytes_in bytes x.place ++ l) (texts_push bytes rows r) ∙ sym (append_assoc (bytes_in bytes x.place) (texts_in bytes rows) (bytes_in bytes r.place))
 
-pub gathered_more : (bytes : List ℕ) (rows : List Mapped) (i : ℕ) (d : Mapped) (texts text : List ℕ) (size : ℕ) → i < length rows → AreGathered bytes (take i rows) texts size → text ≡ bytes_in bytes (get_or rows i d).place → IsInside bytes (get_or rows i d)
+pub gathered_more : (bytes : List ℕ) (rows : List Mapped) (i : ℕ) (d : Mapped) (texts text : List ℕ) (size : ℕ) → i < length rows → AreGathered bytes (take i rows) texts size → text ≡ bytes_in bytes (get_or rows i d).place → IsHeld bytes (get_or rows i d)
     → size + (get_or rows i d).place.size < 2 ^ 32 → AreGathered bytes (take (i + 1) rows) (texts ++ text) (size + (get_or rows i d).place.size)
-gathered_more bytes rows i d texts text size less was is inside short =
+gathered_more bytes rows i d texts text size less was is whole short =
     let r : Mapped = get_or rows i d in
     subst (λ (l : List Mapped). AreGathered bytes l (texts ++ text) (size + r.place.size)) (sym (take_more rows i d less))
     (record {
       texts_are = (λ j. was.texts_are j ++ is j) ∙ sym (texts_push bytes (take i rows) r);
-      inside = All-push (IsInside bytes) (take i rows) r was.inside inside;
+      whole = All-push (IsHeld bytes) (take i rows) r was.whole whole;
       size_is = ap (λ (n : ℕ). n + r.place.size) was.size_is ∙ sym (sum_by_push (λ (x : Mapped). x.place.size) (take i rows) r);
       short = short;
     })
@@ -232,7 +247,7 @@ gathers_all bytes rows i texts size through is =
     let all = gathered_all bytes rows i texts size through is in
     let short = all.short in
     let same = all.size_is in
-    (bytes, refl, all.texts_are, all.inside, omega (arith, short, same))
+    (bytes, refl, all.texts_are, all.whole, omega (arith, short, same))
 
 -- no file has none of them
 pub no_file : (rows : List Mapped) → 1 ≤ length rows → Gathers None rows None

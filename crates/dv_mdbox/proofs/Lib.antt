@@ -19,3 +19,4 @@ pub mod Clearing
 pub mod Orphaned
 pub mod Finished
 pub mod Moved
+pub mod Purged

@@ -1,11 +1,14 @@
 -- Where a storage's log ends, by the mark behind its groups.
-use Rattle.std.proofs.Common.{◌≡◌, inl, inr, ⊎_elim, ℕ, ◌+◌, ◌&&◌, Bool, true, false, List, ◌++◌, length, Option, Some, None, is_some, Result, Ok, Err, refl, sym, ◌∙◌, ap, subst}
-use Rattle.std.specs.Prelude.{IsSome, flat_map, is_none, if◌then◌else◌}
+use Rattle.std.proofs.Common.{◌≡◌, ◌⊎◌, inl, inr, ⊎_elim, ℕ, ◌+◌, ◌<◌, ◌≤◌, ◌&&◌, Bool, true, false, List, ◌++◌, length, Option, Some, None, is_some, Result, Ok, Err, refl, sym, ◌∙◌, ap, subst, arith}
+use Rattle.std.specs.Prelude.{IfErr, IsSome, flat_map, is_none, nat_le, nat_lt, not, if◌then◌else◌}
+use Rattle.std.proofs.lemmas.Bool.{cases_lt}
+use Rattle.std.proofs.lemmas.Bool.Decides.{nat_tests}
 use Rattle.std.proofs.lemmas.List.Sums.{fold-append}
 use Rattle.dv_model.specs.declared.types.Entry.{Entry}
 use Rattle.dv_model.specs.declared.types.Mark.{Mark}
 use Rattle.dv_model.specs.declared.types.Record.{Record}
-use Rattle.dv_model.specs.Journals.{header_size, is_rotation_due, mark_behind}
+use Rattle.dv_model.specs.Journals.{header_size, is_rotation_due, last_file_seq, mark_behind, rotate_at}
+use Rattle.dv_model.specs.Sessions.{group_limit, is_log_full, log_limit}
 use Rattle.dv_model.specs.Spelling.{written}
 use Rattle.dv_chain.specs.declared.chain.Chain.{Chain}
 use Rattle.dv_plans.specs.Begins.{beginning, turns}
@@ -13,6 +16,10 @@ use Rattle.dv_files.specs.declared.texts.Turn.{Turn}
 use Rattle.dv_files.specs.Texts.{place_of}
 use Rattle.dv_writing.specs.Repairing.{Repairs}
 use Rattle.dv_writing.specs.Ways.{IsDue, StopsOnWay, repaired}
+use Rattle.dv_mdbox.specs.declared.fault.StorageFault.{StorageFault}
+use Rattle.dv_mdbox.specs.declared.fault.StorageFault.TheVariants as fault
+use Rattle.dv_mdbox.specs.Answers.{HasRoom, IsFailure, IsFull}
+use Rattle.dv_mdbox.specs.Purging.{FindsRoomAt, HasRoomAt, LacksRoomAt}
 use Rattle.dv_mdbox.specs.States.{StandsAt, mark_from, next_file}
 use Rattle.dv_mdbox.specs.Writes.{begin_of, mark_after}
 
@@ -120,3 +127,53 @@ paid_at mark (Some turn) left old new (Ok x) stands paid =
 
 pub marks_both : (mark : Mark) (one two : List Entry) → mark_from (mark_from mark one) two ≡ mark_from mark (one ++ two)
 marks_both mark one two = sym (fold-append (λ (m : Mark) (e : Entry). mark_behind true m e.group) mark one two)
+
+-- ---- room for a group
+
+and_false : (b : Bool) → (b && false) ≡ false
+and_false true = refl
+and_false false = refl
+
+and_second : (a b : Bool) → (a && b) ≡ true → b ≡ true
+and_second true b both = both
+and_second false b both = absurd cc
+
+-- a short group has room in a new file
+new_room : (mark : Mark) (size : ℕ) → size ≤ group_limit → is_log_full true (next_file mark) size ≡ false
+new_room mark size short =
+    let low : nat_lt log_limit (header_size + size) ≡ false = grind (arith, nat_tests, short) in
+    (λ i. not (nat_lt (mark.file_seq + 1) last_file_seq) && low i) ∙ and_false (not (nat_lt (mark.file_seq + 1) last_file_seq))
+
+-- and so it has where a rotation is due
+due_room : (mark : Mark) (size : ℕ) → is_rotation_due true mark ≡ true → is_log_full true mark size ≡ false
+due_room mark size due =
+    let later : nat_lt mark.file_seq last_file_seq ≡ true = and_second (nat_le rotate_at mark.offset) (nat_lt mark.file_seq last_file_seq) due in
+    λ i. not (later i) && nat_lt log_limit (mark.offset + size)
+
+room_same : (mark : Mark) (owed : Option Turn) (place : Mark) (size : ℕ) → StandsAt mark place owed → size ≤ group_limit → is_log_full true place size ≡ is_log_full true mark size
+room_same mark owed place size stands short =
+    ⊎_elim (λ here. ap (λ (m : Mark). is_log_full true m size) here.0)
+    (λ begun.
+    ⊎_elim (λ owes. ap (λ (m : Mark). is_log_full true m size) owes.0)
+    (λ new. ap (λ (m : Mark). is_log_full true m size) new.0 ∙ new_room mark size short ∙ sym (due_room mark size begun.0)) begun.1) stands
+
+module _ (mark : Mark) (owed : Option Turn) (chain : Chain) (size : ℕ) (stands : StandsAt mark (place_of chain) owed) where
+  pub has_at : (size ≤ group_limit) × HasRoom chain size → HasRoomAt mark size
+  has_at fits = (fits.0, sym (room_same mark owed (place_of chain) size stands fits.0) ∙ fits.1)
+
+  pub lacks_at : (group_limit < size) ⊎ IsFull chain size → LacksRoomAt mark size
+  lacks_at = ⊎_elim inl (λ full. by_size full (cases_lt group_limit size))
+    where
+      by_size : IsFull chain size → (group_limit < size) ⊎ (size ≤ group_limit) → LacksRoomAt mark size
+      by_size full = ⊎_elim inl (λ short. inr (sym (room_same mark owed (place_of chain) size stands short) ∙ full))
+
+-- what a write answers behind it
+pub found_room : (mark : Mark) (size : ℕ) {A : Type 0} (result : Result A StorageFault) → HasRoomAt mark size → IfErr result IsFailure → FindsRoomAt mark size result
+found_room mark size (Ok x) room failure = room
+found_room mark size (Err (fault.Disk faults)) room failure = room
+found_room mark size (Err fault.NoMemory) room failure = tt
+found_room mark size (Err fault.None) room failure = absurd failure
+found_room mark size (Err fault.Full) room failure = absurd failure
+found_room mark size (Err fault.Ids) room failure = absurd failure
+found_room mark size (Err fault.Files) room failure = absurd failure
+found_room mark size (Err (fault.TooLong bytes)) room failure = absurd failure

@@ -1,22 +1,26 @@
 -- The texts that a file keeps are read, or the file is passed over.
-use Rattle.std.proofs.Common.{◌≡◌, inl, inr, ⊎_elim, ℕ, ◌^◌, ◌<◌, ◌≤◌, Bool, true, false, Contains, List, [], ◌∷◌, length, map, nat_eq, Option, Some, None, refl, sym, ◌∙◌, ap, subst, arith}
+use Rattle.std.proofs.Common.{◌≡◌, ◌≢◌, inl, inr, ⊎_elim, ℕ, ◌^◌, ◌<◌, ◌≤◌, Bool, true, false, Contains, List, [], ◌∷◌, length, map, get_or, nat_eq, Option, Some, None, refl, sym, ◌∙◌, ap, subst, arith}
 use Rattle.std.specs.Prelude.{◌&&◌, All, filter, nat_lt}
 use Rattle.std.proofs.lemmas.Bool.{eqb-true}
 use Rattle.std.proofs.lemmas.Bool.Decides.{nat_tests}
+use Rattle.std.proofs.lemmas.List.{get_or_default}
 use Rattle.std.proofs.lemmas.List.Elements.{All-cons, All-head, All-nil, All-tail, filter_passes}
 use Rattle.dv_model.specs.declared.types.Mailbox.{Mailbox}
 use Rattle.dv_model.specs.declared.types.Row.{Row}
+use Rattle.dv_model.specs.Journals.{Damaged}
 use Rattle.dv_shelf.specs.declared.shelf.Name.TheVariants as name
 use Rattle.dv_shelf.specs.Folders.{Folder}
+use Rattle.dv_shelf.specs.Sees.{SeesFolder}
 use Rattle.dv_filing.specs.declared.steps.Files.TheVariants as kind
 use Rattle.dv_maps.specs.declared.mapped.Mapped.{Mapped}
 use Rattle.dv_maps.specs.Maps.{row_place}
 use Rattle.dv_maps.specs.Purges.{StandsIn, all_mapped, is_kept, mapped, size_of}
-use Rattle.dv_maps.specs.Texts.{HasText, KeepsTexts, Messages, text_in}
+use Rattle.dv_maps.specs.Texts.{HasText, KeepsTexts, Messages, text_at, text_in}
 use Rattle.dv_maps.proofs.Rewriting.{kept_front}
 use Rattle.dv_mdbox.specs.declared.gathering.FileRows.{FileRows}
 use Rattle.dv_mdbox.specs.Gathering.{AreRowsOf, Gathers}
-use Rattle.dv_mdbox.specs.Purging.{IsPassedOver, IsRewriteOf, gone_ids, kept_rows}
+use Rattle.dv_mdbox.specs.Purging.{FitsKnown, IsFit, IsPassedOver, IsRewriteOf, KnowsFile, PassesKnown, gone_ids, kept_rows}
+use Rattle.dv_mdbox.specs.States.{State}
 use Rattle.dv_mdbox.proofs.Gathered.{IsInside}
 
 -- ---- texts as they stand in a file
@@ -76,6 +80,44 @@ passed_over m folder file =
     let there = in_file m file r damaged.1 in
     inl (r, damaged.1, ap (λ (n : ℕ). text_in (folder (name.Mail n)) r.place) there ∙ damaged.2))
     (λ long. inr long)
+
+-- ---- or it is fit
+
+pub fit_of : (m : Mailbox) (folder : Folder) (file : ℕ) (texts : List ℕ) → Gathers (folder (name.Mail file)) (kept_rows m file) (Some texts) → IsFit folder m file
+fit_of m folder file texts found = record {
+  whole = λ k d less.
+      let rows : List Mapped = kept_rows m file in
+      let r : Mapped = get_or rows k d in
+      let there = in_file m file r (k, less, get_or_default rows k r d less) in
+      subst (λ (n : ℕ). text_in (folder (name.Mail n)) r.place ≢ Damaged) (sym there) (found.3 k d less);
+  short = found.4;
+}
+
+-- so it is where it keeps none
+pub fit_empty : (known : Option Folder) (m : Mailbox) (file : ℕ) → kept_rows m file ≡ [] → FitsKnown known m file
+fit_empty None m file none = subst (λ (l : List Mapped). size_of l < 2 ^ 32) (sym none) (omega arith)
+fit_empty (Some folder) m file none = record {
+  whole = subst (All (λ (r : Mapped). text_at folder r.place ≢ Damaged)) (sym none) (All-nil (λ (r : Mapped). text_at folder r.place ≢ Damaged));
+  short = subst (λ (l : List Mapped). size_of l < 2 ^ 32) (sym none) (omega arith);
+}
+
+-- ---- by what is known of the folder
+
+module _ {S C : Type 0} (sees : SeesFolder S) (s : State S C) (file : ℕ) (rows : List Mapped) (kept : rows ≡ kept_rows s.chain.live.mailbox file) where
+  abbrev Found : Option (List ℕ) → Type 0
+  Found texts = sees.tells → Gathers (sees.files s.shelf (name.Mail file)) rows texts
+
+  found_known : (folder : Folder) (texts : Option (List ℕ)) → Found texts → KnowsFile sees (Some folder) file s → Gathers (folder (name.Mail file)) (kept_rows s.chain.live.mailbox file) texts
+  found_known folder texts found knows =
+      subst (λ (rs : List Mapped). Gathers (folder (name.Mail file)) rs texts) kept (subst (λ (o : Option (List ℕ)). Gathers o rows texts) knows.1 (found knows.0))
+
+  pub passes_known : (known : Option Folder) → Found None → KnowsFile sees known file s → PassesKnown known s.chain.live.mailbox file
+  passes_known None found knows = tt
+  passes_known (Some folder) found knows = passed_over s.chain.live.mailbox folder file (found_known folder None found knows)
+
+  pub fits_known : (known : Option Folder) (texts : List ℕ) → size_of rows < 2 ^ 32 → Found (Some texts) → KnowsFile sees known file s → FitsKnown known s.chain.live.mailbox file
+  fits_known None texts short found knows = subst (λ (rs : List Mapped). size_of rs < 2 ^ 32) kept short
+  fits_known (Some folder) texts short found knows = fit_of s.chain.live.mailbox folder file texts (found_known folder (Some texts) found knows)
 
 -- ---- how it is rewritten
 

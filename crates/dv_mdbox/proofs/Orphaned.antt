@@ -1,5 +1,5 @@
 -- The message files that the map doesn't name are removed.
-use Rattle.std.proofs.Common.{◌≡◌, inl, inr, ⊎_elim, ℕ, zero, suc, ◌+◌, ◌<◌, ◌≤◌, Bool, true, false, cond, Contains, List, [], ◌∷◌, ◌++◌, length, take, get_or, Option, Some, None, refl, sym, ◌∙◌, ap, subst, arith, eq-eqb}
+use Rattle.std.proofs.Common.{◌≡◌, inl, inr, ⊎_elim, ℕ, zero, suc, ◌+◌, ◌<◌, ◌≤◌, Bool, true, false, cond, Contains, List, [], ◌∷◌, ◌++◌, length, take, get_or, Option, Some, None, Ok, refl, sym, ◌∙◌, ap, subst, arith, eq-eqb}
 use Rattle.std.specs.Prelude.{◌||◌, IsSome}
 use Rattle.std.proofs.lemmas.List.{take_all, take_more}
 use Rattle.std.proofs.lemmas.List.Elements.{All-nil, All-push, Contains-append_left, Contains-push, Contains-push_cases}
@@ -13,6 +13,8 @@ use Rattle.dv_maps.specs.Maps.{row_place}
 use Rattle.dv_maps.specs.Purges.{all_mapped, mapped}
 use Rattle.dv_mdbox.specs.Gathering.{AreOrphans}
 use Rattle.dv_mdbox.specs.Purging.{AllNamed, IsNamed}
+use Rattle.dv_files.proofs.Removing.{sweep_stays}
+use Rattle.dv_filing.proofs.Cleared.{sweeping}
 use Rattle.dv_mdbox.specs.Tails.{mail_number}
 use Rattle.dv_mdbox.proofs.Rewritten.{mapped_at, mapped_count}
 
@@ -95,3 +97,8 @@ none_unnamed m names files old new lists is swept n there = by_name (has_name (m
     by_name true has some = absurd cc
     by_name false lacks some =
         ⊎_elim (λ named. named) (λ gone. absurd (let both : true ≡ false = sym (has_mail files n gone.0 gone.1 gone.2) ∙ lacks in cc)) (is.others n ((lists.each (name.Mail n)).0 some))
+
+-- named files stay
+pub named_kept : (m : Mailbox) (names : List Name) (files : List ℕ) (old new : Folder) → AreOrphans m names files → IsSwept files old new → (file : ℕ) → IsNamed m file → new (name.Mail file) ≡ old (name.Mail file)
+named_kept m names files old new is swept file named =
+    sweep_stays file files old new (λ has. subst (λ (n : ℕ). IsNamed m n → ⊥) has.2 (is.none has.0 file has.1) named) (sweeping {T = Unit {0}} {E = Unit {0}} files (Ok tt) old new swept)

@@ -175,7 +175,7 @@ some_records m file new some =
     let sum = length-append (move_records (moved new 0 (filter (is_kept file) (all_mapped m)))) (map expunge (pieces (ranges_of gone))) in
     omega (arith, sum, long)
 
-passed : (p : Mapped → Bool) (xs : List Mapped) (k : ℕ) (r : Mapped) → k < length xs → get_or xs k r ≡ r → p r ≡ true → 1 ≤ length (filter p xs)
+pub passed : (p : Mapped → Bool) (xs : List Mapped) (k : ℕ) (r : Mapped) → k < length xs → get_or xs k r ≡ r → p r ≡ true → 1 ≤ length (filter p xs)
 passed p [] k r less is test = absurd (omega (arith, less))
 passed p (x ∷ xs) zero r less is test = subst (λ (b : Bool). 1 ≤ length (cond b (x ∷ filter p xs) (filter p xs))) (sym (ap p is ∙ test)) (omega arith)
 passed p (x ∷ xs) (suc k) r less is test =
@@ -229,7 +229,7 @@ pub record IsRewrittenBy (m : Mailbox) (file new : ℕ) : Type 0 where
   pub gives : applied m (file_records file new (all_mapped m)) ≡ Some after
   pub is : Rewrites file new m after
 
-some_rows : (m : Mailbox) (p : Mapped → Bool) → 1 ≤ length (map (λ (r : Mapped). r.id) (filter p (all_mapped m))) → 1 ≤ length m.rows
+pub some_rows : (m : Mailbox) (p : Mapped → Bool) → 1 ≤ length (map (λ (r : Mapped). r.id) (filter p (all_mapped m))) → 1 ≤ length m.rows
 some_rows m p some = by_rows m.rows some
   where
     by_rows : (rows : List Row) → 1 ≤ length (map (λ (r : Mapped). r.id) (filter p (map (mapped m) rows))) → 1 ≤ length rows

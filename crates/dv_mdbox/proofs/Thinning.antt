@@ -1,20 +1,23 @@
 -- A storage that loses ids that have no reference, over calls one behind the other.
-use Rattle.std.proofs.Common.{◌≡◌, inl, inr, ⊎_elim, ℕ, ◌+◌, List, [], Option, Some, None, Result, Ok, Err, OnOk, OnErr, refl, sym, ◌∙◌, ap, subst, arith}
+use Rattle.std.proofs.Common.{◌≡◌, ◌⊎◌, inl, inr, ⊎_elim, ℕ, ◌+◌, List, [], Option, Some, None, Result, Ok, Err, OnOk, OnErr, refl, sym, ◌∙◌, ap, subst, arith}
 use Rattle.std.specs.Prelude.{IfErr, MatchResult}
 use Rattle.dv_model.specs.declared.types.Mailbox.{Mailbox}
 use Rattle.dv_model.specs.declared.types.Record.{Record}
 use Rattle.dv_model.specs.Effects.{applied}
 use Rattle.dv_shelf.specs.Clocks.{behind}
 use Rattle.dv_shelf.specs.Crashes.{LeavesOnly}
-use Rattle.dv_shelf.specs.Folders.{Folder}
+use Rattle.dv_logfile.specs.declared.commit.LogFile.{LogFile}
+use Rattle.dv_shelf.specs.declared.shelf.Name.TheVariants as name
+use Rattle.dv_shelf.specs.Folders.{Folder, with_file}
 use Rattle.dv_shelf.specs.Sees.{SeesFolder}
+use Rattle.dv_shelf.proofs.FolderLemmas.{with_else}
 use Rattle.dv_shelf.proofs.Moments.{joined, started, weaker}
 use Rattle.dv_chain.specs.declared.chain.Chain.{Chain}
 use Rattle.dv_chain.specs.Openings.{OnlyLooks}
 use Rattle.dv_chain.specs.Rest.{Nothing, Owed, next_mark}
 use Rattle.dv_files.specs.declared.texts.Turn.{Turn}
 use Rattle.dv_files.specs.Texts.{place_of}
-use Rattle.dv_writing.specs.Repairing.{RepairsChain}
+use Rattle.dv_writing.specs.Repairing.{RepairsChain, RepairsFiles}
 use Rattle.dv_filing.specs.declared.steps.Files.{Files}
 use Rattle.dv_filing.specs.Clearing.{ClearsQuietly}
 use Rattle.dv_filing.specs.Standing.{Fits, Gives, MayGive, PaysQuietly, Stands}
@@ -27,7 +30,7 @@ use Rattle.dv_maps.specs.Texts.{Messages}
 use Rattle.dv_mdbox.specs.declared.fault.StorageFault.{StorageFault}
 use Rattle.dv_mdbox.specs.declared.fault.StorageFault.TheVariants as fault
 use Rattle.dv_mdbox.specs.Answers.{IsFailure}
-use Rattle.dv_mdbox.specs.Purging.{AnswersPurge, MayGivePurge, PurgesQuietly, TakesSome, WritesLater}
+use Rattle.dv_mdbox.specs.Purging.{MayGivePurge, PurgesQuietly, TakesSome, WritesLater}
 use Rattle.dv_mdbox.specs.States.{IsAtRest, IsLookedAt, State}
 use Rattle.dv_mdbox.specs.Writes.{MayGiveCall, WritesGroup, WritesQuietly, begin_of, mark_after}
 use Rattle.dv_mdbox.proofs.Equal.{stands_looked}
@@ -200,6 +203,17 @@ repaired_id None old new result is = is.file.0
 repaired_id (Some turn) old new (Ok x) is = ap (λ (k : Chain). k.indexid) is
 repaired_id (Some turn) old new (Err e) is = ap (λ (k : Chain). k.indexid) is
 
+-- and the message files
+repaired_mails_put : (text : List ℕ) (old new : Folder) → (new ≡ old) ⊎ (new ≡ with_file old name.Log (Some text)) → (file : ℕ) → new (name.Mail file) ≡ old (name.Mail file)
+repaired_mails_put text old new is file =
+    ⊎_elim (λ same. ap (λ (f : Folder). f (name.Mail file)) same)
+    (λ put. ap (λ (f : Folder). f (name.Mail file)) put ∙ with_else old name.Log (Some text) (name.Mail file) (λ e. cc)) is
+
+pub repaired_mails : (owed : Option Turn) (log : LogFile) {T E : Type 0} (result : Result T E) (old new : Folder) → RepairsFiles owed log result old new → (file : ℕ) → new (name.Mail file) ≡ old (name.Mail file)
+repaired_mails None log result old new is file = is.others (name.Mail file) (λ e. cc)
+repaired_mails (Some turn) log (Ok x) old new is file = repaired_mails_put turn.new old new (inr is) file
+repaired_mails (Some turn) log (Err e) old new is file = repaired_mails_put turn.new old new is file
+
 -- ---- a group that isn't written
 
 pub later_stays : {S C : Type 0} (sees : SeesFolder S) (records : List Record) (files : Files) (old : State S C) → ((c : Folder) → sees.left_since old.shelf (sees.moment old.shelf) c → sees.may_leave old.shelf c) → {T E : Type 0} (e : E)
@@ -215,18 +229,6 @@ later_stays sees records files old now e = λ messages after rest gives through.
     λ n away. refl,
   ),
 )
-
--- ---- answers
-
-pub failure_answers : {A : Type 0} (chain : Chain) (r : Result A StorageFault) → IfErr r IsFailure → AnswersPurge chain r
-failure_answers chain (Ok x) failure = tt
-failure_answers chain (Err (fault.Disk faults)) failure = tt
-failure_answers chain (Err fault.NoMemory) failure = tt
-failure_answers chain (Err fault.None) failure = absurd failure
-failure_answers chain (Err fault.Full) failure = absurd failure
-failure_answers chain (Err fault.Ids) failure = absurd failure
-failure_answers chain (Err fault.Files) failure = absurd failure
-failure_answers chain (Err (fault.TooLong bytes)) failure = absurd failure
 
 -- ---- what comes of calls that only fail
 

@@ -1,5 +1,5 @@
 -- What a purge finds in the rows of a map and in a file.
-use Rattle.std.specs.Prelude.{◌≡◌, ◌⊎◌, ℕ, ◌+◌, ◌^◌, ◌<◌, ◌≤◌, List, [], ◌∷◌, ◌++◌, All, Contains, IfSome, IsSomeAnd, Option, Some, None, filter, length, map}
+use Rattle.std.specs.Prelude.{◌≡◌, ◌≢◌, ◌⊎◌, ℕ, ◌^◌, ◌<◌, ◌≤◌, List, [], ◌∷◌, ◌++◌, All, Contains, IfSome, IsSomeAnd, Option, Some, None, filter, map}
 use Rattle.dv_model.specs.declared.types.Mailbox.{Mailbox}
 use Rattle.dv_model.specs.Journals.{Damaged}
 use Rattle.dv_shelf.specs.declared.shelf.Name.{Name}
@@ -24,21 +24,20 @@ pub record IsLess (from : ℕ) (least : Option ℕ) (row : Mapped) (now : Option
   pub is : IfSome now (λ b. (least ≡ Some b)
       ⊎ ((row.count ≡ 0) × (row.place.file ≡ b) × (from ≤ b)))
 
--- there is one whole text at the place, or it is damaged
+-- there is one whole text at the place, exactly where it isn't damaged
 abbrev pub GathersFrom : List ℕ → Place → Option (List ℕ) → Type 0
 GathersFrom bytes place None = text_in (Some bytes) place ≡ Damaged
 GathersFrom bytes place (Some text) =
-    (text ≡ bytes_in bytes place) × (place.offset + place.size ≤ length bytes)
+    (text ≡ bytes_in bytes place) × (text_in (Some bytes) place ≢ Damaged)
 
--- The texts of some rows in a file, one behind another; none where one is damaged, or where they
--- are too long together.
+-- The texts of some rows in a file, one behind another, exactly where each is whole and they aren't
+-- too long together; none where one is damaged, or where they are too long.
 abbrev pub Gathers : Option (List ℕ) → List Mapped → Option (List ℕ) → Type 0
 Gathers file rows None =
     ((r : Mapped) × Contains rows r × (text_in file r.place ≡ Damaged)) ⊎ (2 ^ 32 ≤ size_of rows)
 Gathers file rows (Some texts) =
-    (bytes : List ℕ) × (file ≡ Some bytes)
-    × (texts ≡ texts_in bytes rows)
-    × All (λ r. r.place.offset + r.place.size ≤ length bytes) rows × (size_of rows < 2 ^ 32)
+    (bytes : List ℕ) × (file ≡ Some bytes) × (texts ≡ texts_in bytes rows)
+    × All (λ r. text_in file r.place ≢ Damaged) rows × (size_of rows < 2 ^ 32)
 
 -- the rows of a file: those that it keeps, and the ids of the others
 pub record AreRowsOf (m : Mailbox) (file : ℕ) (rows : FileRows) : Type 0 where

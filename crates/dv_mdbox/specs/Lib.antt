@@ -7,3 +7,4 @@ pub mod Writes
 pub mod Answers
 pub mod Purging
 pub mod Gathering
+pub mod Purged

@@ -1,12 +1,13 @@
 -- What a purge does to a storage: to the map, file by file, and to the folder. The records take
 -- what a shelf shows.
-use Rattle.std.specs.Prelude.{◌≡◌, ◌≢◌, ◌⊎◌, ℕ, ◌+◌, ◌^◌, ◌<◌, ◌≤◌, List, [], ◌∷◌, ◌++◌, All, Contains, IsSome, Option, Some, None, Result, Ok, Err, OnErr, OnOk, filter, length, map, ⊤}
+use Rattle.std.specs.Prelude.{◌≡◌, ◌≢◌, ◌⊎◌, ℕ, ◌+◌, ◌^◌, ◌<◌, ◌≤◌, List, [], ◌∷◌, ◌++◌, All, Contains, IsSome, Option, Some, None, Result, Ok, Err, OnErr, OnOk, filter, flat_map, length, map, false, true, ⊤}
 use Rattle.dv_model.specs.declared.types.Mailbox.{Mailbox}
 use Rattle.dv_model.specs.declared.types.Mark.{Mark}
 use Rattle.dv_model.specs.declared.types.Record.{Record}
 use Rattle.dv_model.specs.Effects.{applied}
-use Rattle.dv_model.specs.Journals.{Damaged}
-use Rattle.dv_model.specs.Sessions.{group_limit}
+use Rattle.dv_model.specs.Journals.{Damaged, mark_behind}
+use Rattle.dv_model.specs.Sessions.{group_limit, is_log_full}
+use Rattle.dv_model.specs.Spelling.{written}
 use Rattle.dv_shelf.specs.declared.shelf.Name.TheVariants as name
 use Rattle.dv_shelf.specs.Clocks.{behind}
 use Rattle.dv_shelf.specs.Crashes.{LeavesOnly}
@@ -28,7 +29,7 @@ use Rattle.dv_mdbox.specs.declared.gathering.FileRows.{FileRows}
 use Rattle.dv_mdbox.specs.declared.fault.StorageFault.{StorageFault}
 use Rattle.dv_mdbox.specs.declared.fault.StorageFault.TheVariants as fault
 use Rattle.dv_mdbox.specs.declared.tails.Tail.{Tail}
-use Rattle.dv_mdbox.specs.Answers.{IsFull}
+use Rattle.dv_mdbox.specs.Answers.{IsFailure}
 use Rattle.dv_mdbox.specs.States.{IsAtRest, State, mark_from}
 use Rattle.dv_mdbox.specs.Tails.{IsTailOf, number_behind, tail_file}
 use Rattle.dv_mdbox.specs.Writes.{WritesBeside, entry_of}
@@ -48,10 +49,20 @@ abbrev pub IsNextFile : Mailbox → ℕ → Type 0
 IsNextFile m new =
     (tail : Option Tail) × IsTailOf m m.rows tail × (new ≡ number_behind (tail_file tail))
 
--- of the files from a number on it is the first that has a row without references
+-- the map names the last number, so that none is left for a new file
+abbrev pub NamesLast : Mailbox → Type 0
+NamesLast m =
+    (tail : Option Tail) × IsTailOf m m.rows tail × (tail_file tail ≡ Some 4294967295)
+
+-- the file has a row without references
+abbrev pub HasGone : Mailbox → ℕ → Type 0
+HasGone m file =
+    (r : Mapped) × Contains (all_mapped m) r × (r.count ≡ 0) × (r.place.file ≡ file)
+
+-- of the files from a number on it is the first that has one
 pub record IsNextGone (m : Mailbox) (from file : ℕ) : Type 0 where
   pub from_there : from ≤ file
-  pub some : (r : Mapped) × Contains (all_mapped m) r × (r.count ≡ 0) × (r.place.file ≡ file)
+  pub some : HasGone m file
   pub first : All (λ r. r.count ≡ 0 → (r.place.file < from) ⊎ (file ≤ r.place.file)) (all_mapped m)
 
 -- there is none
@@ -72,25 +83,86 @@ IsPassedOver folder m file =
     ((r : Mapped) × Contains (kept_rows m file) r × (text_at folder r.place ≡ Damaged))
     ⊎ (2 ^ 32 ≤ kept_size file (all_mapped m))
 
--- the file is rewritten by a group: its kept texts go into the next file, where it keeps some
-pub record IsRewritten (m : Mailbox) (file new : ℕ) (after : Mailbox) : Type 0 where
+-- each text that the file keeps is whole in this folder, and they are short enough for a new one
+pub record IsFit (folder : Folder) (m : Mailbox) (file : ℕ) : Type 0 where
+  pub whole : All (λ r. text_at folder r.place ≢ Damaged) (kept_rows m file)
   pub short : kept_size file (all_mapped m) < 2 ^ 32
+
+-- so it is by what is known of the folder, or the file is passed over
+abbrev pub FitsKnown : Option Folder → Mailbox → ℕ → Type 0
+FitsKnown None m file = kept_size file (all_mapped m) < 2 ^ 32
+FitsKnown (Some folder) m file = IsFit folder m file
+
+abbrev pub PassesKnown : Option Folder → Mailbox → ℕ → Type 0
+PassesKnown None m file = ⊤
+PassesKnown (Some folder) m file = IsPassedOver folder m file
+
+-- its kept texts go into a file of this number, where it keeps some
+pub record IsNumberFor (m : Mailbox) (file new : ℕ) : Type 0 where
   pub above : (kept_rows m file ≡ []) ⊎ IsNextFile m new
   pub low : new < 2 ^ 32
+
+-- the file is rewritten by a group
+pub record IsRewritten (m : Mailbox) (file new : ℕ) (after : Mailbox) : Type 0 where
+  pub number : IsNumberFor m file new
   pub group : applied m (file_records file new (all_mapped m)) ≡ Some after
+  pub map : IsMap m → Rewrites file new m after
 
 -- ---- the map, file by file
 
--- by rising number each file that has a row without references is passed over, or rewritten by a
--- group; so it is from one number to another
-abbrev pub PurgesFiles : ℕ → Mailbox → List ℕ → List (List Record) → ℕ → Mailbox → Type 0
-PurgesFiles from m [] groups to after = (groups ≡ []) × (to ≡ from) × (after ≡ m)
-PurgesFiles from m (file ∷ files) groups to after =
+-- By rising number each file that has a row without references is rewritten by a group, where its
+-- kept texts are fit for that, and else passed over, by what is known of the folder. So it is from
+-- one number to another.
+abbrev pub PurgesFiles : Option Folder → ℕ → Mailbox → List ℕ → List (List Record) → ℕ → Mailbox
+    → Type 0
+PurgesFiles known from m [] groups to after = (groups ≡ []) × (to ≡ from) × (after ≡ m)
+PurgesFiles known from m (file ∷ files) groups to after =
     IsNextGone m from file
-    × (PurgesFiles (file + 1) m files groups to after
-    ⊎ ((new : ℕ) × (next : Mailbox) × (more : List (List Record)) × IsRewritten m file new next
+    × ((PassesKnown known m file × PurgesFiles known (file + 1) m files groups to after)
+    ⊎ (FitsKnown known m file × (new : ℕ) × (next : Mailbox) × (more : List (List Record))
+    × IsRewritten m file new next
     × (groups ≡ file_records file new (all_mapped m) ∷ more)
-    × PurgesFiles (file + 1) next files more to after))
+    × PurgesFiles known (file + 1) next files more to after))
+
+-- ---- room for its groups
+
+-- the bytes of a group
+abbrev pub group_size : List Record → ℕ
+group_size records = length (flat_map written records)
+
+-- a group of so many bytes is short enough, and has room behind this place
+abbrev pub HasRoomAt : Mark → ℕ → Type 0
+HasRoomAt mark size = (size ≤ group_limit) × (is_log_full true mark size ≡ false)
+
+-- or it hasn't
+abbrev pub LacksRoomAt : Mark → ℕ → Type 0
+LacksRoomAt mark size = (group_limit < size) ⊎ (is_log_full true mark size ≡ true)
+
+-- each of these groups has room behind those before it
+abbrev pub HaveRoom : Mark → List (List Record) → Type 0
+HaveRoom mark [] = ⊤
+HaveRoom mark (records ∷ more) =
+    HasRoomAt mark (group_size records)
+    × HaveRoom (mark_behind true mark (record { records = records })) more
+
+-- A group of so many bytes was put behind the place: TooLong is answered exactly where it has no
+-- room there.
+abbrev pub FindsRoomAt : Mark → ℕ → {A : Type 0} → Result A StorageFault → Type 0
+FindsRoomAt mark size (Ok x) = HasRoomAt mark size
+FindsRoomAt mark size (Err (fault.TooLong bytes)) = (bytes ≡ size) × LacksRoomAt mark size
+FindsRoomAt mark size (Err (fault.Disk faults)) = HasRoomAt mark size
+FindsRoomAt mark size (Err fault.NoMemory) = ⊤
+FindsRoomAt mark size (Err other) = ⊥
+
+-- A file that is fit isn't rewritten, as no number is left for the new file that it needs, or its
+-- group has no room behind this place.
+abbrev pub IsStuck : Option Folder → Mark → Mailbox → ℕ → StorageFault → Type 0
+IsStuck known mark m file fault.Files =
+    FitsKnown known m file × (kept_rows m file ≡ [] → ⊥) × NamesLast m
+IsStuck known mark m file (fault.TooLong bytes) =
+    FitsKnown known m file × (new : ℕ) × IsNumberFor m file new
+    × (bytes ≡ group_size (file_records file new (all_mapped m))) × LacksRoomAt mark bytes
+IsStuck known mark m file other = ⊥
 
 -- what a crash leaves gives the map from before, or that with what was owed, or one without some
 -- ids that have no reference
@@ -102,27 +174,62 @@ MayGivePurge messages debt chain c =
     × Gives messages chain.indexid m mark c)
 
 module _ {S C : Type 0} where
-  -- The groups of these files are the last entries, and the mark is the place behind them.
-  pub record PurgesTo (from : ℕ) (files : List ℕ) (to : ℕ) (old new : State S C) : Type 0 where
+  -- The groups of these files are the last entries, each had room, and the mark is the place behind
+  -- them.
+  pub record PurgesTo (known : Option Folder) (from : ℕ) (files : List ℕ) (to : ℕ)
+      (old new : State S C) : Type 0 where
     pub groups : List (List Record)
-    pub goes : PurgesFiles from old.chain.live.mailbox files groups to new.chain.live.mailbox
+    pub goes : PurgesFiles known from old.chain.live.mailbox files groups to
+        new.chain.live.mailbox
+    pub room : HaveRoom old.mark groups
     pub entries : new.entries ≡ old.entries ++ map entry_of groups
     pub mark : new.mark ≡ mark_from old.mark (map entry_of groups)
     pub start : new.start ≡ old.start
     pub indexid : new.chain.indexid ≡ old.chain.indexid
 
-  -- Behind Ok all files were taken. An error comes behind some of them.
-  abbrev pub PurgesMap : State S C → State S C → {T E : Type 0} → Result T E → Type 0
-  PurgesMap old new (Ok n) =
-      (files : List ℕ) × (to : ℕ) × PurgesTo 0 files to old new
-      × NoneGoneFrom new.chain.live.mailbox to
-  PurgesMap old new (Err e) = (files : List ℕ) × (to : ℕ) × PurgesTo 0 files to old new
+  -- the next file from a number on is stuck; or memory ran out, or the disk failed
+  abbrev pub StopsAt : Option Folder → ℕ → State S C → StorageFault → Type 0
+  StopsAt known to s e =
+      IsFailure e
+      ⊎ ((file : ℕ) × IsNextGone s.chain.live.mailbox to file
+      × IsStuck known s.mark s.chain.live.mailbox file e)
 
-  -- one file: behind Ok it was taken; an error comes before its group, or behind it
-  abbrev pub TakesFile : ℕ → ℕ → State S C → State S C → {T E : Type 0} → Result T E → Type 0
-  TakesFile from file old new (Ok n) = PurgesTo from (file ∷ []) (file + 1) old new
-  TakesFile from file old new (Err e) =
-      PurgesTo from [] from old new ⊎ PurgesTo from (file ∷ []) (file + 1) old new
+  -- Behind Ok all files were taken. An error comes behind some of them, where it stops: Files and
+  -- TooLong exactly where the next file is stuck so.
+  abbrev pub PurgesMap : Option Folder → State S C → State S C → {T : Type 0}
+      → Result T StorageFault → Type 0
+  PurgesMap known old new (Ok n) =
+      (files : List ℕ) × (to : ℕ) × PurgesTo known 0 files to old new
+      × NoneGoneFrom new.chain.live.mailbox to
+  PurgesMap known old new (Err e) =
+      (files : List ℕ) × (to : ℕ) × PurgesTo known 0 files to old new × StopsAt known to new e
+
+  -- One file: behind Ok it was taken. An error comes before its group, where the file is stuck, or
+  -- memory or the disk failed; or behind the group, where one of these did.
+  abbrev pub TakesFile : Option Folder → ℕ → ℕ → State S C → State S C → {T : Type 0}
+      → Result T StorageFault → Type 0
+  TakesFile known from file old new (Ok n) =
+      PurgesTo known from (file ∷ []) (file + 1) old new
+  TakesFile known from file old new (Err e) =
+      (PurgesTo known from [] from old new
+      × (IsFailure e ⊎ IsStuck known new.mark new.chain.live.mailbox file e))
+      ⊎ (PurgesTo known from (file ∷ []) (file + 1) old new × IsFailure e)
+
+  -- ---- what is known of the folder
+
+  -- a message file is known as a read gives it, where anything is known
+  abbrev pub KnowsFile : SeesFolder S → Option Folder → ℕ → State S C → Type 0
+  KnowsFile sees None file s = ⊤
+  KnowsFile sees (Some folder) file s =
+      sees.tells × (sees.files s.shelf (name.Mail file) ≡ folder (name.Mail file))
+
+  -- so is each that the map names, of a storage at rest
+  abbrev pub KnowsFiles : SeesFolder S → Option Folder → State S C → Type 0
+  KnowsFiles sees None s = ⊤
+  KnowsFiles sees (Some folder) s =
+      sees.tells × ((messages : Messages) × IsAtRest sees messages Nothing s)
+      × ((file : ℕ) → IsNamed s.chain.live.mailbox file
+      → sees.files s.shelf (name.Mail file) ≡ folder (name.Mail file))
 
   -- ---- the folder
 
@@ -183,10 +290,12 @@ pub record IsTakenAway (file : ℕ) (old new : Folder) (m after : Mailbox) : Typ
   pub others : (n : ℕ) → n ≢ file → (n ≢ number) ⊎ (kept_rows m file ≡ [])
       → new (name.Mail n) ≡ old (name.Mail n)
 
--- or it is passed over, and nothing is changed
+-- So it is exactly where its kept texts are fit for that. Else it is passed over, and nothing is
+-- changed.
 abbrev pub IsTaken : ℕ → Folder → Folder → Mailbox → Mailbox → Type 0
 IsTaken file old new m after =
-    (IsPassedOver old m file × (after ≡ m) × (new ≡ old)) ⊎ IsTakenAway file old new m after
+    (IsPassedOver old m file × (after ≡ m) × (new ≡ old))
+    ⊎ (IsFit old m file × IsTakenAway file old new m after)
 
 -- each message file is named by the map, and ids without references are those of files that are
 -- passed over
@@ -206,21 +315,8 @@ pub record IsClearedTo (from : ℕ) (folder : Folder) (m : Mailbox) : Type 0 whe
 abbrev pub TakesSome : (ℕ → ℕ) → (ℕ → ℕ) → Type 0
 TakesSome old new = (n : ℕ) × (new ≡ behind old n)
 
--- the number behind the highest that the map names, or none behind the last one
+-- the number behind the highest that the map names, or none where that is the last one
 abbrev pub NumbersFile : Mailbox → Result ℕ StorageFault → Type 0
 NumbersFile m (Ok file) = IsNextFile m file
-NumbersFile m (Err fault.Files) =
-    (tail : Option Tail) × IsTailOf m m.rows tail × (tail_file tail ≡ Some 4294967295)
+NumbersFile m (Err fault.Files) = NamesLast m
 NumbersFile m (Err other) = ⊥
-
--- Files comes only where no number is left for a new file, and TooLong only where a group has no
--- room; the disk may fail, and memory may run out.
-abbrev pub AnswersPurge : Chain → {A : Type 0} → Result A StorageFault → Type 0
-AnswersPurge chain (Ok n) = ⊤
-AnswersPurge chain (Err fault.Files) =
-    (tail : Option Tail) × IsTailOf chain.live.mailbox chain.live.mailbox.rows tail
-    × (tail_file tail ≡ Some 4294967295)
-AnswersPurge chain (Err (fault.TooLong bytes)) = (group_limit < bytes) ⊎ IsFull chain bytes
-AnswersPurge chain (Err (fault.Disk faults)) = ⊤
-AnswersPurge chain (Err fault.NoMemory) = ⊤
-AnswersPurge chain (Err other) = ⊥

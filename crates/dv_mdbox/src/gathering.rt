@@ -1,52 +1,48 @@
 //! What a purge finds in the rows of a map and in a file.
 
-ghost use Rattle.std.specs.Prelude.{◌≡◌, ◌^◌, ◌<◌, ◌≤◌, IfOk, IfSome, MatchBool, MatchOption, OnOk, Some, length};
+ghost use Rattle.std.specs.Prelude.{◌≡◌, ◌^◌, ◌<◌, ◌≤◌, IfOk, IfSome, MatchOption, OnOk, Some, length};
 ghost use Rattle.std.specs.Option.{option_copied};
-ghost use Rattle.dv_maps.specs.Purges.{size_of};
+ghost use Rattle.dv_model.specs.declared.types.Mailbox.{Mailbox};
+ghost use Rattle.dv_maps.specs.Purges.{all_mapped, size_of};
+ghost use Rattle.dv_maps.specs.Tables.{IsTableOf};
 ghost use Rattle.dv_chain.specs.Openings.{OnlyLooks};
 ghost use Rattle.dv_shelf.specs.Causes.{HasCauseOf};
 ghost use Rattle.dv_shelf.specs.declared.shelf.Name.TheVariants as name;
 ghost use Rattle.dv_mdbox.specs.Gathering.{AddsRow, AreOrphans, AreRowsOf, Gathers, GathersFrom, IsLess};
-ghost use Rattle.dv_mdbox.specs.Purging.{IsNamed, IsNextGone, NoneGoneFrom};
+ghost use Rattle.dv_mdbox.specs.Purging.{IsNextGone, NoneGoneFrom};
 
 use crate::Got;
+use crate::listing::file_table;
 use crate::looking::{bytes_at, message_of};
 use crate::tails::number_of;
 use dv_apply::Live;
-use dv_maps::{Mapped, read_row};
+use dv_maps::{FileTable, Mapped, read_row};
 use dv_model::{Bytes, NoMemory};
 use dv_shelf::{Name, Shelf, ShelfFault};
 use std::alloc::Global;
 
-/// Whether a row names a file. Takes no memory, and time by the rows.
-fn is_named(live: &Live, file: u32) -> bool
-    ensures { MatchBool result (IsNamed live.now.mailbox file)
-        (IsNamed live.now.mailbox file → ⊥) }
+/// The message files of a listing that no row of a table names. `NoMemory` is the only error.
+fn unnamed(alloc: Global, table: &FileTable, names: &[Name]) -> Result<Vec<u32>, NoMemory>
+    ensures { IfOk result (λ files. (m : Mailbox) → IsTableOf (all_mapped m) table.now →
+        AreOrphans m names.now files.items) }
 {
-    let extensions = live.extensions().list().as_slice();
-    for k in 0..live.count() {
-        let row = live.row(k);
-        let mapped = read_row(extensions, row);
-        if mapped.place.file == file {
-            return true;
+    let mut files = Vec::new(alloc);
+    for name in names {
+        if let Some(file) = number_of(*name) {
+            if !table.is_named(file) {
+                files.push(file)?;
+            }
         }
     }
-    false
+    Ok(files)
 }
 
 /// The message files of a listing that no row names. `NoMemory` is the only error.
 pub(crate) fn orphans(alloc: Global, live: &Live, names: &[Name]) -> Result<Vec<u32>, NoMemory>
     ensures { IfOk result (λ files. AreOrphans live.now.mailbox names.now files.items) }
 {
-    let mut files = Vec::new(alloc);
-    for name in names {
-        if let Some(file) = number_of(*name) {
-            if !is_named(live, file) {
-                files.push(file)?;
-            }
-        }
-    }
-    Ok(files)
+    let table = file_table(alloc, live)?;
+    unnamed(alloc, &table, names)
 }
 
 /// The lesser of a number and that of a row without references, from a number on.

@@ -6,6 +6,7 @@ mod counting;
 mod fault;
 mod gathering;
 mod got;
+mod listing;
 mod looking;
 mod opening;
 mod purging;

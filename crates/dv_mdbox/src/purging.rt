@@ -1,15 +1,17 @@
 //! Ids that have no reference are removed, and the files rewritten that have some.
 
-ghost use Rattle.std.specs.Prelude.{◌≡◌, ◌-◌, ◌^◌, ◌<◌, ◌≤◌, All, IfErr, IfOk, IfSome, List, MatchOption, OnOk, length, ℕ};
+ghost use Rattle.std.specs.Prelude.{◌≡◌, ◌-◌, ◌^◌, ◌<◌, ◌≤◌, All, IfErr, IfOk, IfSome, List, MatchOption, None, OnOk, Option, Some, length, ℕ};
 ghost use Rattle.dv_logfile.specs.Settling.{StaysSettled};
 ghost use Rattle.dv_shelf.specs.declared.shelf.Name.TheVariants as name;
+ghost use Rattle.dv_shelf.specs.Folders.{Folder};
 ghost use Rattle.dv_chain.specs.Openings.{OnlyLooks};
 ghost use Rattle.dv_chain.specs.Rest.{Nothing, Owed};
 ghost use Rattle.dv_maps.specs.Purges.{StandsIn, size_of, texts_in};
 ghost use Rattle.dv_maps.specs.Texts.{Messages};
 ghost use Rattle.dv_mdbox.specs.Answers.{HasStorageCause, IsFailure};
 ghost use Rattle.dv_mdbox.specs.Gathering.{AreRowsOf, Gathers};
-ghost use Rattle.dv_mdbox.specs.Purging.{AllNamed, AnswersPurge, IsCleared, IsNextGone, IsTaken, IsTakenAway, NoneGoneFrom, NumbersFile, PurgesMap, PurgesQuietly, TakesFile, TakesSome};
+ghost use Rattle.dv_mdbox.specs.Purged.{IsPurged, KeepsNamed};
+ghost use Rattle.dv_mdbox.specs.Purging.{AllNamed, FitsKnown, IsCleared, IsNextGone, IsTaken, IsTakenAway, KnowsFile, KnowsFiles, NoneGoneFrom, NumbersFile, PurgesMap, PurgesQuietly, TakesFile, TakesSome};
 ghost use Rattle.dv_mdbox.specs.States.{IsAtRest, IsLookedAt};
 
 use crate::fault::told;
@@ -93,8 +95,10 @@ impl<S: Shelf, C: Clock> Storage<S, C> {
         requires rows { AreRowsOf self.old.chain.live.mailbox file rows }
         requires some { (1 ≤ length rows.kept.items) × (1 ≤ length rows.gone.items) }
         requires short { size_of rows.kept.items < 2 ^ 32 }
-        ensures value { (from : ℕ) → IsNextGone self.old.chain.live.mailbox from file →
-            TakesFile from file self.old self.new result }
+        ensures value { (from : ℕ) (known : Option Folder) →
+            IsNextGone self.old.chain.live.mailbox from file →
+            FitsKnown known self.old.chain.live.mailbox file →
+            TakesFile known from file self.old self.new result }
         ensures gives { S.sees.tells → (messages : Messages) (bytes : List ℕ) →
             IsAtRest S.sees messages Nothing self.old →
             texts ≡ texts_in bytes rows.kept.items →
@@ -106,7 +110,6 @@ impl<S: Shelf, C: Clock> Storage<S, C> {
         ensures settled { S.sees.tells → StaysSettled S.sees self.old.shelf self.new.shelf }
         ensures clock { C.sees.tells →
             TakesSome (C.sees.upcoming self.old.clock) (C.sees.upcoming self.new.clock) }
-        ensures answers { AnswersPurge self.new.chain result }
         ensures cause { HasStorageCause (S.sees.fault_count self.old.shelf)
             (S.sees.fault_count self.new.shelf) result }
     {
@@ -119,8 +122,10 @@ impl<S: Shelf, C: Clock> Storage<S, C> {
     fn move_texts(&mut self, file: u32, rows: FileRows) -> Result<(), StorageFault>
         requires rows { AreRowsOf self.old.chain.live.mailbox file rows }
         requires some { (1 ≤ length rows.kept.items) × (1 ≤ length rows.gone.items) }
-        ensures value { (from : ℕ) → IsNextGone self.old.chain.live.mailbox from file →
-            TakesFile from file self.old self.new result }
+        ensures value { (from : ℕ) (known : Option Folder) →
+            IsNextGone self.old.chain.live.mailbox from file →
+            KnowsFile S.sees known file self.old →
+            TakesFile known from file self.old self.new result }
         ensures gives { S.sees.tells → (messages : Messages) →
             IsAtRest S.sees messages Nothing self.old →
             PurgesQuietly S.sees messages Nothing self.old self.new result
@@ -130,7 +135,6 @@ impl<S: Shelf, C: Clock> Storage<S, C> {
         ensures settled { S.sees.tells → StaysSettled S.sees self.old.shelf self.new.shelf }
         ensures clock { C.sees.tells →
             TakesSome (C.sees.upcoming self.old.clock) (C.sees.upcoming self.new.clock) }
-        ensures answers { AnswersPurge self.new.chain result }
         ensures cause { HasStorageCause (S.sees.fault_count self.old.shelf)
             (S.sees.fault_count self.new.shelf) result }
     {
@@ -146,8 +150,10 @@ impl<S: Shelf, C: Clock> Storage<S, C> {
     /// keeps is damaged, or where those have 4 GiB or more.
     fn take_file(&mut self, file: u32) -> Result<(), StorageFault>
         requires { (from : ℕ) × IsNextGone self.old.chain.live.mailbox from file }
-        ensures value { (from : ℕ) → IsNextGone self.old.chain.live.mailbox from file →
-            TakesFile from file self.old self.new result }
+        ensures value { (from : ℕ) (known : Option Folder) →
+            IsNextGone self.old.chain.live.mailbox from file →
+            KnowsFile S.sees known file self.old →
+            TakesFile known from file self.old self.new result }
         ensures gives { S.sees.tells → (messages : Messages) →
             IsAtRest S.sees messages Nothing self.old →
             PurgesQuietly S.sees messages Nothing self.old self.new result
@@ -157,7 +163,6 @@ impl<S: Shelf, C: Clock> Storage<S, C> {
         ensures settled { S.sees.tells → StaysSettled S.sees self.old.shelf self.new.shelf }
         ensures clock { C.sees.tells →
             TakesSome (C.sees.upcoming self.old.clock) (C.sees.upcoming self.new.clock) }
-        ensures answers { AnswersPurge self.new.chain result }
         ensures cause { HasStorageCause (S.sees.fault_count self.old.shelf)
             (S.sees.fault_count self.new.shelf) result }
     {
@@ -172,7 +177,8 @@ impl<S: Shelf, C: Clock> Storage<S, C> {
 
     /// Takes each file that has a row without references, by rising number.
     fn take_files(&mut self) -> Result<(), StorageFault>
-        ensures value { PurgesMap self.old self.new result }
+        ensures value { (known : Option Folder) → KnowsFiles S.sees known self.old →
+            PurgesMap known self.old self.new result }
         ensures gives { S.sees.tells → (messages : Messages) →
             IsAtRest S.sees messages Nothing self.old →
             PurgesQuietly S.sees messages Nothing self.old self.new result }
@@ -181,10 +187,13 @@ impl<S: Shelf, C: Clock> Storage<S, C> {
             AllNamed (S.sees.files self.old.shelf) self.old.chain.live.mailbox →
             OnOk result
             (IsCleared (S.sees.files self.new.shelf) self.new.chain.live.mailbox) }
+        ensures kept { S.sees.tells → (messages : Messages) →
+            IsAtRest S.sees messages Nothing self.old →
+            OnOk result (KeepsNamed (S.sees.files self.old.shelf) (S.sees.files self.new.shelf)
+            self.old.chain.live.mailbox self.new.chain.live.mailbox) }
         ensures settled { S.sees.tells → StaysSettled S.sees self.old.shelf self.new.shelf }
         ensures clock { C.sees.tells →
             TakesSome (C.sees.upcoming self.old.clock) (C.sees.upcoming self.new.clock) }
-        ensures answers { AnswersPurge self.new.chain result }
         ensures cause { HasStorageCause (S.sees.fault_count self.old.shelf)
             (S.sees.fault_count self.new.shelf) result }
     {
@@ -201,18 +210,25 @@ impl<S: Shelf, C: Clock> Storage<S, C> {
     /// message files that the map doesn't name are removed. Then by rising number each file that
     /// has an id without references is rewritten: the texts of its other ids go into a new file, a
     /// group removes the ids and says the new places, and the file is removed. A file in which such
-    /// a text is damaged is passed over, and so is one where they have 4 GiB or more; so ids
-    /// without references may stay there. `Files` comes only where a new file is needed and no
-    /// number is left for it, and `TooLong` only where a group has more than 64 MiB, or where the
-    /// log is full and no file can follow it. `Disk` comes only where the shelf's count of faults
-    /// rose. After an error the ids are as before, but that those that went with a group stay gone.
+    /// a text is damaged is passed over, and so is one where they have 4 GiB or more, and no other:
+    /// their ids stay. `Files` comes exactly where the next file that isn't passed over needs a new
+    /// one and no number is left for it, and `TooLong` exactly where its group has more than 64 MiB,
+    /// or where the log is full and no file can follow it. `Disk` comes only where the shelf's count
+    /// of faults rose. After an error the ids are as before, but that those that went with a group
+    /// stay gone.
     pub fn purge(&mut self) -> Result<u32, StorageFault>
-        // Which error it is, and how many ids went.
-        ensures answers { AnswersPurge self.new.chain result }
+        // How many ids went, and what becomes of the map, file by file, over any shelf.
         ensures count { IfOk result (λ n. n ≡ length self.old.chain.live.mailbox.rows
             - length self.new.chain.live.mailbox.rows) }
-        // What becomes of the map, file by file, over any shelf.
-        ensures value { PurgesMap self.old self.new result }
+        ensures value { PurgesMap None self.old self.new result }
+        // Which files are rewritten, by the folder, and where an error comes; which ids went.
+        ensures exact { S.sees.tells → (messages : Messages) (debt : Owed) →
+            IsAtRest S.sees messages debt self.old →
+            PurgesMap (Some (S.sees.files self.old.shelf)) self.old self.new result }
+        ensures purged { S.sees.tells → (messages : Messages) (debt : Owed) →
+            IsAtRest S.sees messages debt self.old →
+            IfOk result (IsPurged (S.sees.files self.old.shelf) (S.sees.files self.new.shelf)
+            self.old.chain.live.mailbox self.new.chain.live.mailbox) }
         // The storage is without some ids that have no reference; from rest to rest.
         ensures gives { S.sees.tells → (messages : Messages) (debt : Owed) →
             IsAtRest S.sees messages debt self.old →

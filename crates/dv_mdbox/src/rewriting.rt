@@ -1,17 +1,18 @@
 //! A file is rewritten.
 
-ghost use Rattle.std.specs.Prelude.{◌≡◌, ◌⊎◌, ◌^◌, ◌<◌, ◌≤◌, List, All, IfOk, MatchBool, OnOk, flat_map, length, ℕ};
+ghost use Rattle.std.specs.Prelude.{◌≡◌, ◌⊎◌, ◌^◌, ◌<◌, ◌≤◌, List, All, IfOk, MatchBool, OnOk, Option, flat_map, length, ℕ};
 ghost use Rattle.dv_model.specs.Sessions.{group_limit};
 ghost use Rattle.dv_model.specs.Mailboxes.{IsValid};
 ghost use Rattle.dv_model.specs.Spelling.{IsRecord, written};
 ghost use Rattle.dv_logfile.specs.Settling.{StaysSettled};
+ghost use Rattle.dv_shelf.specs.Folders.{Folder};
 ghost use Rattle.dv_chain.specs.Rest.{Nothing};
 ghost use Rattle.dv_filing.specs.Files as filing;
 ghost use Rattle.dv_maps.specs.Groups.{purge_records as records_of};
 ghost use Rattle.dv_maps.specs.Purges.{AreSpelled, moved, size_of as bytes_of};
 ghost use Rattle.dv_maps.specs.Texts.{Messages};
 ghost use Rattle.dv_mdbox.specs.Answers.{HasRoom, HasStorageCause, IsFull};
-ghost use Rattle.dv_mdbox.specs.Purging.{AnswersPurge, IsNextGone, IsRewriteOf, IsTakenAway, PurgesQuietly, TakesFile, TakesSome, WritesKept, WritesLater};
+ghost use Rattle.dv_mdbox.specs.Purging.{FindsRoomAt, FitsKnown, IsNextGone, IsRewriteOf, IsTakenAway, PurgesQuietly, TakesFile, TakesSome, WritesKept, WritesLater, group_size};
 ghost use Rattle.dv_mdbox.specs.States.{IsAtRest};
 ghost use Rattle.dv_mdbox.specs.Writes.{WritesGroup};
 
@@ -85,7 +86,8 @@ impl<S: Shelf, C: Clock> Storage<S, C> {
         ensures settled { S.sees.tells → StaysSettled S.sees self.old.shelf self.new.shelf }
         ensures clock { C.sees.tells →
             TakesSome (C.sees.upcoming self.old.clock) (C.sees.upcoming self.new.clock) }
-        ensures answers { AnswersPurge self.new.chain result }
+        // TooLong comes exactly where it has no room.
+        ensures room { FindsRoomAt self.old.mark (group_size records) result }
         ensures cause { HasStorageCause (S.sees.fault_count self.old.shelf)
             (S.sees.fault_count self.new.shelf) result }
     {
@@ -107,8 +109,10 @@ impl<S: Shelf, C: Clock> Storage<S, C> {
         files: Files,
     ) -> Result<(), StorageFault>
         requires { IsRewriteOf self.old.chain.live.mailbox file new rows files }
-        ensures value { (from : ℕ) → IsNextGone self.old.chain.live.mailbox from file →
-            TakesFile from file self.old self.new result }
+        ensures value { (from : ℕ) (known : Option Folder) →
+            IsNextGone self.old.chain.live.mailbox from file →
+            FitsKnown known self.old.chain.live.mailbox file →
+            TakesFile known from file self.old self.new result }
         ensures gives { S.sees.tells → (messages : Messages) (bytes : List ℕ) →
             IsAtRest S.sees messages Nothing self.old →
             WritesKept messages self.old.chain.live.mailbox file new bytes files →
@@ -119,7 +123,6 @@ impl<S: Shelf, C: Clock> Storage<S, C> {
         ensures settled { S.sees.tells → StaysSettled S.sees self.old.shelf self.new.shelf }
         ensures clock { C.sees.tells →
             TakesSome (C.sees.upcoming self.old.clock) (C.sees.upcoming self.new.clock) }
-        ensures answers { AnswersPurge self.new.chain result }
         ensures cause { HasStorageCause (S.sees.fault_count self.old.shelf)
             (S.sees.fault_count self.new.shelf) result }
     {

@@ -1,8 +1,9 @@
 //! What comes before the first file of a purge, and removals.
 
-ghost use Rattle.std.specs.Prelude.{◌≡◌, [], IfErr, IfOk, OnOk};
+ghost use Rattle.std.specs.Prelude.{◌≡◌, [], IfErr, IfOk, OnOk, Option, ℕ};
 ghost use Rattle.dv_logfile.specs.Settling.{StaysSettled};
-ghost use Rattle.dv_shelf.specs.Folders.{Lists};
+ghost use Rattle.dv_shelf.specs.declared.shelf.Name.TheVariants as name;
+ghost use Rattle.dv_shelf.specs.Folders.{Folder, Lists};
 ghost use Rattle.dv_chain.specs.Openings.{OnlyLooks};
 ghost use Rattle.dv_chain.specs.Rest.{Nothing, Owed};
 ghost use Rattle.dv_filing.specs.Clearing.{Needs};
@@ -10,7 +11,7 @@ ghost use Rattle.dv_files.specs.Writing.{IsSwept};
 ghost use Rattle.dv_maps.specs.Texts.{Messages};
 ghost use Rattle.dv_mdbox.specs.Answers.{HasStorageCause, IsFailure};
 ghost use Rattle.dv_mdbox.specs.Gathering.{AreOrphans};
-ghost use Rattle.dv_mdbox.specs.Purging.{AllNamed, PurgesQuietly, PurgesTo};
+ghost use Rattle.dv_mdbox.specs.Purging.{AllNamed, IsNamed, PurgesQuietly, PurgesTo};
 ghost use Rattle.dv_mdbox.specs.States.{IsAtRest, IsLookedAt};
 
 use crate::fault::{outcome, told};
@@ -24,7 +25,9 @@ use dv_shelf::{Name, Shelf};
 impl<S: Shelf, C> Storage<S, C> {
     /// Pays what is owed.
     pub(crate) fn settle(&mut self) -> Result<(), StorageFault>
-        ensures value { PurgesTo 0 [] 0 self.old self.new }
+        ensures value { (known : Option Folder) → PurgesTo known 0 [] 0 self.old self.new }
+        ensures files { S.sees.tells → (file : ℕ) → S.sees.files self.new.shelf (name.Mail file)
+            ≡ S.sees.files self.old.shelf (name.Mail file) }
         ensures clock { self.new.clock ≡ self.old.clock }
         ensures gives { S.sees.tells → (messages : Messages) (debt : Owed) →
             IsAtRest S.sees messages debt self.old →
@@ -86,6 +89,10 @@ impl<S: Shelf, C> Storage<S, C> {
         ensures stays { IsLookedAt self.old self.new }
         ensures named { S.sees.tells → OnOk result
             (AllNamed (S.sees.files self.new.shelf) self.old.chain.live.mailbox) }
+        ensures kept { S.sees.tells → OnOk result ((file : ℕ) →
+            IsNamed self.old.chain.live.mailbox file →
+            S.sees.files self.new.shelf (name.Mail file)
+            ≡ S.sees.files self.old.shelf (name.Mail file)) }
         ensures gives { S.sees.tells → (messages : Messages) →
             IsAtRest S.sees messages Nothing self.old →
             PurgesQuietly S.sees messages Nothing self.old self.new result }

@@ -1,5 +1,5 @@
 -- The groups that calls write.
-use Rattle.std.proofs.Common.{◌≡◌, ℕ, ◌+◌, ◌-◌, ◌<◌, Bool, true, false, List, [], ◌∷◌, ◌++◌, length, map, Option, is_some, Result, Ok, Err, refl, sym, ◌∙◌, ap, subst, append_assoc}
+use Rattle.std.proofs.Common.{◌≡◌, ℕ, ◌+◌, ◌-◌, ◌<◌, Bool, true, false, List, [], ◌∷◌, ◌++◌, length, map, Option, None, is_some, Result, Ok, Err, refl, sym, ◌∙◌, ap, subst, append_assoc}
 use Rattle.std.proofs.lemmas.List.{append-nil, length-map, map-append}
 use Rattle.dv_model.specs.declared.types.Mailbox.{Mailbox}
 use Rattle.dv_model.specs.declared.types.Mark.{Mark}
@@ -91,7 +91,7 @@ module _ {S C : Type 0} (old new : State S C) where
   get_logs id (Ok got.Damaged) looked = logs_looked (Get id) old new looked
   get_logs id (Err e) looked = logs_fault (Get id) old new e (logs_looked (Get id) old new looked)
 
-  pub purge_logs : (result : Result ℕ StorageFault) → PurgesMap old new result → LogsCall Purge (purged_answer result) old new
+  pub purge_logs : (result : Result ℕ StorageFault) → PurgesMap None old new result → LogsCall Purge (purged_answer result) old new
   purge_logs (Ok n) value = record { groups = value.2.groups; writes = (value.0, value.1, value.2.goes, value.3); entries = value.2.entries; mark = value.2.mark }
   purge_logs (Err e) value = record {
     groups = value.2.groups;

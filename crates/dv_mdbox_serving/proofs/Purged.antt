@@ -20,7 +20,7 @@ use Rattle.dv_maps.specs.Texts.{Messages}
 use Rattle.dv_mdbox.specs.declared.fault.StorageFault.{StorageFault}
 use Rattle.dv_mdbox.specs.declared.fault.StorageFault.TheVariants as fault
 use Rattle.dv_mdbox.specs.Answers.{HasStorageCause}
-use Rattle.dv_mdbox.specs.Purging.{AnswersPurge, MayGivePurge, PurgesMap, PurgesQuietly, PurgesTo}
+use Rattle.dv_mdbox.specs.Purging.{MayGivePurge, PurgesMap, PurgesQuietly, PurgesTo, StopsAt}
 use Rattle.dv_mdbox.specs.States.{State}
 use Rattle.dv_mdbox.specs.Writes.{entry_of}
 use Rattle.dv_mdbox_lines.specs.declared.answers.Answer.{Answer}
@@ -203,24 +203,24 @@ module _ {S C : Type 0} (sees : SeesFolder S) (start : Storage) (base : ℕ) (ca
   come : (told : Option Answer) (gone : List ℕ) → All (λ id. references here id ≡ 0) gone → MayAnswer here Purge gone told → MayCome here (tried_of Purge told gone)
   come told gone none may = record { answer = may; gone = none; purge = λ no. absurd (no tt) }
 
-  may_fault : (e : StorageFault) (gone : List ℕ) → AnswersPurge new.chain {A = ℕ} (Err e) → MayAnswer here Purge gone (fault_answer e)
-  may_fault fault.NoMemory gone is = tt
-  may_fault (fault.Disk faults) gone is = tt
-  may_fault fault.None gone is = absurd is
-  may_fault fault.Full gone is = absurd is
-  may_fault fault.Ids gone is = absurd is
-  may_fault fault.Files gone is = tt
-  may_fault (fault.TooLong bytes) gone is = tt
+  may_fault : (e : StorageFault) (gone : List ℕ) (to : ℕ) → StopsAt None to new e → MayAnswer here Purge gone (fault_answer e)
+  may_fault fault.NoMemory gone to is = tt
+  may_fault (fault.Disk faults) gone to is = tt
+  may_fault fault.None gone to is = absurd (⊎_elim (λ no. no) (λ stuck. stuck.2) is)
+  may_fault fault.Full gone to is = absurd (⊎_elim (λ no. no) (λ stuck. stuck.2) is)
+  may_fault fault.Ids gone to is = absurd (⊎_elim (λ no. no) (λ stuck. stuck.2) is)
+  may_fault fault.Files gone to is = tt
+  may_fault (fault.TooLong bytes) gone to is = tt
 
   -- the groups of the files that were rewritten
-  groups_to : (t : Tried) → t.call ≡ Purge → (from : ℕ) (files : List ℕ) (to : ℕ) → PurgesTo from files to old new → HaveGroups (calls ++ t ∷ []) (length new.entries)
+  groups_to : (t : Tried) → t.call ≡ Purge → (from : ℕ) (files : List ℕ) (to : ℕ) → PurgesTo None from files to old new → HaveGroups (calls ++ t ∷ []) (length new.entries)
   groups_to t is from files to purges =
       let more = map entry_of purges.groups in
       let long = length-append old.entries more in
       let sum : length old.entries + length more ≡ length new.entries = omega (arith, ap length purges.entries, long) in
       subst (HaveGroups (calls ++ t ∷ [])) sum (groups_more calls t (length old.entries) (length more) follows.groups (subst (λ (call : Call). HasGroups call t.answer (length more)) (sym is) tt))
 
-  done_called : (n : ℕ) → n ≡ length m.rows - length new.chain.live.mailbox.rows → Quiet (Ok n) → PurgesMap old new {E = StorageFault} (Ok n) → Caused (Ok n) → IsCalled sees start base calls Purge (Some (answer.Purged n)) old new
+  done_called : (n : ℕ) → n ≡ length m.rows - length new.chain.live.mailbox.rows → Quiet (Ok n) → PurgesMap None old new (Ok n) → Caused (Ok n) → IsCalled sees start base calls Purge (Some (answer.Purged n)) old new
   done_called n count quiet value cause =
       let gone = went (Ok n) quiet in
       let t = tried_of Purge (Some (answer.Purged n)) gone.0 in
@@ -232,7 +232,7 @@ module _ {S C : Type 0} (sees : SeesFolder S) (start : Storage) (base : ℕ) (ca
       (record { messages = told_at; debt = Nothing; rests = quiet.ok; storage = gone.2 ∙ sym (behind_more calls start t); owed = tt })
       (groups_to t refl 0 value.0 value.1 value.2) (since (Ok n) quiet t refl)
 
-  module _ (e : StorageFault) (answers : AnswersPurge new.chain {A = ℕ} (Err e)) (quiet : Quiet (Err e)) (value : PurgesMap old new {T = ℕ} (Err e)) (cause : Caused (Err e)) where
+  module _ (e : StorageFault) (quiet : Quiet (Err e)) (value : PurgesMap None old new {T = ℕ} (Err e)) (cause : Caused (Err e)) where
     rise : RiseFrom (sees.fault_count old.shelf) (failure_of (fault_answer e)) (sees.fault_count new.shelf)
     rise = fault_rises {A = ℕ} e (sees.fault_count old.shelf) (sees.fault_count new.shelf) cause
 
@@ -241,7 +241,7 @@ module _ {S C : Type 0} (sees : SeesFolder S) (start : Storage) (base : ℕ) (ca
     kept_called same map =
         let k = follows.keeps in
         let t = tried_of Purge (fault_answer e) [] in
-        called sees start base calls old new follows Purge (fault_answer e) [] (come (fault_answer e) [] (All-nil (λ id. references here id ≡ 0)) (may_fault e [] answers)) rise
+        called sees start base calls old new follows Purge (fault_answer e) [] (come (fault_answer e) [] (All-nil (λ id. references here id ≡ 0)) (may_fault e [] value.1 value.3)) rise
         (record {
           messages = told_at;
           debt = quiet.err.0;
@@ -260,7 +260,7 @@ module _ {S C : Type 0} (sees : SeesFolder S) (start : Storage) (base : ℕ) (ca
         let is : storage_of told_at new.chain.live.mailbox ≡ behind start (calls ++ t ∷ []) = gone.2 ∙ sym (behind_more calls start t) in
         let P : Owed → Type 0 = IsOwedBehind start (calls ++ t ∷ []) told_at in
         let further : IsWithoutSome (storage_of told_at new.chain.live.mailbox) (storage_of told_at some.2) = thinned_more told_at m valid (storage_of told_at new.chain.live.mailbox) (storage_of told_at some.2) quiet.thins some.4 in
-        called sees start base calls old new follows Purge (fault_answer e) gone.0 (come (fault_answer e) gone.0 gone.1 (may_fault e gone.0 answers)) rise
+        called sees start base calls old new follows Purge (fault_answer e) gone.0 (come (fault_answer e) gone.0 gone.1 (may_fault e gone.0 value.1 value.3)) rise
         (record {
           messages = told_at;
           debt = some.0;
@@ -274,10 +274,10 @@ module _ {S C : Type 0} (sees : SeesFolder S) (start : Storage) (base : ℕ) (ca
     failed_called : IsCalled sees start base calls Purge (fault_answer e) old new
     failed_called = ⊎_elim (λ kept. kept_called kept.0 kept.1) left_called quiet.err.5
 
-  pub purged_called : (result : Result ℕ StorageFault) → AnswersPurge new.chain result → IfOk result (λ n. n ≡ length m.rows - length new.chain.live.mailbox.rows) → Quiet result → PurgesMap old new result → Caused result
+  pub purged_called : (result : Result ℕ StorageFault) → IfOk result (λ n. n ≡ length m.rows - length new.chain.live.mailbox.rows) → Quiet result → PurgesMap None old new result → Caused result
       → IsCalled sees start base calls Purge (purged_answer result) old new
-  purged_called (Ok n) answers count quiet value cause = done_called n count quiet value cause
-  purged_called (Err e) answers count quiet value cause = failed_called e answers quiet value cause
+  purged_called (Ok n) count quiet value cause = done_called n count quiet value cause
+  purged_called (Err e) count quiet value cause = failed_called e quiet value cause
 
 pub purged_clears : (P : Type 0) (result : Result ℕ StorageFault) → OnOk result P → IfPurged (purged_answer result) P
 purged_clears P (Ok n) holds = holds

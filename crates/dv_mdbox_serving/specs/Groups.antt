@@ -1,5 +1,5 @@
 -- The groups that calls write into the log of a storage's map.
-use Rattle.std.specs.Prelude.{◌≡◌, ℕ, ◌+◌, ◌-◌, Bool, true, false, List, [], ◌∷◌, ◌++◌, map, Option, Some, is_some, ⊤}
+use Rattle.std.specs.Prelude.{◌≡◌, ℕ, ◌+◌, ◌-◌, Bool, true, false, List, [], ◌∷◌, ◌++◌, map, Option, None, Some, is_some, ⊤}
 use Rattle.dv_model.specs.declared.types.Mailbox.{Mailbox}
 use Rattle.dv_model.specs.declared.types.Record.{Record}
 use Rattle.dv_model.specs.Effects.{applied}
@@ -43,7 +43,7 @@ IfPurged told P = ⊤
 -- files with an id without references were taken.
 abbrev pub WritesGroups : Mailbox → Call → Option Answer → List (List Record) → Mailbox → Type 0
 WritesGroups m Purge told groups after =
-    (files : List ℕ) × (to : ℕ) × PurgesFiles 0 m files groups to after
+    (files : List ℕ) × (to : ℕ) × PurgesFiles None 0 m files groups to after
     × IfPurged told (NoneGoneFrom after to)
 WritesGroups m call told groups after = WritesOne m call (is_some (done_id told)) groups after
 

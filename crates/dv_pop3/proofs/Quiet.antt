@@ -61,7 +61,7 @@ module _ (count : ℕ) where
   module _ {A : Type 0} (start : Log) (notes : List Note) (came : Result A StoreFault) (old new : Member) (fresh : old.spent ≡ false) where
     pub left_unlisted : (e : NoMemory) → LeavesSelected start count notes came old new (Err e) → IsUnlisted count fault.NoMemory old new
     left_unlisted e (inl before) = quiet_unlisted old new (quiet_before old new before fresh)
-    left_unlisted e (inr (inl caught)) = quiet_unlisted old new (quiet_rejoined old new caught fresh)
+    left_unlisted e (inr (inl caught)) = quiet_unlisted old new (quiet_rejoined old new caught.0 fresh)
     left_unlisted e (inr (inr left)) =
         let quiet = quiet_selected start count notes left.lines old left.shown left.selected fresh in
         held_unlisted old left.shown new quiet (reader_held notes came left.shown new e left.reads) (reader_fresh notes came left.shown new (Err e) left.reads ∙ quiet.fresh)

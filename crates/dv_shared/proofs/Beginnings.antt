@@ -1,5 +1,5 @@
 -- What is kept when a run begins holds.
-use Rattle.std.proofs.Common.{◌≡◌, inl, inr, ⊎_elim, ℕ, ◌≤◌, List, [], false, Some, refl, sym, ◌∙◌, ap, subst, arith, append-nil}
+use Rattle.std.proofs.Common.{◌≡◌, inl, inr, ⊎_elim, ℕ, ◌≤◌, List, [], false, Some, None, refl, sym, ◌∙◌, ap, subst, arith, append-nil}
 use Rattle.dv_model.specs.declared.types.Entry.{Entry}
 use Rattle.dv_model.specs.Journals.{Log}
 use Rattle.dv_shelf.specs.Folders.{Folder}
@@ -17,6 +17,8 @@ use Rattle.dv_shared.specs.Beginning.{Begins, first_kept}
 use Rattle.dv_serving.proofs.Counting.{rose_none}
 use Rattle.dv_shared.specs.Holding.{Balances, Holds, HoldsFolder, KeepsSettled}
 use Rattle.dv_shared.specs.Kept.{Kept}
+use Rattle.dv_shared.specs.Owing.{Owes}
+use Rattle.dv_shared.proofs.Owing.{owes_of}
 
 -- the log of no notes is the start
 pub log_none : (start : Log) → log_of start [] ≡ start
@@ -56,6 +58,11 @@ module _ {S C : Type 0} (sees : SeesFolder S) (tells : Type 0) (start : Log) (mo
 
   pub first_holds : Holds sees tells start moment past honest (first_kept store)
   first_holds = record { stands = first_stands; counted = refl; folder = first_folder }
+
+  -- it owes nothing
+  pub owes_first : honest → Owes sees tells start [] None store
+  owes_first h =
+      owes_of sees tells start [] store first_stands None Nothing tt (subst (λ (l : Log). IsAtRest sees l Nothing store) (sym (log_none start)) (begins.folder h).rests)
 
   pub holds_first : (k : Kept S C) → k ≡ first_kept store → Holds sees tells start moment past honest k
   holds_first k is = subst (λ (x : Kept S C). Holds sees tells start moment past honest x) (sym is) first_holds

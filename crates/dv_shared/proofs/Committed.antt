@@ -1,8 +1,10 @@
 -- What a commit leaves of what is kept: behind want of memory that comes first, behind a receipt, and
 -- behind the store's error.
-use Rattle.std.proofs.Common.{◌≡◌, ◌⊎◌, inl, ℕ, ◌≤◌, ◌<◌, true, List, [], length, Ok, Err, refl, sym, ◌∙◌, ap, subst, arith}
+use Rattle.std.proofs.Common.{◌≡◌, ◌⊎◌, inl, ℕ, ◌≤◌, ◌+◌, ◌<◌, true, List, [], ◌∷◌, length, Option, Some, None, Ok, Err, inr, refl, sym, ◌∙◌, ap, subst, arith}
+use Rattle.std.proofs.lemmas.List.{length_push}
 use Rattle.dv_model.specs.declared.types.Command.{Command}
 use Rattle.dv_model.specs.declared.types.Mailbox.{Mailbox}
+use Rattle.dv_model.specs.declared.types.Record.{Record}
 use Rattle.dv_model.specs.Journals.{IsU32, Log}
 use Rattle.dv_model.specs.Views.{View}
 use Rattle.dv_shelf.specs.Crashes.{LeavesOnly}
@@ -24,14 +26,16 @@ use Rattle.dv_tries.specs.Images.{LeavesSince}
 use Rattle.dv_tries.specs.Standing.{RestsBehind, StandsBehind}
 use Rattle.dv_tries.specs.Tries.{GivesLast, MayGive, Try, end_mark}
 use Rattle.dv_tries.proofs.Keeping.{rest_gives_last}
-use Rattle.dv_tries.proofs.Standing.{commits_stand, errors_stand}
+use Rattle.dv_tries.proofs.Standing.{commits_stand, errors_stand, with_some}
 use Rattle.dv_shared.specs.declared.written.Written.{Written}
 use Rattle.dv_shared.specs.Committing.{CommitsKept, IsWritten, KeepsWords}
 use Rattle.dv_shared.specs.Holding.{Holds}
 use Rattle.dv_shared.specs.Kept.{Kept, notes_in}
+use Rattle.dv_shared.specs.Owing.{MovesDebt, Owes, OwesBehind}
 use Rattle.dv_shared.specs.Writing.{HasOutcome, IsNoted, WroteNothing, with_fault}
-use Rattle.dv_shared.proofs.Grown.{fault_tries, holds_now, none_noted, since_now, some_noted}
+use Rattle.dv_shared.proofs.Grown.{fault_tries, holds_now, none_more, none_noted, since_now, some_noted}
 use Rattle.dv_shared.proofs.Outcomes.{error_outcome, group_told, is_noted, receipt_outcome}
+use Rattle.dv_shared.proofs.Owing.{failed_owes, owes_none, still_owes}
 
 pub stays_same : {S C : Type 0} (store : State S C) → StaysAs store store
 stays_same store = record { chain = record { mailbox = refl; log = refl; indexid = refl; records = refl }; owed = refl; mark = refl }
@@ -98,10 +102,14 @@ module _ {S C : Type 0} (sees : SeesFolder S) (tells : Type 0) (start : Log) (mo
     early_value = record {
       notes = same;
       tries = refl;
+      told = tt;
       stays = λ none. stays_same old.store;
       words = λ is. words;
       pass = λ more. absurd (omega (arith, more, ap (λ (ns : List Note). length ns) same));
     }
+
+    pub early_owes : MovesDebt sees tells start t old early (Err fault.NoMemory)
+    early_owes owed owes = (owed, subst (λ (ns : List Note). Owes sees tells start ns owed old.store) (sym same) owes, refl)
 
   module _ (now : (d : Folder) → sees.left_since old.store.shelf (sees.moment old.store.shelf) d → sees.may_leave old.store.shelf d) where
     pub early_looks : OnlyLooks sees old.store.shelf old.store.shelf
@@ -143,22 +151,40 @@ module _ {S C : Type 0} (sees : SeesFolder S) (tells : Type 0) (start : Log) (mo
       pub looks_ok : sees.tells → journal feed ≡ notes → OnlyLooks sees old.store.shelf store.shelf
       looks_ok tell same = (told tell).looks (nothing same)
 
-      pub value_ok : (w : Written) → (receipt.group.records ≡ [] → KeepsWords old.feed feed) → (1 ≤ length receipt.group.records → feed.pass ≡ true) → CommitsKept honest tells start t old kept (Ok w)
-      value_ok w none some = record {
-        notes = subst (λ (ns : List Note). IsNoted honest tells log t m notes ns) (sym noted)
-            (is_noted start notes old.store holds.stands author c view may store receipt value sees tells honest upcoming old.tries (λ h. told (holds.folder h).told) (λ h. (holds.folder h).rests));
-        tries = refl;
-        stays = λ same. value.unwritten (nothing same);
-        words = λ same. none (nothing same);
-        pass = λ more. some (some_noted notes note receipt.group.records (subst (λ (ns : List Note). length notes < length ns) noted more));
-      }
-
-      pub told_ok : (w : Written) → w ≡ record { mark = receipt.mark; uid = receipt.uid; number = length (journal feed) } → IsWritten start c old kept w
+      told_ok : (w : Written) → w ≡ record { mark = receipt.mark; uid = receipt.uid; number = length (journal feed) } → IsWritten start c old kept w
       told_ok w is = record {
         mark = ap (λ (x : Written). x.mark) is ∙ sym value.mark ∙ stands_ok.mark ∙ ap (λ (ns : List Note). end_mark (log_of start ns)) (sym noted);
         uid = ap (λ (x : Written). x.uid) is ∙ value.ok.uid;
         number = ap (λ (x : Written). x.number) is;
       }
+
+      pub value_ok : (w : Written) → w ≡ record { mark = receipt.mark; uid = receipt.uid; number = length (journal feed) } → (receipt.group.records ≡ [] → KeepsWords old.feed feed) → (1 ≤ length receipt.group.records → feed.pass ≡ true)
+          → CommitsKept honest tells start t old kept (Ok w)
+      value_ok w is none some = record {
+        notes = subst (λ (ns : List Note). IsNoted honest tells log t m notes ns) (sym noted)
+            (is_noted start notes old.store holds.stands author c view may store receipt value sees tells honest upcoming old.tries (λ h. told (holds.folder h).told) (λ h. (holds.folder h).rests));
+        tries = refl;
+        told = told_ok w is;
+        stays = λ same. value.unwritten (nothing same);
+        words = λ same. none (nothing same);
+        pass = λ more. some (some_noted notes note receipt.group.records (subst (λ (ns : List Note). length notes < length ns) noted more));
+      }
+
+      -- an entry more pays what was owed, and without one that is as before
+      pub owes_ok : (w : Written) → honest → count ≡ length (journal feed) → MovesDebt sees tells start t old kept (Ok w)
+      owes_ok w h counted owed owes = by_records receipt.group.records refl
+        where
+          by_records : (rs : List Record) → receipt.group.records ≡ rs → (left : Option Try) × Owes sees tells start (journal feed) left store × OwesBehind notes (journal feed) t owed left (Ok w)
+          by_records [] none =
+              let same : journal feed ≡ notes = noted ∙ none_more notes note receipt.group.records none in
+              let stands_same : StandsBehind start notes store = subst (λ (ns : List Note). StandsBehind start ns store) (sym noted ∙ same) stands_ok in
+              let owes_same = still_owes sees tells start notes old.store holds.stands owed owes author c view upcoming store stands_same (Ok receipt) (told (holds.folder h).told) none in
+              (owed, subst (λ (ns : List Note). Owes sees tells start ns owed store) (sym same) owes_same, inl (same, refl))
+          by_records (r ∷ rs) is =
+              let more : 1 ≤ length receipt.group.records = subst (λ (xs : List Record). 1 ≤ length xs) (sym is) (omega arith) in
+              let behind = holds_ok counted in
+              let longer : length (journal feed) ≡ length notes + 1 = ap (λ (ns : List Note). length ns) (noted ∙ sym (with_some notes note receipt.group.records more)) ∙ length_push notes note in
+              (None, owes_none sees tells start (journal feed) store behind.stands old.tries (value.paid more).debt (behind.folder h).rests, inr (longer, refl))
 
       pub outcome_ok : (w : Written) → honest → HasOutcome start author (selected_with view) c m notes (journal feed) (Ok w)
       outcome_ok w h =
@@ -210,10 +236,27 @@ module _ {S C : Type 0} (sees : SeesFolder S) (tells : Type 0) (start : Log) (mo
     value_err = record {
       notes = stays;
       tries = tried;
+      told = tt;
       stays = stays_err e refl;
       words = λ is. words;
       pass = λ more. absurd (omega (arith, more, ap (λ (ns : List Note). length ns) stays));
     }
+
+    -- what is owed then
+    owes_by : (x : StoreFault) → e ≡ x → honest → (owed : Option Try) → Owes sees tells start notes owed old.store → (left : Option Try) × Owes sees tells start notes left store × OwesBehind notes (journal feed) t owed left (Err x)
+    owes_by (fault.Disk faults) is h owed owes =
+        failed_owes sees tells start notes old.store holds.stands owed owes author c view upcoming store stands_err faults (subst (λ (x : StoreFault). CommitsTold sees tells c view upcoming old.store store (Err x)) is (told (holds.folder h).told))
+    owes_by fault.UidsUsedUp is h owed owes =
+        (owed, still_owes sees tells start notes old.store holds.stands owed owes author c view upcoming store stands_err (Err fault.UidsUsedUp) (subst (λ (x : StoreFault). CommitsTold sees tells c view upcoming old.store store (Err x)) is (told (holds.folder h).told)) tt, refl)
+    owes_by (fault.TooLong bytes) is h owed owes =
+        (owed, still_owes sees tells start notes old.store holds.stands owed owes author c view upcoming store stands_err (Err (fault.TooLong bytes)) (subst (λ (x : StoreFault). CommitsTold sees tells c view upcoming old.store store (Err x)) is (told (holds.folder h).told)) tt, refl)
+    owes_by fault.NoMemory is h owed owes =
+        (owed, still_owes sees tells start notes old.store holds.stands owed owes author c view upcoming store stands_err (Err fault.NoMemory) (subst (λ (x : StoreFault). CommitsTold sees tells c view upcoming old.store store (Err x)) is (told (holds.folder h).told)) tt, refl)
+
+    pub owes_err : honest → MovesDebt sees tells start t old failed (Err e)
+    owes_err h owed owes =
+        let left = owes_by e refl h owed owes in
+        (left.0, subst (λ (ns : List Note). Owes sees tells start ns left.0 store) (sym stays) left.1, left.2)
 
     pub outcome_err : HasOutcome {A = Written} start author (selected_with view) c m notes (journal feed) (Err e)
     outcome_err =

@@ -1,3 +1,4 @@
+pub mod Owing
 pub mod Beginnings
 pub mod Grown
 pub mod Outcomes

@@ -1,5 +1,5 @@
 -- What a commit does to what is kept.
-use Rattle.std.specs.Prelude.{◌≡◌, ◌<◌, ◌+◌, ◌-◌, ℕ, true, length, Result, Ok, Err}
+use Rattle.std.specs.Prelude.{◌≡◌, ◌<◌, ◌+◌, ◌-◌, ℕ, true, length, Result, Ok, Err, IfOk}
 use Rattle.dv_model.specs.declared.types.Command.{Command}
 use Rattle.dv_model.specs.Journals.{Log}
 use Rattle.dv_model.specs.Views.{View}
@@ -26,18 +26,6 @@ module _ {S C : Type 0} where
   abbrev pub given : ℕ → Command → View → Kept S C → (ℕ → ℕ) → Try
   given author c view k upcoming = try_of (length (notes_in k)) author c view k.store upcoming
 
-  -- Over any shelf: what it leaves of notes and tries. Where nothing was written, the store is as
-  -- before, and where no note is published the shared words are. Behind a note there is a pass for
-  -- who wrote it.
-  pub record CommitsKept (honest tells : Type 0) (start : Log) (t : Try) (old new : Kept S C)
-      (result : Result Written StoreFault) : Type 0 where
-    pub notes : NotesBehind honest tells (log_of start (notes_in old)) t
-        old.store.chain.live.mailbox (notes_in old) (notes_in new) result
-    pub tries : new.tries ≡ with_failed old.tries t result
-    pub stays : WroteNothing (notes_in old) (notes_in new) result → StaysAs old.store new.store
-    pub words : notes_in new ≡ notes_in old → KeepsWords old.feed new.feed
-    pub pass : length (notes_in old) < length (notes_in new) → new.feed.pass ≡ true
-
   -- what is told of it: the place behind all notes, the UID of an appended message, and how many
   -- notes there are
   pub record IsWritten (start : Log) (c : Command) (old new : Kept S C) (w : Written) : Type 0
@@ -45,6 +33,19 @@ module _ {S C : Type 0} where
       pub mark : w.mark ≡ end_mark (log_of start (notes_in new))
       pub uid : w.uid ≡ appended_uid c old.store.chain.live.mailbox
       pub number : w.number ≡ length (notes_in new)
+
+  -- Over any shelf: what it leaves of notes and tries, and what is told of it. Where nothing was
+  -- written, the store is as before, and where no note is published the shared words are. Behind a
+  -- note there is a pass for who wrote it.
+  pub record CommitsKept (honest tells : Type 0) (start : Log) (t : Try) (old new : Kept S C)
+      (result : Result Written StoreFault) : Type 0 where
+    pub notes : NotesBehind honest tells (log_of start (notes_in old)) t
+        old.store.chain.live.mailbox (notes_in old) (notes_in new) result
+    pub tries : new.tries ≡ with_failed old.tries t result
+    pub told : IfOk result (IsWritten start t.command old new)
+    pub stays : WroteNothing (notes_in old) (notes_in new) result → StaysAs old.store new.store
+    pub words : notes_in new ≡ notes_in old → KeepsWords old.feed new.feed
+    pub pass : length (notes_in old) < length (notes_in new) → new.feed.pass ≡ true
 
 -- ---- what is counted
 

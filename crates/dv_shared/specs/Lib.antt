@@ -6,4 +6,5 @@ pub mod Holding
 pub mod Beginning
 pub mod Writing
 pub mod Committing
+pub mod Owing
 pub mod Reading

@@ -5,7 +5,6 @@ ghost use Rattle.std.specs.Prelude.{◌≡◌, ℕ, IfErr, IfOk, OnErr, OnOk, fa
 ghost use mathlib.Core.List.{IsPrefix};
 ghost use Rattle.dv_answer.specs.Answers.{IsAnswered};
 ghost use Rattle.dv_answer.specs.Refusing.{own_refusal};
-ghost use Rattle.dv_chain.specs.Openings.{OnlyLooks};
 ghost use Rattle.dv_member.specs.Calls.{HasCaughtUp, HasTurned, IsAsBefore, IsSpent};
 ghost use Rattle.dv_member.specs.Members.{notes_of};
 ghost use Rattle.dv_model.specs.declared.types.Mailbox.{Mailbox};
@@ -17,6 +16,7 @@ ghost use Rattle.dv_responses.specs.Damaged.{IsRead, damaged_uids};
 ghost use Rattle.dv_responses.specs.Depth.{IsShallow};
 ghost use Rattle.dv_responses.specs.Met.{met_of};
 ghost use Rattle.dv_store.specs.Faults.{IsFailure};
+ghost use Rattle.dv_store.specs.Rest.{OnlyReads};
 ghost use Rattle.dv_view.specs.Taken.{HasTaken};
 ghost use Rattle.dv_shared.specs.Kept.{notes_in};
 ghost use Rattle.dv_shared.specs.Reading.{IsReadFrom, read_refused, without_pass};
@@ -164,10 +164,9 @@ impl<S: Shelf, C: Clock, K: Keeping, L: Tally, M: Tally> Shared<S, C, K, L, M> {
             (log_of K.start (notes_in self.old.kept)).mail c.now s.old.follower.state.view
             self.old.kept.store.chain.live.mailbox) }
         ensures lines { K.honest → OnErr result (HasTaken R.with lines.old lines.new) }
-        // Nothing is changed.
+        // Nothing is changed, and what was owed still is.
         ensures stays { IsReadFrom self.old.kept self.new.kept }
-        ensures looks { S.sees.tells →
-            OnlyLooks S.sees self.old.kept.store.shelf self.new.kept.store.shelf }
+        ensures looks { S.sees.tells → OnlyReads S.sees self.old.kept.store self.new.kept.store }
         // The session counts a failure of the disk, and so does the lock.
         ensures session { s.new ≡ read_refused result s.old }
         ensures refused { self.new.refused ≡ refused_behind self.old.refused result }

@@ -7,9 +7,10 @@ ghost use Rattle.dv_shelf.specs.Crashes.{LeavesOnly};
 ghost use Rattle.dv_shelf.specs.Folders.{Folder};
 ghost use Rattle.dv_tries.specs.Durable.{IsDurable};
 ghost use Rattle.dv_tries.specs.Tries.{GivesLast};
-ghost use Rattle.dv_shared.specs.Committing.{CommitsKept, IsWritten, counted_behind, given, with_outcome};
+ghost use Rattle.dv_shared.specs.Committing.{CommitsKept, counted_behind, given, with_outcome};
 ghost use Rattle.dv_shared.specs.Holding.{Holds, KeepsSettled};
 ghost use Rattle.dv_shared.specs.Kept.{notes_in};
+ghost use Rattle.dv_shared.specs.Owing.{MovesDebt, OwesSome};
 ghost use Rattle.dv_shared.specs.Writing.{HasOutcome, MayWrite, WroteNothing, refused_behind};
 
 use crate::journal::Journal;
@@ -103,11 +104,10 @@ impl<S: Shelf, C: Clock, K: Keeping, L: Tally, M: Tally> Shared<S, C, K, L, M> {
     /// of faults rose, with a try of the command. After an error no entry is published.
     pub fn commit(&mut self, s: &mut Session<K, L, M>, c: &Command) -> Result<Written, StoreFault>
         requires { MayWrite s.old c.now }
-        // The notes, the tries and what stays, over any shelf; what is told.
+        // The notes, the tries, what stays and what is told, over any shelf.
         ensures value { CommitsKept K.honest C.sees.tells K.start
             (given s.old.number c.now s.old.follower.state.view self.old.kept
             (C.sees.upcoming self.old.kept.store.clock)) self.old.kept self.new.kept result }
-        ensures told { IfOk result (IsWritten K.start c.now self.old.kept self.new.kept) }
         // Which answer it is, by the session rules.
         ensures outcome { K.honest → HasOutcome K.start s.old.number s.old.follower.state c.now
             self.old.kept.store.chain.live.mailbox (notes_in self.old.kept)
@@ -121,6 +121,11 @@ impl<S: Shelf, C: Clock, K: Keeping, L: Tally, M: Tally> Shared<S, C, K, L, M> {
             GivesLast C.sees.tells K.start (notes_in self.old.kept) self.old.kept.tries folder
             ⊎ GivesLast C.sees.tells K.start (notes_in self.new.kept) self.new.kept.tries
             folder) }
+        // Which write's group the store owes, and a later image may have: behind an entry more
+        // none, where the disk failed it perhaps its own, and else that which it owed.
+        ensures owes { K.honest → MovesDebt S.sees C.sees.tells K.start
+            (given s.old.number c.now s.old.follower.state.view self.old.kept
+            (C.sees.upcoming self.old.kept.store.clock)) self.old.kept self.new.kept result }
         // What was settled is so again, where no failure was counted.
         ensures settled { S.sees.tells →
             StaysSettled S.sees self.old.kept.store.shelf self.new.kept.store.shelf }
@@ -139,8 +144,9 @@ impl<S: Shelf, C: Clock, K: Keeping, L: Tally, M: Tally> Shared<S, C, K, L, M> {
 
     /// What holds whenever the lock is free: the store stands behind the notes, and whatever a
     /// crash leaves now opens to a log that begins with all of them, each with its message and GUID
-    /// while that lives, and with the messages of the start. Where the shelf has counted no failure
-    /// since the run began it is settled. Nothing is computed.
+    /// while that lives, and with the messages of the start. The store owes the group of one of the
+    /// writes that were tried, or of none. Where the shelf has counted no failure since the run
+    /// began it is settled. Nothing is computed.
     pub fn knows(&self)
         ensures holds { Holds S.sees C.sees.tells K.start K.moment K.past K.honest
             self.now.kept }
@@ -148,6 +154,7 @@ impl<S: Shelf, C: Clock, K: Keeping, L: Tally, M: Tally> Shared<S, C, K, L, M> {
             (S.sees.fault_count self.now.kept.store.shelf) }
         ensures tries { length self.now.kept.tries ≤ self.now.refused }
         ensures settled { KeepsSettled S.sees K.count K.honest self.now.kept }
+        ensures owes { K.honest → OwesSome S.sees C.sees.tells K.start self.now.kept }
         ensures durable { K.honest → (folder : Folder)
             → S.sees.may_leave self.now.kept.store.shelf folder
             → IsDurable K.start (notes_in self.now.kept) folder }

@@ -1,11 +1,12 @@
 //! What lies under the lock when a run begins, and the sessions that it makes.
 
-ghost use Rattle.std.specs.Prelude.{◌≡◌, ◌+◌, ◌∷◌, [], ◌≤◌, IfErr, IfOk, OnOk};
+ghost use Rattle.std.specs.Prelude.{◌≡◌, ◌+◌, ◌∷◌, [], ◌≤◌, IfErr, IfOk, None, OnOk};
 ghost use Rattle.dv_front.specs.Rolls.{new_listing};
 ghost use Rattle.dv_generations.specs.Feeds.{new_feed};
 ghost use Rattle.dv_member.specs.Calls.{new_member};
 ghost use Rattle.dv_member.specs.Members.{notes_of};
 ghost use Rattle.dv_shared.specs.Beginning.{Begins, first_locked, table_words};
+ghost use Rattle.dv_shared.specs.Owing.{Owes};
 
 use crate::journal::Journal;
 use crate::shared::Shared;
@@ -62,6 +63,8 @@ impl<S: Shelf, C: Clock, K: Keeping, L: Tally, M: Tally> Shared<S, C, K, L, M> {
         requires count { (start_count ≡ K.count)
             × (K.count ≤ S.sees.fault_count store.shelf) }
         ensures ok { IfOk result (λ made. made.0 ≡ first_locked store) }
+        // Nothing is owed.
+        ensures owes { K.honest → Owes S.sees C.sees.tells K.start [] None store }
         ensures writes { IfOk result (λ made.
             (made.1.parts ≡ L.parts) × (made.1.amount ≡ 0)) }
         ensures refusals { IfOk result (λ made.

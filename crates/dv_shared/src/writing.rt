@@ -1,4 +1,4 @@
-ghost use Rattle.std.specs.Prelude.{◌≡◌, ◌⊎◌, IfOk, length};
+ghost use Rattle.std.specs.Prelude.{◌≡◌, ◌⊎◌, length};
 ghost use Rattle.dv_chain.specs.Openings.{OnlyLooks};
 ghost use Rattle.dv_generations.specs.Feeds.{journal};
 ghost use Rattle.dv_logfile.specs.Settling.{StaysSettled};
@@ -6,9 +6,10 @@ ghost use Rattle.dv_plans.specs.Faults.{HasStoreCause};
 ghost use Rattle.dv_shelf.specs.Crashes.{LeavesOnly};
 ghost use Rattle.dv_tries.specs.Commits.{selected_with, try_of};
 ghost use Rattle.dv_tries.specs.Tries.{GivesLast};
-ghost use Rattle.dv_shared.specs.Committing.{CommitsKept, IsWritten, given};
+ghost use Rattle.dv_shared.specs.Committing.{CommitsKept, given};
 ghost use Rattle.dv_shared.specs.Holding.{Holds};
 ghost use Rattle.dv_shared.specs.Journals.{kept_of};
+ghost use Rattle.dv_shared.specs.Owing.{MovesDebt};
 ghost use Rattle.dv_shared.specs.Writing.{HasOutcome, MayServe, WroteNothing, with_fault};
 
 use crate::journal::Journal;
@@ -59,13 +60,11 @@ impl<S: Shelf, C: Clock, K: Keeping> Journal<S, C, K> {
         requires may { MayServe author c.now view.now }
         ensures holds { Holds S.sees C.sees.tells K.start K.moment K.past K.honest
             (kept_of self.new) }
-        // The notes, the tries and what stays, over any shelf; what is told.
+        // The notes, the tries, what stays and what is told, over any shelf.
         ensures value { CommitsKept K.honest C.sees.tells K.start
             (given author c.now view.now (kept_of self.old)
             (C.sees.upcoming self.old.store.clock))
             (kept_of self.old) (kept_of self.new) result }
-        ensures told { IfOk result
-            (IsWritten K.start c.now (kept_of self.old) (kept_of self.new)) }
         // Which answer it is, by the session rules.
         ensures outcome { K.honest → HasOutcome K.start author (selected_with view.now) c.now
             self.old.store.chain.live.mailbox (journal self.old.feed) (journal self.new.feed)
@@ -78,6 +77,11 @@ impl<S: Shelf, C: Clock, K: Keeping> Journal<S, C, K> {
             (λ folder.
             GivesLast C.sees.tells K.start (journal self.old.feed) self.old.tries folder
             ⊎ GivesLast C.sees.tells K.start (journal self.new.feed) self.new.tries folder) }
+        // Which write's group the store owes.
+        ensures owes { K.honest → MovesDebt S.sees C.sees.tells K.start
+            (given author c.now view.now (kept_of self.old)
+            (C.sees.upcoming self.old.store.clock))
+            (kept_of self.old) (kept_of self.new) result }
         ensures settled { S.sees.tells →
             StaysSettled S.sees self.old.store.shelf self.new.store.shelf }
         ensures cause { HasStoreCause (S.sees.fault_count self.old.store.shelf)

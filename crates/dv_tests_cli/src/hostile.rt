@@ -1,101 +1,149 @@
-use crate::plays::{bytes_of, files_of, given, play};
-use crate::rows::folder_of;
-use dv_model::{Bytes, List};
-use dv_shelf::{Folder, Name};
+//! Files of any bytes.
+
+use crate::runs::{Left, RUN, Run, add, file_in, files_of, joined, play};
+use dv_model::{Bytes, List, NoMemory};
+use dv_shelf::{Folder, MemShelf, Name};
 use std::alloc::Global;
-use std::process::Abort;
-use std::test::Fail;
 
-/// Leaves a log, a snapshot, a cache file and two message files.
-const MAKE: &[u8] = b"a SELECT\na APPEND (k1) {12}\nSubject: x\n\n\na APPEND () {1}\ny\n\
-    a STORE 1:2 +FLAGS (\\Seen)\na CHECK\na STORE 2 +FLAGS (k2)\n";
+// Leaves a log, a snapshot, a cache file and two message files.
+const MAKE: Run = Run {
+    script: "a SELECT\na APPEND (k1) {12}\nSubject: x\n\n\na APPEND () {1}\ny\n\
+        a STORE 1:2 +FLAGS (\\Seen)\na CHECK\na STORE 2 +FLAGS (k2)\n",
+    ..RUN
+};
 
-/// Looks at all that a folder has.
-const LOOK: &[u8] = b"b SELECT\nb UID FETCH 1:* (FLAGS RFC822.SIZE BODY[] FIELD Subject)\n";
+// Looks at all that a folder has.
+const LOOK: Run = Run {
+    script: "b SELECT\nb UID FETCH 1:* (FLAGS RFC822.SIZE BODY[] FIELD Subject)\n",
+    ..RUN
+};
 
-/// The folder, in which the file of this name has these bytes.
-fn with_file(alloc: Global, folder: &Folder, name: Name, bytes: &[u8]) -> Result<Folder, Fail> {
-    let mut made = List::new(alloc);
+fn add_others(
+    alloc: Global,
+    made: &mut Folder,
+    folder: &Folder,
+    name: Name,
+) -> Result<(), NoMemory> {
     for (other, file) in folder.as_slice() {
         if *other != name {
-            made.push((*other, Bytes::from_slice(alloc, file.as_slice())?))?;
+            add(alloc, made, *other, file.as_slice())?;
         }
     }
-    made.push((name, Bytes::from_slice(alloc, bytes)?))?;
+    Ok(())
+}
+
+// Whether a run ended at 0 or 3, and left each file, but that it may close the log.
+fn is_left_so(alloc: Global, left: &mut Left<MemShelf>, folder: &Folder) -> Result<bool, NoMemory> {
+    if left.status != 0 && left.status != 3 {
+        return Ok(false);
+    }
+    let files = files_of(alloc, &mut left.shelf)?;
+    for (name, bytes) in folder.as_slice() {
+        let may_differ = *name == Name::Log && left.status == 0;
+        if !may_differ && file_in(&files, *name) != bytes.as_slice() {
+            return Ok(false);
+        }
+    }
+    Ok(files.len() == folder.len())
+}
+
+// Whether the folder in which the file of this name has these bytes is refused or read.
+fn is_looked_at(
+    alloc: Global,
+    folder: &Folder,
+    name: Name,
+    bytes: &[u8],
+) -> Result<bool, NoMemory> {
+    let mut made = List::new(alloc);
+    add_others(alloc, &mut made, folder, name)?;
+    add(alloc, &mut made, name, bytes)?;
+    let mut left = play(alloc, &made, &LOOK)?;
+    is_left_so(alloc, &mut left, &made)
+}
+
+// The file with two bits of the byte turned behind this front.
+fn turned(alloc: Global, front: &[u8], rest: &[u8]) -> Result<Bytes, NoMemory> {
+    let mut made = Bytes::from_slice(alloc, front)?;
+    if let [byte, behind @ ..] = rest {
+        made.push(*byte ^ 0x81)?;
+        made.extend(behind)?;
+    }
     Ok(made)
 }
 
-/// A run over the folder ends at 0 or 3, and leaves each file, but that it may close the log.
-fn looks(rt: &impl Abort, alloc: Global, folder: &Folder) -> Result<(), Fail> {
-    let mut left = play(alloc, folder, &[], given(LOOK))?;
-    assert!(rt; left.status == 0 || left.status == 3);
-    for (name, bytes) in folder.as_slice() {
-        if *name != Name::Log || left.status == 3 {
-            assert!(rt; bytes_of(alloc, &mut left.shelf, *name).as_slice() == bytes.as_slice());
+// The first place at which the file isn't looked at where it is cut there, or bits are turned.
+fn other_place(
+    alloc: Global,
+    folder: &Folder,
+    name: Name,
+    file: &[u8],
+) -> Result<Option<usize>, NoMemory> {
+    for at in 0..file.len() {
+        let (front, rest) = file.split_at(at);
+        let turned = turned(alloc, front, rest)?;
+        if !is_looked_at(alloc, folder, name, turned.as_slice())?
+            || !is_looked_at(alloc, folder, name, front)?
+        {
+            return Ok(Some(at));
         }
     }
-    assert_eq!(rt; files_of(alloc, &mut left.shelf)?.len(), folder.len());
-    Ok(())
+    Ok(None)
 }
 
-/// The file with two bits of each byte turned in turn, and cut there.
-fn bits_and_fronts(
-    rt: &impl Abort,
-    alloc: Global,
-    folder: &Folder,
-    name: Name,
-    file: &[u8],
-) -> Result<(), Fail> {
-    for at in 0..file.len() {
-        let mut turned = Vec::from_slice(alloc, file)?;
-        turned[at] ^= 0x81;
-        looks(
-            rt,
-            alloc,
-            &with_file(alloc, folder, name, turned.as_slice())?,
-        )?;
-        let (front, _) = file.split_at(at);
-        looks(rt, alloc, &with_file(alloc, folder, name, front)?)?;
-    }
-    Ok(())
-}
-
-/// The file with the bytes of each other one, and with these behind its own.
-fn swapped(
-    rt: &impl Abort,
-    alloc: Global,
-    folder: &Folder,
-    name: Name,
-    file: &[u8],
-) -> Result<(), Fail> {
+// Whether the file is looked at with the bytes of each other one, and with these behind its own.
+fn are_swapped(alloc: Global, folder: &Folder, name: Name, file: &[u8]) -> Result<bool, NoMemory> {
     for (_, other) in folder.as_slice() {
-        looks(
-            rt,
-            alloc,
-            &with_file(alloc, folder, name, other.as_slice())?,
-        )?;
-        let mut longer = Bytes::from_slice(alloc, file)?;
-        longer.extend(other.as_slice())?;
-        looks(
-            rt,
-            alloc,
-            &with_file(alloc, folder, name, longer.as_slice())?,
-        )?;
+        let longer = joined(alloc, &[file, other.as_slice()])?;
+        if !is_looked_at(alloc, folder, name, other.as_slice())?
+            || !is_looked_at(alloc, folder, name, longer.as_slice())?
+        {
+            return Ok(false);
+        }
     }
-    Ok(())
+    Ok(true)
+}
+
+// The number of the first file that isn't looked at in each form, and the place.
+fn other_file(alloc: Global, folder: &Folder) -> Result<Option<(usize, usize)>, NoMemory> {
+    for (number, (name, file)) in folder.as_slice().iter().enumerate() {
+        if let Some(at) = other_place(alloc, folder, *name, file.as_slice())? {
+            return Ok(Some((number, at)));
+        }
+        if !are_swapped(alloc, folder, *name, file.as_slice())? {
+            return Ok(Some((number, file.len())));
+        }
+    }
+    let log = file_in(folder, Name::Log);
+    match other_place(alloc, folder, Name::Log2, log)? {
+        Some(at) => Ok(Some((folder.len(), at))),
+        None => Ok(None),
+    }
+}
+
+fn made_folder(alloc: Global) -> Result<Folder, NoMemory> {
+    let mut made = play(alloc, &List::new(alloc), &MAKE)?;
+    if made.status != 0 {
+        return Err(NoMemory);
+    }
+    files_of(alloc, &mut made.shelf)
+}
+
+// The same of the folder that is made, which has five files.
+fn other_made(alloc: Global) -> Result<Option<(usize, usize)>, NoMemory> {
+    let folder = made_folder(alloc)?;
+    if folder.len() == 5 {
+        other_file(alloc, &folder)
+    } else {
+        Err(NoMemory)
+    }
 }
 
 #[test]
-fn a_file_of_any_bytes_is_refused_or_read(rt: HostRuntime) -> Result<(), Fail> {
-    let alloc = rt.alloc();
-    let mut made = play(alloc, &folder_of(alloc, &[])?, &[], given(MAKE))?;
-    assert_eq!(rt; made.status, 0);
-    let folder = files_of(alloc, &mut made.shelf)?;
-    assert_eq!(rt; folder.len(), 5);
-    for (name, file) in folder.as_slice() {
-        bits_and_fronts(&rt, alloc, &folder, *name, file.as_slice())?;
-        swapped(&rt, alloc, &folder, *name, file.as_slice())?;
-    }
-    let rotated = bytes_of(alloc, &mut made.shelf, Name::Log);
-    bits_and_fronts(&rt, alloc, &folder, Name::Log2, rotated.as_slice())
+fn a_file_of_any_bytes_is_refused_or_read(rt: HostRuntime) {
+    let (file, at) = match other_made(rt.alloc()) {
+        Ok(None) => return,
+        Ok(Some(other)) => other,
+        Err(_) => (1000, 1000),
+    };
+    assert!(rt; false, "file {file} at {at}");
 }

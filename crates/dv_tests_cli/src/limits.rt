@@ -1,74 +1,117 @@
-use crate::plays::{Left, ends, given, play_in};
-use crate::rows::folder_of;
-use dv_model::{Bytes, List};
-use dv_script::decimal_text;
-use dv_shelf::{MemShelf, OpenGate};
+//! The longest message and the longest script, and longer ones.
+
+use crate::runs::{Left, RUN, Run, is_as_said, play_in};
+use dv_model::{Bytes, List, NoMemory};
+use dv_shelf::MemShelf;
 use std::alloc::Global;
-use std::test::Fail;
+use std::process::Abort;
 
-/// So many bytes: 1024 at once, and the rest.
-fn filled(alloc: Global, byte: u8, count: u32) -> Result<Bytes, Fail> {
-    let piece = [byte; 1024];
-    let mut bytes = Bytes::new(alloc);
-    for _ in 0..count / 1024 {
-        bytes.extend(&piece)?;
-    }
-    for _ in 0..count % 1024 {
-        bytes.push(byte)?;
-    }
-    Ok(bytes)
+// A script with many equal bytes between two parts, over a new folder with room for all of them.
+struct Limit {
+    name: &'static str,
+    before: &'static [u8],
+    byte: u8,
+    count: usize,
+    behind: &'static [u8],
+    asked: Run,
+    /// How many calls the folder had, where these are counted.
+    calls: Option<u64>,
 }
 
-/// A run of a script over a new folder with room for the longest message.
-fn run_of(alloc: Global, script: &[u8]) -> Result<Left<MemShelf>, Fail> {
-    let folder = folder_of(alloc, &[])?;
-    let shelf = MemShelf::of(alloc, &folder, 40_000_000, List::new(alloc), None)?;
-    play_in(alloc, shelf, &OpenGate, given(script))
-}
+const MESSAGES: &[Limit] = &[
+    Limit {
+        name: "a message of 32 MiB",
+        before: b"a SELECT\na APPEND () {33554432}\n",
+        byte: b'x',
+        count: 33_554_432,
+        behind: b"\n",
+        asked: Run {
+            text: &[
+                "",
+                "a OK [APPENDUID 1000 1] [MARK 1:72] APPEND\nEND 0 MARK 1:72 GROUPS 1\n",
+            ],
+            ..RUN
+        },
+        calls: None,
+    },
+    Limit {
+        name: "a longer message",
+        before: b"a SELECT\na APPEND () {33554433}\n",
+        byte: b'x',
+        count: 33_554_433,
+        behind: b"\n",
+        asked: Run {
+            text: &[
+                "",
+                "a NO [LIMIT] BYTES 33554433\nEND 0 MARK 1:56 GROUPS 0\n",
+            ],
+            ..RUN
+        },
+        calls: None,
+    },
+];
 
-/// A script that selects the mailbox and appends a message of so many bytes.
-fn append_of(alloc: Global, size: u32) -> Result<Bytes, Fail> {
-    let mut script = Bytes::from_slice(alloc, b"a SELECT\na APPEND () {")?;
-    script.extend(decimal_text(alloc, u64::from(size))?.as_slice())?;
-    script.extend(b"}\n")?;
-    script.extend(filled(alloc, b'x', size)?.as_slice())?;
-    script.push(b'\n')?;
+const SCRIPTS: &[Limit] = &[
+    Limit {
+        name: "a script of 64 MiB",
+        before: b"",
+        byte: b'\n',
+        count: 67_108_864,
+        behind: b"",
+        asked: Run {
+            text: &["END 0 MARK 1:56 GROUPS 0\n"],
+            ..RUN
+        },
+        calls: None,
+    },
+    Limit {
+        name: "a longer script",
+        before: b"",
+        byte: b'\n',
+        count: 67_108_865,
+        behind: b"",
+        asked: Run {
+            status: 5,
+            text: &["FAULT 5 TOO LONG\n"],
+            ..RUN
+        },
+        calls: Some(0),
+    },
+];
+
+fn script_of(alloc: Global, limit: &Limit) -> Result<Bytes, NoMemory> {
+    let mut script = Bytes::from_slice(alloc, limit.before)?;
+    let bytes = vec![in alloc; limit.byte; limit.count]?;
+    script.extend(bytes.as_slice())?;
+    script.extend(limit.behind)?;
     Ok(script)
 }
 
-#[test]
-fn a_message_has_32_mib_at_most(rt: HostRuntime) -> Result<(), Fail> {
-    let alloc = rt.alloc();
-    let longest = run_of(alloc, append_of(alloc, 33_554_432)?.as_slice())?;
-    assert_eq!(rt; longest.groups, 1);
-    assert!(rt;
-        longest.output.as_slice().ends_with(
-            b"a OK [APPENDUID 1000 1] [MARK 1:72] APPEND\nEND 0 MARK 1:72 GROUPS 1\n"
-        )
-    );
-    let longer = run_of(alloc, append_of(alloc, 33_554_433)?.as_slice())?;
-    assert!(rt;
-        longer
-            .output
-            .as_slice()
-            .ends_with(b"a NO [LIMIT] BYTES 33554433\nEND 0 MARK 1:56 GROUPS 0\n")
-    );
-    Ok(())
+fn play(alloc: Global, limit: &Limit) -> Result<Left<MemShelf>, NoMemory> {
+    let script = script_of(alloc, limit)?;
+    let shelf = MemShelf::new(alloc, 40_000_000, List::new(alloc), None)?;
+    play_in(alloc, shelf, script.as_slice(), &limit.asked)
+}
+
+fn is_kept(alloc: Global, limit: &Limit) -> Result<bool, NoMemory> {
+    let left = play(alloc, limit)?;
+    let is_counted = limit.calls == None || limit.calls == Some(left.shelf.call_count());
+    Ok(is_counted && is_as_said(alloc, &left, &limit.asked)?)
+}
+
+fn play_limits(rt: &impl Abort, alloc: Global, limits: &[Limit]) {
+    for limit in limits {
+        let is_so = matches!(is_kept(alloc, limit), Ok(true));
+        assert!(rt; is_so, "{}", limit.name);
+    }
 }
 
 #[test]
-fn a_script_has_64_mib_at_most(rt: HostRuntime) -> Result<(), Fail> {
-    let alloc = rt.alloc();
-    let mut script = filled(alloc, b'\n', 67_108_864)?;
-    ends(
-        &rt,
-        &run_of(alloc, script.as_slice())?,
-        0,
-        "END 0 MARK 1:56 GROUPS 0\n",
-    );
-    script.push(b'\n')?;
-    let longer = run_of(alloc, script.as_slice())?;
-    ends(&rt, &longer, 5, "FAULT 5 TOO LONG\n");
-    assert_eq!(rt; longer.shelf.call_count(), 0);
-    Ok(())
+fn a_message_has_32_mib_at_most(rt: HostRuntime) {
+    play_limits(&rt, rt.alloc(), MESSAGES);
+}
+
+#[test]
+fn a_script_has_64_mib_at_most(rt: HostRuntime) {
+    play_limits(&rt, rt.alloc(), SCRIPTS);
 }

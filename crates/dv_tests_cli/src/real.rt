@@ -1,28 +1,34 @@
-use crate::plays::{Setting, ends, given, play_in};
-use crate::rows;
-use dv_folder::{Folder as RealFolder, Layout, Missing};
+//! Runs over real folders.
+
+use crate::rows::FIRST_FILE;
+use crate::runs::{Left, RUN, Run, is_as_said, play_in};
+use dv_folder::{Folder, Layout, Missing};
 use dv_model::NoMemory;
-use dv_shelf::OpenGate;
 use std::alloc::Global;
-use std::test::Fail;
+use std::test::*;
 use std::{fs, process};
 
-fn path_of(rt: HostRuntime, name: &str) -> Result<String, Fail> {
-    let id = process::id(rt.process());
-    Ok(format!(in rt.alloc(); "{name}_of_test_{id}")?)
+// A file of the folder, which is there or not.
+type There = (&'static str, bool);
+
+// Two runs over a real folder.
+struct Case {
+    name: &'static str,
+    is_storage: bool,
+    /// The first one still holds the folder while the second is asked.
+    is_held: bool,
+    first: Run,
+    /// A file that the first one leaves, with its bytes.
+    kept: Option<(&'static str, &'static [u8])>,
+    second: Run,
+    /// What the second one leaves.
+    left: &'static [There],
 }
 
-fn real_folder(alloc: Global, rt: HostRuntime, path: &str) -> Result<RealFolder, NoMemory> {
-    RealFolder::new(alloc, rt, path, Layout::Mailbox, Missing::Make)
-}
-
-fn real_storage(alloc: Global, rt: HostRuntime, path: &str) -> Result<RealFolder, NoMemory> {
-    RealFolder::new(alloc, rt, path, Layout::Storage, Missing::Make)
-}
-
-const FIRST: &[u8] = b"a SELECT\na APPEND () {5}\nhello\na STORE 1 +FLAGS (\\Seen)\n";
-
-const FIRST_TEXT: &str = "a * 0 EXISTS
+const FIRST: Run = Run {
+    script: "a SELECT\na APPEND () {5}\nhello\na STORE 1 +FLAGS (\\Seen)\n",
+    text: &[
+        "a * 0 EXISTS
 a * OK [UIDVALIDITY 1000]
 a * OK [UIDNEXT 1]
 a OK [MARK 1:56] SELECT
@@ -32,11 +38,15 @@ a OK [APPENDUID 1000 1] [MARK 1:72] APPEND
 a * 1 FETCH (UID 1 FLAGS (\\Seen))
 a OK [MARK 1:92] STORE
 END 0 MARK 1:92 GROUPS 2
-";
+",
+    ],
+    ..RUN
+};
 
-const SECOND: &[u8] = b"b SELECT\nb FETCH 1 (BODY[])\nb STORE 1 +FLAGS (\\Deleted)\nb EXPUNGE\n";
-
-const SECOND_TEXT: &str = "b * 1 EXISTS
+const SECOND: Run = Run {
+    script: "b SELECT\nb FETCH 1 (BODY[])\nb STORE 1 +FLAGS (\\Deleted)\nb EXPUNGE\n",
+    text: &[
+        "b * 1 EXISTS
 b * OK [UIDVALIDITY 1000]
 b * OK [UIDNEXT 2]
 b * 1 FETCH (UID 1 FLAGS (\\Seen))
@@ -49,81 +59,143 @@ b OK [MARK 1:112] STORE
 b * 1 EXPUNGE
 b OK [MARK 1:140] EXPUNGE
 END 0 MARK 1:140 GROUPS 2
-";
+",
+    ],
+    ..RUN
+};
 
-#[test]
-fn a_real_folder_keeps_mail_until_the_next_run(rt: HostRuntime) -> Result<(), Fail> {
-    let alloc = rt.alloc();
-    let path = path_of(rt, "keeps")?;
-    let shelf = real_folder(alloc, rt, path.as_str())?;
-    let first = play_in(alloc, shelf, &OpenGate, given(FIRST))?;
-    ends(&rt, &first, 0, FIRST_TEXT);
-    let file = fs::read(&rt, format!(in alloc; "{path}/u.1")?)?;
-    assert!(rt; file.as_slice() == rows::FIRST_FILE);
-    drop(first);
-    let shelf = real_folder(alloc, rt, path.as_str())?;
-    let second = play_in(alloc, shelf, &OpenGate, given(SECOND))?;
-    ends(&rt, &second, 0, SECOND_TEXT);
-    drop(second);
-    fs::remove_dir_all(&rt, path.as_str())?;
-    Ok(())
+const CASES: &[Case] = &[
+    Case {
+        name: "keeps_mail_until_the_next_run",
+        is_storage: false,
+        is_held: false,
+        first: FIRST,
+        kept: Some(("u.1", FIRST_FILE)),
+        second: SECOND,
+        left: &[],
+    },
+    Case {
+        name: "keeps_messages_until_the_next_run",
+        is_storage: true,
+        is_held: false,
+        first: Run {
+            words: &["mdbox"],
+            script: "SAVE {1}\na\nSAVE {2}\nbc\nDROP 1\n",
+            text: &["OK 1\nOK 2\nOK 1\nEND 0 MARK 1:344 GROUPS 3\n"],
+            ..RUN
+        },
+        kept: None,
+        second: Run {
+            words: &["mdbox"],
+            script: "PURGE\nGET 2\n",
+            text: &["OK PURGED 1\nOK {2}\nbc\nEND 0 MARK 1:416 GROUPS 1\n"],
+            ..RUN
+        },
+        left: &[
+            ("storage/m.1", false),
+            ("storage/m.2", true),
+            ("storage/dovecot.map.index.log", true),
+        ],
+    },
+    Case {
+        name: "refuses_a_second_run_at_once",
+        is_storage: false,
+        is_held: true,
+        first: FIRST,
+        kept: None,
+        second: Run {
+            status: 2,
+            text: &["FAULT 2 DISK 1\n"],
+            ..SECOND
+        },
+        left: &[],
+    },
+];
+
+fn run_in(
+    alloc: Global,
+    rt: HostRuntime,
+    path: &str,
+    is_storage: bool,
+    asked: &Run,
+) -> Result<Left<Folder>, NoMemory> {
+    let layout = if is_storage {
+        Layout::Storage
+    } else {
+        Layout::Mailbox
+    };
+    let shelf = Folder::new(alloc, rt, path, layout, Missing::Make)?;
+    play_in(alloc, shelf, asked.script.as_bytes(), asked)
 }
 
-fn calls(script: &[u8]) -> Setting {
-    Setting {
-        words: &["mdbox"],
-        ..given(script)
+fn is_run_so(
+    alloc: Global,
+    rt: HostRuntime,
+    path: &str,
+    is_storage: bool,
+    asked: &Run,
+) -> Result<bool, NoMemory> {
+    let left = run_in(alloc, rt, path, is_storage, asked)?;
+    is_as_said(alloc, &left, asked)
+}
+
+// Whether the first run is so, and the second one too where it comes while the first holds the
+// folder.
+fn is_first_so(alloc: Global, rt: HostRuntime, path: &str, case: &Case) -> Result<bool, NoMemory> {
+    let first = run_in(alloc, rt, path, case.is_storage, &case.first)?;
+    let is_refused = !case.is_held || is_run_so(alloc, rt, path, case.is_storage, &case.second)?;
+    Ok(is_refused && is_as_said(alloc, &first, &case.first)?)
+}
+
+// Whether a file of the folder has these bytes.
+fn has_file(alloc: Global, rt: HostRuntime, path: &str, name: &str, bytes: &[u8]) -> bool {
+    let Ok(place) = format!(in alloc; "{path}/{name}") else {
+        return false;
+    };
+    match fs::read(&rt, place) {
+        Ok(file) => file.as_slice() == bytes,
+        Err(_) => false,
     }
 }
 
-#[test]
-fn a_real_storage_keeps_messages_until_the_next_run(rt: HostRuntime) -> Result<(), Fail> {
-    let alloc = rt.alloc();
-    let path = path_of(rt, "stores")?;
-    let saves = calls(b"SAVE {1}\na\nSAVE {2}\nbc\nDROP 1\n");
-    let shelf = real_storage(alloc, rt, path.as_str())?;
-    let first = play_in(alloc, shelf, &OpenGate, saves)?;
-    ends(
-        &rt,
-        &first,
-        0,
-        "OK 1\nOK 2\nOK 1\nEND 0 MARK 1:344 GROUPS 3\n",
-    );
-    drop(first);
-    let shelf = real_storage(alloc, rt, path.as_str())?;
-    let second = play_in(alloc, shelf, &OpenGate, calls(b"PURGE\nGET 2\n"))?;
-    ends(
-        &rt,
-        &second,
-        0,
-        "OK PURGED 1\nOK {2}\nbc\nEND 0 MARK 1:416 GROUPS 1\n",
-    );
-    drop(second);
-    for (name, is_there) in [
-        ("m.1", false),
-        ("m.2", true),
-        ("dovecot.map.index.log", true),
-    ] {
-        let found = fs::metadata(&rt, format!(in alloc; "{path}/storage/{name}")?);
-        assert_eq!(rt; found.is_ok(), is_there, "{name}");
+// Whether each of these files is there or not, as it says.
+fn are_there(alloc: Global, rt: HostRuntime, path: &str, files: &[There]) -> bool {
+    for (name, is_there) in files {
+        let Ok(place) = format!(in alloc; "{path}/{name}") else {
+            return false;
+        };
+        if fs::metadata(&rt, place).is_ok() != *is_there {
+            return false;
+        }
     }
-    fs::remove_dir_all(&rt, path.as_str())?;
-    Ok(())
+    true
+}
+
+fn is_so(alloc: Global, rt: HostRuntime, path: &str, case: &Case) -> Result<bool, NoMemory> {
+    if !is_first_so(alloc, rt, path, case)? {
+        return Ok(false);
+    }
+    if let Some((name, bytes)) = case.kept {
+        if !has_file(alloc, rt, path, name, bytes) {
+            return Ok(false);
+        }
+    }
+    Ok(
+        (case.is_held || is_run_so(alloc, rt, path, case.is_storage, &case.second)?)
+            && are_there(alloc, rt, path, case.left),
+    )
 }
 
 #[test]
-fn a_second_run_at_once_is_refused(rt: HostRuntime) -> Result<(), Fail> {
+fn real_folders_are_kept(rt: HostRuntime) -> Result<(), Fail> {
     let alloc = rt.alloc();
-    let path = path_of(rt, "locked")?;
-    let shelf = real_folder(alloc, rt, path.as_str())?;
-    let first = play_in(alloc, shelf, &OpenGate, given(FIRST))?;
-    // the first one's folder is still held
-    let shelf = real_folder(alloc, rt, path.as_str())?;
-    let second = play_in(alloc, shelf, &OpenGate, given(SECOND))?;
-    ends(&rt, &second, 2, "FAULT 2 DISK 1\n");
-    ends(&rt, &first, 0, FIRST_TEXT);
-    drop(first);
-    drop(second);
-    fs::remove_dir_all(&rt, path.as_str())?;
+    let id = process::id(rt.process());
+    for case in CASES {
+        let name = case.name;
+        let path = format!(in alloc; "{name}_of_test_{id}")?;
+        let is_so = matches!(is_so(alloc, rt, path.as_str(), case), Ok(true));
+        assert!(rt; is_so, "{name}");
+        fs::remove_dir_all(&rt, path.as_str())?;
+    }
     Ok(())
 }

@@ -1,19 +1,7 @@
-use crate::plays::{bytes_of, ends, given, play};
-use dv_model::{Bytes, List};
-use dv_shelf::{Folder, Name};
-use std::alloc::Global;
-use std::process::Abort;
-use std::test::Fail;
+//! The worked rows: scripts over folders, with all that is written or its end.
 
-/// A script over a folder, whose files are given in parts, and what is written: all of it, or its
-/// end where the first part of the text is empty.
-struct Row {
-    files: &'static [(Name, &'static [&'static [u8]])],
-    fails: &'static [u32],
-    script: &'static str,
-    status: u8,
-    text: &'static [&'static str],
-}
+use crate::runs::{Case, Files, RUN, Run, play_cases};
+use dv_shelf::Name;
 
 pub const HEADER: &[u8] = b"\x01\x03\x28\x00\xe8\x03\x00\x00\x01\x00\x00\x00\x00\x00\x00\x00\
     \x00\x00\x00\x00\xe8\x03\x00\x00\x01\x00\x00\x00\x00\x00\x00\x00\
@@ -34,16 +22,16 @@ pub const CLOSED: &[u8] = b"\x00\x00\x00\x00";
 pub const FIRST_FILE: &[u8] = b"2 M1e C3e9\n\x01\x02N          0000000000000005\nhello\n\x01\x03\n\
 G000003e8000003e800000001000003e9\nR3e9\nZ5\nV5\n\n";
 
-const NEW: &[(Name, &[&[u8]])] = &[];
+pub const NEW: Files = &[];
 
-const MADE: &[(Name, &[&[u8]])] = &[(Name::Log, &[HEADER, VALIDITY, CLOSED])];
+pub const MADE: Files = &[(Name::Log, &[HEADER, VALIDITY, CLOSED])];
 
-const ONE: &[(Name, &[&[u8]])] = &[
+pub const ONE: Files = &[
     (Name::Log, &[HEADER, VALIDITY, APPEND, CLOSED]),
     (Name::Mail(1), &[FIRST_FILE]),
 ];
 
-const ONE_SEEN: &[(Name, &[&[u8]])] = &[
+pub const ONE_SEEN: Files = &[
     (Name::Log, &[HEADER, VALIDITY, APPEND, SEEN, CLOSED]),
     (Name::Mail(1), &[FIRST_FILE]),
 ];
@@ -62,119 +50,139 @@ const ONE_SHOWN: &str = "a * 1 EXISTS\na * OK [UIDVALIDITY 1000]\na * OK [UIDNEX
 const SEEN_SELECTED: &str = "a * 1 EXISTS\na * OK [UIDVALIDITY 1000]\na * OK [UIDNEXT 2]\n\
     a * 1 FETCH (UID 1 FLAGS (\\Seen))\na OK [MARK 1:92] SELECT\n";
 
-const EMPTY: &[Row] = &[
-    Row {
+const EMPTY: &[Case] = &[
+    Case {
+        name: "an empty script makes a mailbox",
         files: NEW,
-        fails: &[],
-        script: "",
-        status: 0,
-        text: &["END 0 MARK 1:56 GROUPS 0\n"],
+        runs: &[Run {
+            text: &["END 0 MARK 1:56 GROUPS 0\n"],
+            ..RUN
+        }],
+        kept: &[],
     },
-    Row {
+    Case {
+        name: "a new mailbox is selected",
         files: NEW,
-        fails: &[],
-        script: "a SELECT\n",
-        status: 0,
-        text: &[SELECTED, "END 0 MARK 1:56 GROUPS 0\n"],
+        runs: &[Run {
+            script: "a SELECT\n",
+            text: &[SELECTED, "END 0 MARK 1:56 GROUPS 0\n"],
+            ..RUN
+        }],
+        kept: &[],
     },
-    // a session reads what it wrote, and a write without a record is no group
-    Row {
+    Case {
+        name: "a session reads what it wrote, and a write without a record is no group",
         files: NEW,
-        fails: &[],
-        script: "a SELECT\na APPEND () {5}\nhello\na STORE 1 +FLAGS (\\Seen)\na EXPUNGE\n\
+        runs: &[Run {
+            script: "a SELECT\na APPEND () {5}\nhello\na STORE 1 +FLAGS (\\Seen)\na EXPUNGE\n\
             a STORE 1 +FLAGS ()\na STORE 1 FLAGS (\\Draft k1)\na SEARCH OR SEEN KEYWORD k1\n\
             a UID SEARCH NOT DRAFT\na SEARCH LARGER 4\na SEARCH HEADER Subject \"\"\n",
-        status: 0,
-        text: &[
-            SELECTED,
-            APPENDED,
-            STORED,
-            "a OK [MARK 1:92] EXPUNGE\na OK [MARK 1:92] STORE\n",
-            "a * 1 FETCH (UID 1 FLAGS (\\Draft k1))\na OK [MARK 1:152] STORE\n",
-            "a * SEARCH 1\na OK [MARK 1:152] SEARCH\na * SEARCH\na OK [MARK 1:152] UID SEARCH\n",
-            "a * SEARCH 1\na OK [MARK 1:152] SEARCH\na * SEARCH\na OK [MARK 1:152] SEARCH\n",
-            "END 0 MARK 1:152 GROUPS 3\n",
-        ],
+            text: &[
+                SELECTED,
+                APPENDED,
+                STORED,
+                "a OK [MARK 1:92] EXPUNGE\na OK [MARK 1:92] STORE\n",
+                "a * 1 FETCH (UID 1 FLAGS (\\Draft k1))\na OK [MARK 1:152] STORE\n",
+                "a * SEARCH 1\na OK [MARK 1:152] SEARCH\n",
+                "a * SEARCH\na OK [MARK 1:152] UID SEARCH\n",
+                "a * SEARCH 1\na OK [MARK 1:152] SEARCH\na * SEARCH\na OK [MARK 1:152] SEARCH\n",
+                "END 0 MARK 1:152 GROUPS 3\n",
+            ],
+            ..RUN
+        }],
+        kept: &[],
     },
 ];
 
-const EXPUNGED: &[Row] = &[
-    // expunged numbers fall from the highest
-    Row {
+const EXPUNGED: &[Case] = &[
+    Case {
+        name: "expunged numbers fall from the highest",
         files: NEW,
-        fails: &[],
-        script: "a SELECT\na APPEND () {1}\n1\na APPEND () {1}\n2\na APPEND () {1}\n3\n\
+        runs: &[Run {
+            script: "a SELECT\na APPEND () {1}\n1\na APPEND () {1}\n2\na APPEND () {1}\n3\n\
             a APPEND () {1}\n4\na APPEND () {1}\n5\na APPEND () {1}\n6\na APPEND () {1}\n7\n\
             a APPEND () {1}\n8\na APPEND () {1}\n9\na STORE 5:9 +FLAGS (\\Deleted)\na EXPUNGE\n",
-        status: 0,
-        text: &[
-            "",
-            "a OK [MARK 1:220] STORE\n",
-            "a * 9 EXPUNGE\na * 8 EXPUNGE\na * 7 EXPUNGE\na * 6 EXPUNGE\na * 5 EXPUNGE\n",
-            "a OK [MARK 1:328] EXPUNGE\nEND 0 MARK 1:328 GROUPS 11\n",
-        ],
+            text: &[
+                "",
+                "a OK [MARK 1:220] STORE\n",
+                "a * 9 EXPUNGE\na * 8 EXPUNGE\na * 7 EXPUNGE\na * 6 EXPUNGE\na * 5 EXPUNGE\n",
+                "a OK [MARK 1:328] EXPUNGE\nEND 0 MARK 1:328 GROUPS 11\n",
+            ],
+            ..RUN
+        }],
+        kept: &[],
     },
-    // an expunge is told where numbers may change
-    Row {
+    Case {
+        name: "an expunge is told where numbers may change",
         files: NEW,
-        fails: &[],
-        script: "a SELECT\na APPEND (\\Deleted) {2}\nhi\nb SELECT\na EXPUNGE\nb FETCH 1 (FLAGS)\n\
+        runs: &[Run {
+            script: "a SELECT\na APPEND (\\Deleted) {2}\nhi\nb SELECT\na EXPUNGE\n\
+                b FETCH 1 (FLAGS)\n\
             b NOOP\n",
-        status: 0,
-        text: &[
-            SELECTED,
-            "a * 1 EXISTS\na * 1 FETCH (UID 1 FLAGS (\\Deleted))\n",
-            "a OK [APPENDUID 1000 1] [MARK 1:72] APPEND\n",
-            "b * 1 EXISTS\nb * OK [UIDVALIDITY 1000]\nb * OK [UIDNEXT 2]\n",
-            "b * 1 FETCH (UID 1 FLAGS (\\Deleted))\nb OK [MARK 1:72] SELECT\n",
-            "a * 1 EXPUNGE\na OK [MARK 1:100] EXPUNGE\n",
-            "b * 1 FETCH (UID 1 FLAGS (\\Deleted))\nb OK [MARK 1:100] FETCH\n",
-            "b * 1 EXPUNGE\nb OK [MARK 1:100] NOOP\nEND 0 MARK 1:100 GROUPS 2\n",
-        ],
+            text: &[
+                SELECTED,
+                "a * 1 EXISTS\na * 1 FETCH (UID 1 FLAGS (\\Deleted))\n",
+                "a OK [APPENDUID 1000 1] [MARK 1:72] APPEND\n",
+                "b * 1 EXISTS\nb * OK [UIDVALIDITY 1000]\nb * OK [UIDNEXT 2]\n",
+                "b * 1 FETCH (UID 1 FLAGS (\\Deleted))\nb OK [MARK 1:72] SELECT\n",
+                "a * 1 EXPUNGE\na OK [MARK 1:100] EXPUNGE\n",
+                "b * 1 FETCH (UID 1 FLAGS (\\Deleted))\nb OK [MARK 1:100] FETCH\n",
+                "b * 1 EXPUNGE\nb OK [MARK 1:100] NOOP\nEND 0 MARK 1:100 GROUPS 2\n",
+            ],
+            ..RUN
+        }],
+        kept: &[],
     },
-    // the text of an expunged message is gone
-    Row {
+    Case {
+        name: "the text of an expunged message is gone",
         files: NEW,
-        fails: &[],
-        script: "a SELECT\na APPEND (\\Deleted) {2}\nhi\nb SELECT\na EXPUNGE\n\
+        runs: &[Run {
+            script: "a SELECT\na APPEND (\\Deleted) {2}\nhi\nb SELECT\na EXPUNGE\n\
             b FETCH 1 (BODY[])\n",
-        status: 0,
-        text: &[
-            "",
-            "a * 1 EXPUNGE\na OK [MARK 1:100] EXPUNGE\n",
-            "b NO [EXPUNGEISSUED] UID 1 MARK 1:100\nEND 0 MARK 1:100 GROUPS 2\n",
-        ],
+            text: &[
+                "",
+                "a * 1 EXPUNGE\na OK [MARK 1:100] EXPUNGE\n",
+                "b NO [EXPUNGEISSUED] UID 1 MARK 1:100\nEND 0 MARK 1:100 GROUPS 2\n",
+            ],
+            ..RUN
+        }],
+        kept: &[],
     },
 ];
 
-const UNTOLD: &[Row] = &[
-    // a row that a session wasn't told of is passed over by its STORE
-    Row {
+const UNTOLD: &[Case] = &[
+    Case {
+        name: "a row that a session wasn't told of is passed over by its STORE",
         files: NEW,
-        fails: &[],
-        script: "a SELECT\na APPEND (\\Deleted) {1}\nx\na APPEND () {1}\ny\nb SELECT\na EXPUNGE\n\
+        runs: &[Run {
+            script: "a SELECT\na APPEND (\\Deleted) {1}\nx\na APPEND () {1}\ny\nb SELECT\n\
+                a EXPUNGE\n\
             b STORE 1:2 +FLAGS (\\Flagged)\n",
-        status: 0,
-        text: &[
-            "",
-            "a * 1 EXPUNGE\na OK [MARK 1:116] EXPUNGE\nb * 2 FETCH (UID 2 FLAGS (\\Flagged))\n",
-            "b NO [EXPUNGEISSUED] UID 1 MARK 1:136\nEND 0 MARK 1:136 GROUPS 4\n",
-        ],
+            text: &[
+                "",
+                "a * 1 EXPUNGE\na OK [MARK 1:116] EXPUNGE\nb * 2 FETCH (UID 2 FLAGS (\\Flagged))\n",
+                "b NO [EXPUNGEISSUED] UID 1 MARK 1:136\nEND 0 MARK 1:136 GROUPS 4\n",
+            ],
+            ..RUN
+        }],
+        kept: &[],
     },
-    // a message that came and went is never told
-    Row {
+    Case {
+        name: "a message that came and went is never told",
         files: NEW,
-        fails: &[],
-        script: "a SELECT\nb SELECT\na APPEND (\\Deleted) {2}\nhi\na EXPUNGE\nb NOOP\n",
-        status: 0,
-        text: &[
-            "",
-            "a * 1 EXPUNGE\na OK [MARK 1:100] EXPUNGE\nb OK [MARK 1:100] NOOP\n",
-            "END 0 MARK 1:100 GROUPS 2\n",
-        ],
+        runs: &[Run {
+            script: "a SELECT\nb SELECT\na APPEND (\\Deleted) {2}\nhi\na EXPUNGE\nb NOOP\n",
+            text: &[
+                "",
+                "a * 1 EXPUNGE\na OK [MARK 1:100] EXPUNGE\nb OK [MARK 1:100] NOOP\n",
+                "END 0 MARK 1:100 GROUPS 2\n",
+            ],
+            ..RUN
+        }],
+        kept: &[],
     },
-    // the largest UID
-    Row {
+    Case {
+        name: "the largest UID",
         files: &[(
             Name::Log,
             &[
@@ -183,50 +191,59 @@ const UNTOLD: &[Row] = &[
                 CLOSED,
             ],
         )],
-        fails: &[],
-        script: "a SELECT\na APPEND () {1}\nx\na APPEND () {1}\ny\n",
-        status: 0,
-        text: &[
-            "",
-            "a OK [APPENDUID 1000 4294967294] [MARK 1:76] APPEND\na NO [LIMIT] UIDS\n",
-            "END 0 MARK 1:76 GROUPS 1\n",
-        ],
+        runs: &[Run {
+            script: "a SELECT\na APPEND () {1}\nx\na APPEND () {1}\ny\n",
+            text: &[
+                "",
+                "a OK [APPENDUID 1000 4294967294] [MARK 1:76] APPEND\na NO [LIMIT] UIDS\n",
+                "END 0 MARK 1:76 GROUPS 1\n",
+            ],
+            ..RUN
+        }],
+        kept: &[],
     },
 ];
 
-const FAILED: &[Row] = &[
-    // a failed write is undone by the next
-    Row {
+const FAILED: &[Case] = &[
+    Case {
+        name: "a failed write is undone by the next",
         files: NEW,
-        fails: &[11],
-        script: "a SELECT\na APPEND () {5}\nhello\na STORE 1 +FLAGS (\\Seen)\n\
+        runs: &[Run {
+            fails: &[11],
+            script: "a SELECT\na APPEND () {5}\nhello\na STORE 1 +FLAGS (\\Seen)\n\
             a STORE 1 +FLAGS (\\Seen)\n",
-        status: 0,
-        text: &[
-            SELECTED,
-            APPENDED,
-            "a NO [UNAVAILABLE] FAULTS 1\n",
-            STORED,
-            "END 0 MARK 1:92 GROUPS 2\n",
-        ],
+            text: &[
+                SELECTED,
+                APPENDED,
+                "a NO [UNAVAILABLE] FAULTS 1\n",
+                STORED,
+                "END 0 MARK 1:92 GROUPS 2\n",
+            ],
+            ..RUN
+        }],
+        kept: &[],
     },
-    Row {
+    Case {
+        name: "a failed append of no bytes is undone by the next",
         files: NEW,
-        fails: &[7],
-        script: "a SELECT\na APPEND () {0}\n\na APPEND () {0}\n",
-        status: 0,
-        text: &[
-            SELECTED,
-            "a NO [UNAVAILABLE] FAULTS 1\n",
-            APPENDED,
-            "END 0 MARK 1:72 GROUPS 1\n",
-        ],
+        runs: &[Run {
+            fails: &[7],
+            script: "a SELECT\na APPEND () {0}\n\na APPEND () {0}\n",
+            text: &[
+                SELECTED,
+                "a NO [UNAVAILABLE] FAULTS 1\n",
+                APPENDED,
+                "END 0 MARK 1:72 GROUPS 1\n",
+            ],
+            ..RUN
+        }],
+        kept: &[],
     },
 ];
 
-const LOGS: &[Row] = &[
-    // a log without the four bytes behind its end
-    Row {
+const LOGS: &[Case] = &[
+    Case {
+        name: "a log without the four bytes behind its end",
         files: &[(
             Name::Log,
             &[
@@ -236,16 +253,18 @@ const LOGS: &[Row] = &[
                 APPEND,
             ],
         )],
-        fails: &[],
-        script: "a SELECT\n",
-        status: 0,
-        text: &[
-            ONE_SHOWN,
-            "a OK [MARK 1:84] SELECT\nEND 0 MARK 1:84 GROUPS 0\n",
-        ],
+        runs: &[Run {
+            script: "a SELECT\n",
+            text: &[
+                ONE_SHOWN,
+                "a OK [MARK 1:84] SELECT\nEND 0 MARK 1:84 GROUPS 0\n",
+            ],
+            ..RUN
+        }],
+        kept: &[],
     },
-    // a keyword replaces all others over a wide range
-    Row {
+    Case {
+        name: "a keyword replaces all others over a wide range",
         files: &[(
             Name::Log,
             &[
@@ -259,110 +278,132 @@ const LOGS: &[Row] = &[
                 CLOSED,
             ],
         )],
-        fails: &[],
-        script: "a SELECT\n",
-        status: 0,
-        text: &[
-            "a * 1 EXISTS\na * OK [UIDVALIDITY 1000]\na * OK [UIDNEXT 8]\n",
-            "a * 1 FETCH (UID 7 FLAGS (new))\na OK [MARK 1:120] SELECT\n",
-            "END 0 MARK 1:120 GROUPS 0\n",
-        ],
+        runs: &[Run {
+            script: "a SELECT\n",
+            text: &[
+                "a * 1 EXISTS\na * OK [UIDVALIDITY 1000]\na * OK [UIDNEXT 8]\n",
+                "a * 1 FETCH (UID 7 FLAGS (new))\na OK [MARK 1:120] SELECT\n",
+                "END 0 MARK 1:120 GROUPS 0\n",
+            ],
+            ..RUN
+        }],
+        kept: &[],
     },
 ];
 
-const MESSAGES: &[Row] = &[
-    // a snapshot with the cache
-    Row {
+const MESSAGES: &[Case] = &[
+    Case {
+        name: "a snapshot with the cache",
         files: ONE_SEEN,
-        fails: &[],
-        script: "a SELECT\na CHECK\na FETCH 1 (FIELD Subject)\n",
-        status: 0,
-        text: &[
-            SEEN_SELECTED,
-            "a OK [MARK 1:160] CHECK\na * 1 FETCH (UID 1 FIELD Subject NIL)\n",
-            "a OK [MARK 1:160] FETCH\nEND 0 MARK 1:160 GROUPS 1\n",
-        ],
+        runs: &[Run {
+            script: "a SELECT\na CHECK\na FETCH 1 (FIELD Subject)\n",
+            text: &[
+                SEEN_SELECTED,
+                "a OK [MARK 1:160] CHECK\na * 1 FETCH (UID 1 FIELD Subject NIL)\n",
+                "a OK [MARK 1:160] FETCH\nEND 0 MARK 1:160 GROUPS 1\n",
+            ],
+            ..RUN
+        }],
+        kept: &[],
     },
-    Row {
+    Case {
+        name: "a message is read from its file",
         files: ONE,
-        fails: &[],
-        script: "a SELECT\na FETCH 1 (RFC822.SIZE BODY[])\n",
-        status: 0,
-        text: &[
-            ONE_SHOWN,
-            "a OK [MARK 1:72] SELECT\na * 1 FETCH (UID 1 RFC822.SIZE 5 BODY[] {5}\nhello)\n",
-            "a OK [MARK 1:72] FETCH\nEND 0 MARK 1:72 GROUPS 0\n",
-        ],
+        runs: &[Run {
+            script: "a SELECT\na FETCH 1 (RFC822.SIZE BODY[])\n",
+            text: &[
+                ONE_SHOWN,
+                "a OK [MARK 1:72] SELECT\na * 1 FETCH (UID 1 RFC822.SIZE 5 BODY[] {5}\nhello)\n",
+                "a OK [MARK 1:72] FETCH\nEND 0 MARK 1:72 GROUPS 0\n",
+            ],
+            ..RUN
+        }],
+        kept: &[],
     },
-    // an empty file is no message
-    Row {
+    Case {
+        name: "an empty file is no message",
         files: &[
             (Name::Log, &[HEADER, VALIDITY, APPEND, CLOSED]),
             (Name::Mail(1), &[]),
         ],
-        fails: &[],
-        script: "a SELECT\na FETCH 1 (RFC822.SIZE BODY[])\n",
-        status: 0,
-        text: &[
-            ONE_SHOWN,
-            "a OK [MARK 1:72] SELECT\na NO [CORRUPTION] UID 1 MARK 1:72\n",
-            "END 0 MARK 1:72 GROUPS 0\n",
-        ],
+        runs: &[Run {
+            script: "a SELECT\na FETCH 1 (RFC822.SIZE BODY[])\n",
+            text: &[
+                ONE_SHOWN,
+                "a OK [MARK 1:72] SELECT\na NO [CORRUPTION] UID 1 MARK 1:72\n",
+                "END 0 MARK 1:72 GROUPS 0\n",
+            ],
+            ..RUN
+        }],
+        kept: &[],
     },
 ];
 
-const NUMBERS: &[Row] = &[
-    // numbers that aren't there
-    Row {
+const NUMBERS: &[Case] = &[
+    Case {
+        name: "numbers that aren't there",
         files: NEW,
-        fails: &[],
-        script: "a NOOP\na SELECT\na FETCH 1 (FLAGS)\na FETCH * (FLAGS)\na UID FETCH 1:* (FLAGS)\n",
-        status: 0,
-        text: &[
-            "a BAD NOT SELECTED\n",
-            SELECTED,
-            "a BAD NO MESSAGE 1\na BAD NO MESSAGE 0\na OK [MARK 1:56] UID FETCH\n",
-            "END 0 MARK 1:56 GROUPS 0\n",
-        ],
+        runs: &[Run {
+            script: "a NOOP\na SELECT\na FETCH 1 (FLAGS)\na FETCH * (FLAGS)\n\
+                a UID FETCH 1:* (FLAGS)\n",
+            text: &[
+                "a BAD NOT SELECTED\n",
+                SELECTED,
+                "a BAD NO MESSAGE 1\na BAD NO MESSAGE 0\na OK [MARK 1:56] UID FETCH\n",
+                "END 0 MARK 1:56 GROUPS 0\n",
+            ],
+            ..RUN
+        }],
+        kept: &[],
     },
-    Row {
+    Case {
+        name: "UIDs are removed once",
         files: ONE_SEEN,
-        fails: &[],
-        script: "a SELECT\na UID REMOVE 1:5\na UID REMOVE 1:5\n",
-        status: 0,
-        text: &[
-            SEEN_SELECTED,
-            "a * 1 EXPUNGE\na OK [MARK 1:120] UID REMOVE\na OK [MARK 1:120] UID REMOVE\n",
-            "END 0 MARK 1:120 GROUPS 1\n",
-        ],
+        runs: &[Run {
+            script: "a SELECT\na UID REMOVE 1:5\na UID REMOVE 1:5\n",
+            text: &[
+                SEEN_SELECTED,
+                "a * 1 EXPUNGE\na OK [MARK 1:120] UID REMOVE\na OK [MARK 1:120] UID REMOVE\n",
+                "END 0 MARK 1:120 GROUPS 1\n",
+            ],
+            ..RUN
+        }],
+        kept: &[],
     },
-    // modification sequences
-    Row {
+    Case {
+        name: "modification sequences",
         files: ONE_SEEN,
-        fails: &[],
-        script: "a SELECT\na FETCH 1 (MODSEQ)\na STORE 1 (UNCHANGEDSINCE 3) +FLAGS (\\Flagged)\n\
+        runs: &[Run {
+            script: "a SELECT\na FETCH 1 (MODSEQ)\na STORE 1 (UNCHANGEDSINCE 3) \
+                +FLAGS (\\Flagged)\n\
             a STORE 1 (UNCHANGEDSINCE 4) +FLAGS (\\Flagged)\n",
-        status: 0,
-        text: &[
-            SEEN_SELECTED,
-            "a * 1 FETCH (UID 1 MODSEQ (4))\na OK [MARK 1:92] FETCH\n",
-            "a OK [MODIFIED 1] [MARK 1:92] STORE\n",
-            "a * 1 FETCH (UID 1 FLAGS (\\Flagged \\Seen))\na OK [MARK 1:112] STORE\n",
-            "END 0 MARK 1:112 GROUPS 1\n",
-        ],
+            text: &[
+                SEEN_SELECTED,
+                "a * 1 FETCH (UID 1 MODSEQ (4))\na OK [MARK 1:92] FETCH\n",
+                "a OK [MODIFIED 1] [MARK 1:92] STORE\n",
+                "a * 1 FETCH (UID 1 FLAGS (\\Flagged \\Seen))\na OK [MARK 1:112] STORE\n",
+                "END 0 MARK 1:112 GROUPS 1\n",
+            ],
+            ..RUN
+        }],
+        kept: &[],
     },
 ];
 
-const DAMAGED: &[Row] = &[
-    // folders that aren't opened
-    Row {
+const DAMAGED: &[Case] = &[
+    Case {
+        name: "messages without a log",
         files: &[(Name::Mail(1), &[FIRST_FILE])],
-        fails: &[],
-        script: "a SELECT\n",
-        status: 3,
-        text: &["FAULT 3 NoLog\n"],
+        runs: &[Run {
+            script: "a SELECT\n",
+            status: 3,
+            text: &["FAULT 3 NoLog\n"],
+            ..RUN
+        }],
+        kept: &[],
     },
-    Row {
+    Case {
+        name: "a log header that is cut",
         files: &[(
             Name::Log,
             &[
@@ -370,12 +411,16 @@ const DAMAGED: &[Row] = &[
                     \x00\x00\x00\x00\xe8\x03\x00",
             ],
         )],
-        fails: &[],
-        script: "a SELECT\n",
-        status: 3,
-        text: &["FAULT 3 BadLogHeader\n"],
+        runs: &[Run {
+            script: "a SELECT\n",
+            status: 3,
+            text: &["FAULT 3 BadLogHeader\n"],
+            ..RUN
+        }],
+        kept: &[],
     },
-    Row {
+    Case {
+        name: "a log header of another size",
         files: &[(
             Name::Log,
             &[
@@ -385,15 +430,19 @@ const DAMAGED: &[Row] = &[
                 CLOSED,
             ],
         )],
-        fails: &[],
-        script: "a SELECT\n",
-        status: 3,
-        text: &["FAULT 3 BadLogHeader\n"],
+        runs: &[Run {
+            script: "a SELECT\n",
+            status: 3,
+            text: &["FAULT 3 BadLogHeader\n"],
+            ..RUN
+        }],
+        kept: &[],
     },
 ];
 
-const BEHIND: &[Row] = &[
-    Row {
+const BEHIND: &[Case] = &[
+    Case {
+        name: "a log header without its index's number",
         files: &[(
             Name::Log,
             &[
@@ -403,13 +452,16 @@ const BEHIND: &[Row] = &[
                 CLOSED,
             ],
         )],
-        fails: &[],
-        script: "a SELECT\n",
-        status: 3,
-        text: &["FAULT 3 BadLogHeader\n"],
+        runs: &[Run {
+            script: "a SELECT\n",
+            status: 3,
+            text: &["FAULT 3 BadLogHeader\n"],
+            ..RUN
+        }],
+        kept: &[],
     },
-    // the second file of a mailbox, without the first and without a snapshot
-    Row {
+    Case {
+        name: "the second file of a mailbox, without the first and without a snapshot",
         files: &[(
             Name::Log,
             &[
@@ -419,12 +471,16 @@ const BEHIND: &[Row] = &[
                 CLOSED,
             ],
         )],
-        fails: &[],
-        script: "a SELECT\n",
-        status: 3,
-        text: &["FAULT 3 BadIndex\n"],
+        runs: &[Run {
+            script: "a SELECT\n",
+            status: 3,
+            text: &["FAULT 3 BadIndex\n"],
+            ..RUN
+        }],
+        kept: &[],
     },
-    Row {
+    Case {
+        name: "the fifth file of a mailbox",
         files: &[(
             Name::Log,
             &[
@@ -434,24 +490,30 @@ const BEHIND: &[Row] = &[
                 CLOSED,
             ],
         )],
-        fails: &[],
-        script: "a SELECT\n",
-        status: 3,
-        text: &["FAULT 3 BadIndex\n"],
+        runs: &[Run {
+            script: "a SELECT\n",
+            status: 3,
+            text: &["FAULT 3 BadIndex\n"],
+            ..RUN
+        }],
+        kept: &[],
     },
 ];
 
-const RECORDS: &[Row] = &[
-    // a UID that was given before
-    Row {
+const RECORDS: &[Case] = &[
+    Case {
+        name: "a UID that was given before",
         files: &[(Name::Log, &[HEADER, VALIDITY, APPEND, APPEND, CLOSED])],
-        fails: &[],
-        script: "a SELECT\n",
-        status: 3,
-        text: &["FAULT 3 BadRecord 72\n"],
+        runs: &[Run {
+            script: "a SELECT\n",
+            status: 3,
+            text: &["FAULT 3 BadRecord 72\n"],
+            ..RUN
+        }],
+        kept: &[],
     },
-    // a record's size that is no multiple of four
-    Row {
+    Case {
+        name: "a record's size that is no multiple of four",
         files: &[(
             Name::Log,
             &[
@@ -460,13 +522,16 @@ const RECORDS: &[Row] = &[
                 CLOSED,
             ],
         )],
-        fails: &[],
-        script: "a SELECT\n",
-        status: 3,
-        text: &["FAULT 3 BadRecord 40\n"],
+        runs: &[Run {
+            script: "a SELECT\n",
+            status: 3,
+            text: &["FAULT 3 BadRecord 40\n"],
+            ..RUN
+        }],
+        kept: &[],
     },
-    // an expunge without its guard
-    Row {
+    Case {
+        name: "an expunge without its guard",
         files: &[(
             Name::Log,
             &[
@@ -476,16 +541,19 @@ const RECORDS: &[Row] = &[
                 CLOSED,
             ],
         )],
-        fails: &[],
-        script: "a SELECT\n",
-        status: 3,
-        text: &["FAULT 3 BadRecord 56\n"],
+        runs: &[Run {
+            script: "a SELECT\n",
+            status: 3,
+            text: &["FAULT 3 BadRecord 56\n"],
+            ..RUN
+        }],
+        kept: &[],
     },
 ];
 
-const INDEXES: &[Row] = &[
-    // a UID of 0
-    Row {
+const INDEXES: &[Case] = &[
+    Case {
+        name: "a UID of 0",
         files: &[(
             Name::Log,
             &[
@@ -495,171 +563,110 @@ const INDEXES: &[Row] = &[
                 CLOSED,
             ],
         )],
-        fails: &[],
-        script: "a SELECT\n",
-        status: 3,
-        text: &["FAULT 3 BadRecord 56\n"],
+        runs: &[Run {
+            script: "a SELECT\n",
+            status: 3,
+            text: &["FAULT 3 BadRecord 56\n"],
+            ..RUN
+        }],
+        kept: &[],
     },
-    // a log of its header alone
-    Row {
+    Case {
+        name: "a log of its header alone",
         files: &[(Name::Log, &[HEADER])],
-        fails: &[],
-        script: "a SELECT\n",
-        status: 0,
-        text: &[
-            "a * 0 EXISTS\na * OK [UIDVALIDITY 1000]\na * OK [UIDNEXT 1]\n",
-            "a OK [MARK 1:40] SELECT\nEND 0 MARK 1:40 GROUPS 0\n",
-        ],
+        runs: &[Run {
+            script: "a SELECT\n",
+            text: &[
+                "a * 0 EXISTS\na * OK [UIDVALIDITY 1000]\na * OK [UIDNEXT 1]\n",
+                "a OK [MARK 1:40] SELECT\nEND 0 MARK 1:40 GROUPS 0\n",
+            ],
+            ..RUN
+        }],
+        kept: &[],
     },
-    // a snapshot that is none
-    Row {
+    Case {
+        name: "a snapshot that is none",
         files: &[
             (Name::Log, &[HEADER, VALIDITY, CLOSED]),
             (Name::Index, &[HEADER]),
         ],
-        fails: &[],
-        script: "a SELECT\n",
-        status: 0,
-        text: &[SELECTED, "END 0 MARK 1:56 GROUPS 0\n"],
+        runs: &[Run {
+            script: "a SELECT\n",
+            text: &[SELECTED, "END 0 MARK 1:56 GROUPS 0\n"],
+            ..RUN
+        }],
+        kept: &[],
     },
 ];
 
-const ENDS: &[Row] = &[
-    // the first call fails
-    Row {
+const ENDS: &[Case] = &[
+    Case {
+        name: "the first call fails",
         files: NEW,
-        fails: &[1],
-        script: "a SELECT\n",
-        status: 2,
-        text: &["FAULT 2 DISK 1\n"],
+        runs: &[Run {
+            fails: &[1],
+            script: "a SELECT\n",
+            status: 2,
+            text: &["FAULT 2 DISK 1\n"],
+            ..RUN
+        }],
+        kept: &[],
     },
-    Row {
+    Case {
+        name: "the second call over a mailbox fails",
         files: MADE,
-        fails: &[2],
-        script: "a SELECT\n",
-        status: 2,
-        text: &["FAULT 2 DISK 1\n"],
+        runs: &[Run {
+            fails: &[2],
+            script: "a SELECT\n",
+            status: 2,
+            text: &["FAULT 2 DISK 1\n"],
+            ..RUN
+        }],
+        kept: &[],
     },
-    // scripts that are none
-    Row {
+    Case {
+        name: "a line that is none",
         files: NEW,
-        fails: &[1],
-        script: "a FETCH 0 (FLAGS)\n",
-        status: 5,
-        text: &["FAULT 5 LINE 1\n"],
+        runs: &[Run {
+            fails: &[1],
+            script: "a FETCH 0 (FLAGS)\n",
+            status: 5,
+            text: &["FAULT 5 LINE 1\n"],
+            ..RUN
+        }],
+        kept: &[],
     },
-    Row {
+    Case {
+        name: "a literal that is cut",
         files: NEW,
-        fails: &[1],
-        script: "a APPEND () {5}\nhel",
-        status: 5,
-        text: &["FAULT 5 SHORT LITERAL 1\n"],
+        runs: &[Run {
+            fails: &[1],
+            script: "a APPEND () {5}\nhel",
+            status: 5,
+            text: &["FAULT 5 SHORT LITERAL 1\n"],
+            ..RUN
+        }],
+        kept: &[],
     },
 ];
 
-/// A folder with these files.
-pub fn folder_of(alloc: Global, files: &[(Name, &[&[u8]])]) -> Result<Folder, Fail> {
-    let mut folder = List::new(alloc);
-    for (name, parts) in files {
-        let mut bytes = Bytes::new(alloc);
-        for part in parts.iter() {
-            bytes.extend(part)?;
-        }
-        folder.push((*name, bytes))?;
-    }
-    Ok(folder)
-}
-
-/// Whether the output is as the row says.
-fn is_text(alloc: Global, output: &[u8], row: &Row) -> Result<bool, Fail> {
-    let mut text = Bytes::new(alloc);
-    for part in row.text {
-        text.extend(part.as_bytes())?;
-    }
-    match row.text {
-        [first, ..] if first.is_empty() => Ok(output.ends_with(text.as_slice())),
-        _ => Ok(output == text.as_slice()),
+#[test]
+fn sessions_write_and_read(rt: HostRuntime) {
+    for cases in [EMPTY, EXPUNGED, UNTOLD, NUMBERS] {
+        play_cases(&rt, rt.alloc(), cases);
     }
 }
 
-fn play_row(rt: &impl Abort, alloc: Global, row: &Row) -> Result<(), Fail> {
-    let folder = folder_of(alloc, row.files)?;
-    let left = play(alloc, &folder, row.fails, given(row.script.as_bytes()))?;
-    let output = left.output.as_slice();
-    assert_eq!(rt;
-        left.status,
-        row.status,
-        "{}",
-        std::str::from_utf8(output).unwrap_or("?")
-    );
-    let is = is_text(alloc, output, row)?;
-    assert!(rt; is, "{}", std::str::from_utf8(output).unwrap_or("?"));
-    Ok(())
-}
-
-fn play_rows(rt: &impl Abort, alloc: Global, rows: &[Row]) -> Result<(), Fail> {
-    for row in rows {
-        play_row(rt, alloc, row)?;
+#[test]
+fn what_others_wrote_is_read(rt: HostRuntime) {
+    for cases in [LOGS, MESSAGES, RECORDS, INDEXES] {
+        play_cases(&rt, rt.alloc(), cases);
     }
-    Ok(())
 }
 
 #[test]
-fn session_reads_what_it_wrote(rt: HostRuntime) -> Result<(), Fail> {
-    play_rows(&rt, rt.alloc(), EMPTY)
-}
-
-#[test]
-fn expunges_are_told_where_numbers_may_change(rt: HostRuntime) -> Result<(), Fail> {
-    play_rows(&rt, rt.alloc(), EXPUNGED)
-}
-
-#[test]
-fn rows_that_were_not_told_are_passed_over(rt: HostRuntime) -> Result<(), Fail> {
-    play_rows(&rt, rt.alloc(), UNTOLD)
-}
-
-#[test]
-fn failed_write_is_undone_by_the_next(rt: HostRuntime) -> Result<(), Fail> {
-    play_rows(&rt, rt.alloc(), FAILED)
-}
-
-#[test]
-fn log_that_others_wrote_is_read(rt: HostRuntime) -> Result<(), Fail> {
-    play_rows(&rt, rt.alloc(), LOGS)
-}
-
-#[test]
-fn messages_are_read_from_cache_and_files(rt: HostRuntime) -> Result<(), Fail> {
-    play_rows(&rt, rt.alloc(), MESSAGES)
-}
-
-#[test]
-fn missing_numbers_and_old_sequences_are_refused(rt: HostRuntime) -> Result<(), Fail> {
-    play_rows(&rt, rt.alloc(), NUMBERS)
-}
-
-#[test]
-fn folder_without_a_good_log_is_not_opened(rt: HostRuntime) -> Result<(), Fail> {
-    play_rows(&rt, rt.alloc(), DAMAGED)
-}
-
-#[test]
-fn log_that_follows_nothing_is_not_opened(rt: HostRuntime) -> Result<(), Fail> {
-    play_rows(&rt, rt.alloc(), BEHIND)
-}
-
-#[test]
-fn damaged_records_are_named(rt: HostRuntime) -> Result<(), Fail> {
-    play_rows(&rt, rt.alloc(), RECORDS)
-}
-
-#[test]
-fn snapshot_that_is_none_counts_as_none(rt: HostRuntime) -> Result<(), Fail> {
-    play_rows(&rt, rt.alloc(), INDEXES)
-}
-
-#[test]
-fn failed_calls_and_bad_scripts_end_a_run(rt: HostRuntime) -> Result<(), Fail> {
-    play_rows(&rt, rt.alloc(), ENDS)
+fn failed_calls_and_bad_folders_are_told(rt: HostRuntime) {
+    for cases in [FAILED, DAMAGED, BEHIND, ENDS] {
+        play_cases(&rt, rt.alloc(), cases);
+    }
 }

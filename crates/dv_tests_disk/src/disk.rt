@@ -1,23 +1,12 @@
-use crate::allowed::{Allowed, file_in};
-use dv_disk::{Folder, Missing};
-use dv_memory_system::{MemSystem, Trace};
-use dv_model::{Bytes, List, NoMemory};
-use dv_shelf::{Failed, Name, Shelf};
-use dv_system::{Access, Entry, System};
+use crate::allowed::Change;
+use crate::cases::{Case, all_hold};
+use crate::folders::{Failures, Found, NEW, Setup, Step, WITH_LOG, count_calls, play};
+use dv_disk::Missing;
+use dv_memory_system::Trace;
+use dv_model::NoMemory;
+use dv_shelf::Name;
 use std::alloc::Global;
-use std::process::Abort;
 use std::test::Fail;
-
-const TRACES: [Trace; 3] = [Trace::Nothing, Trace::Hidden, Trace::Shown];
-
-/// A change of a folder.
-#[derive(Clone, Copy)]
-enum Change {
-    Replace(Name, &'static [u8]),
-    Write(Name, u32, &'static [u8]),
-    Sync(Name),
-    Remove(Name),
-}
 
 const RUN: [Change; 10] = [
     Change::Replace(Name::Index, b"first"),
@@ -32,420 +21,307 @@ const RUN: [Change; 10] = [
     Change::Remove(Name::Index),
 ];
 
-fn bytes_of(alloc: Global, bytes: &[u8]) -> Result<Bytes, NoMemory> {
-    Ok(List::from_slice(alloc, bytes)?)
+// A folder, and what holds of it.
+enum Played {
+    Once(Setup<'static>, &'static [Step]),
+    // Each call from the first to the last fails alone, and leaves this trace.
+    Fails(Trace, u32, u32, &'static [Step]),
+    // Each of so many numbers of calls is how many pass.
+    Stops(u32, Setup<'static>, &'static [Step]),
+    // The run, of which each call fails alone and leaves this trace, or else is the first that
+    // fails.
+    Run(Option<Trace>),
 }
 
-fn numbers(alloc: Global, list: &[u32]) -> Result<List<u32>, NoMemory> {
-    Ok(List::from_slice(alloc, list)?)
+// The call fails alone and leaves this trace, or else so many calls pass.
+fn setup_of<'a>(
+    setup: &Setup<'a>,
+    trace: Option<Trace>,
+    fails: &'a [u32],
+    passing: u32,
+) -> Setup<'a> {
+    match trace {
+        Some(trace) => Setup {
+            fails,
+            trace,
+            ..*setup
+        },
+        None => Setup {
+            stop: Some(passing),
+            ..*setup
+        },
+    }
 }
 
-/// A folder that is missing, over a system of which some calls fail.
-fn new_folder(
+// Whether the steps hold of each call from the first to the last.
+fn hold_in_turn(
     alloc: Global,
-    fails: &[u32],
-    stop: Option<u32>,
-    trace: Trace,
-) -> Result<Folder<MemSystem>, NoMemory> {
-    let system = MemSystem::new(alloc, numbers(alloc, fails)?, stop, trace);
-    Ok(Folder::new(alloc, system, Missing::Make))
+    setup: &Setup<'_>,
+    trace: Option<Trace>,
+    calls: (u32, u32),
+    steps: &[Step],
+) -> Result<bool, NoMemory> {
+    for call in calls.0..=calls.1 {
+        let fails = [call];
+        let failing = setup_of(setup, trace, &fails, call.saturating_sub(1));
+        if !play(alloc, &failing, steps)? {
+            return Ok(false);
+        }
+    }
+    Ok(true)
 }
 
-// A place of a file, in bytes, and the length of what is written there.
-const LONGEST: u32 = 4096;
+fn run_holds(alloc: Global, trace: Option<Trace>) -> Result<bool, NoMemory> {
+    let count = count_calls(alloc, &RUN)?;
+    let steps = [Step::Follows(None, &RUN, Failures::Some)];
+    Ok(20 < count && count < 100 && hold_in_turn(alloc, &NEW, trace, (1, count), &steps)?)
+}
 
-fn make_change(folder: &mut Folder<MemSystem>, change: Change) -> Result<(), Failed> {
-    match change {
-        Change::Replace(name, bytes) => folder.replace(name, bytes),
-        Change::Write(name, at, bytes) => {
-            // The files of these tests are short.
-            if at > LONGEST || bytes.len() > LONGEST as usize {
-                return Err(Failed);
+impl Case for Played {
+    fn holds(&self, alloc: Global) -> Result<bool, NoMemory> {
+        match self {
+            Played::Once(setup, steps) => play(alloc, setup, steps),
+            Played::Fails(trace, first, last, steps) => {
+                hold_in_turn(alloc, &WITH_LOG, Some(*trace), (*first, *last), steps)
             }
-            folder.write_at(name, at, bytes)
-        }
-        Change::Sync(name) => folder.sync(name),
-        Change::Remove(name) => folder.remove(name),
-    }
-}
-
-/// What a crash may leave of a file behind a change.
-fn behind(
-    alloc: Global,
-    old: Allowed,
-    change: Change,
-    is_ok: bool,
-    read: Option<Bytes>,
-) -> Result<Allowed, NoMemory> {
-    match change {
-        Change::Replace(name, bytes) => {
-            let file = Some(bytes_of(alloc, bytes)?);
-            if is_ok {
-                Allowed::only(alloc, name, file)
-            } else {
-                old.or(file)
+            Played::Stops(count, setup, steps) => {
+                hold_in_turn(alloc, setup, None, (1, *count), steps)
             }
-        }
-        Change::Write(_, at, bytes) => {
-            let from = at as usize;
-            Ok(old.loose(from, from.saturating_add(bytes.len())))
-        }
-        Change::Sync(name) => {
-            if is_ok {
-                Allowed::only(alloc, name, read)
-            } else {
-                Ok(old)
-            }
-        }
-        Change::Remove(name) => {
-            if is_ok {
-                Allowed::only(alloc, name, None)
-            } else {
-                old.or(None)
-            }
+            Played::Run(trace) => run_holds(alloc, *trace),
         }
     }
 }
 
-fn name_of(change: Change) -> Name {
-    match change {
-        Change::Replace(name, _) => name,
-        Change::Write(name, _, _) => name,
-        Change::Sync(name) => name,
-        Change::Remove(name) => name,
-    }
-}
+const READ_AND_LISTED: [Step; 9] = [
+    Step::Lists(&[]),
+    Step::Reads(Name::Log, None),
+    Step::Follows(None, &RUN, Failures::None),
+    Step::Reads(Name::Log, Some(b"another LOG!")),
+    Step::Reads(Name::Index, None),
+    Step::Changes(Change::Replace(Name::Mail(7), b"mail"), true),
+    Step::Lists(&[Name::Log, Name::Mail(7)]),
+    Step::Has(Some(true)),
+    Step::Faults(0),
+];
 
-/// Each image has no other files, and of these what a crash may leave.
-fn images_are(
-    rt: &impl Abort,
-    alloc: Global,
-    folder: &Folder<MemSystem>,
-    index: &Allowed,
-    log: &Allowed,
-) -> Result<(), Fail> {
-    let images = folder.system().images(alloc)?;
-    assert!(rt; !images.is_empty());
-    for image in images.as_slice() {
-        for (name, _) in image.as_slice() {
-            assert!(rt; *name == index.name || *name == log.name);
-        }
-        assert!(rt; index.allows(file_in(image, index.name)));
-        assert!(rt; log.allows(file_in(image, log.name)));
-    }
-    Ok(())
-}
+const LOCK_FAILS: Setup<'static> = Setup {
+    fails: &[2, 4, 6, 8, 10, 12, 14],
+    trace: Trace::Shown,
+    ..NEW
+};
 
-/// Makes all changes, and looks at what a crash may leave behind each. Gives the number of those
-/// that failed.
-fn run(rt: &impl Abort, alloc: Global, folder: &mut Folder<MemSystem>) -> Result<u32, Fail> {
-    let mut index = Allowed::only(alloc, Name::Index, None)?;
-    let mut log = Allowed::only(alloc, Name::Log, None)?;
-    let mut failed = 0u32;
-    for step in RUN {
-        let is_ok = make_change(folder, step).is_ok();
-        failed = failed.saturating_add(u32::from(!is_ok));
-        let name = name_of(step);
-        let read = folder.system().file(alloc, Entry::File(name))?;
-        if name == Name::Log {
-            log = behind(alloc, log, step, is_ok, read)?;
-        } else {
-            index = behind(alloc, index, step, is_ok, read)?;
-        }
-        images_are(rt, alloc, folder, &index, &log)?;
-    }
-    Ok(failed)
-}
+// Each of the seven calls makes the folder, and is refused its lock; and then none is.
+const UNLOCKED: [Step; 16] = [
+    Step::Has(None),
+    Step::ListFails,
+    Step::ReadFails(Name::Log),
+    Step::Changes(Change::Write(Name::Log, 0, b"log"), false),
+    Step::Changes(Change::Sync(Name::Log), false),
+    Step::Changes(Change::Replace(Name::Log, b"log"), false),
+    Step::Changes(Change::Remove(Name::Log), false),
+    Step::Faults(7),
+    Step::Calls(14),
+    Step::Has(Some(false)),
+    Step::Lists(&[]),
+    Step::Reads(Name::Log, None),
+    Step::Changes(Change::Write(Name::Log, 0, b"log"), true),
+    Step::Changes(Change::Sync(Name::Log), true),
+    Step::Changes(Change::Replace(Name::Log, b"log"), true),
+    Step::Changes(Change::Remove(Name::Log), true),
+];
 
-/// How many calls of the system the changes are, where none fails.
-fn count_calls(rt: &impl Abort, alloc: Global) -> Result<u64, Fail> {
-    let mut folder = new_folder(alloc, &[], None, Trace::Nothing)?;
-    assert_eq!(rt; run(rt, alloc, &mut folder)?, 0);
-    Ok(folder.system().call_count())
-}
+const GAPS: [Step; 6] = [
+    Step::Changes(Change::Write(Name::Log, 2, b""), true),
+    Step::Reads(Name::Log, Some(b"\0\0")),
+    Step::Changes(Change::Write(Name::Log, 1, b""), true),
+    Step::Reads(Name::Log, Some(b"\0\0")),
+    Step::Changes(Change::Write(Name::Log, 5, b""), true),
+    Step::Reads(Name::Log, Some(b"\0\0\0\0\0")),
+];
 
-fn file_is(
-    rt: &impl Abort,
-    alloc: Global,
-    folder: &mut Folder<MemSystem>,
-    name: Name,
-    expected: &[u8],
-) -> Result<(), Fail> {
-    let found = folder.read(alloc, name).ok().ok_or("a read that fails")?;
-    let bytes = found.ok_or("a file is missing")?;
-    assert_eq!(rt; bytes.as_slice(), expected);
-    Ok(())
-}
+const LEFT_OVER: Setup<'static> = Setup {
+    found: Found::Folder(Some((Name::Log, b"log")), b"a longer text of a killed run"),
+    ..NEW
+};
 
-#[test]
-fn changes_are_read_and_listed(rt: HostRuntime) -> Result<(), Fail> {
-    let alloc = rt.alloc();
-    let mut folder = new_folder(alloc, &[], None, Trace::Nothing)?;
-    assert!(rt; folder.list(alloc).ok().ok_or("list")?.is_empty());
-    assert!(rt; folder.read(alloc, Name::Log).ok().ok_or("read")?.is_none());
-    assert_eq!(rt; run(&rt, alloc, &mut folder)?, 0);
-    file_is(&rt, alloc, &mut folder, Name::Log, b"another LOG!")?;
-    assert!(rt;
-        folder
-            .read(alloc, Name::Index)
-            .ok()
-            .ok_or("read")?
-            .is_none()
-    );
-    assert!(rt; folder.replace(Name::Mail(7), b"mail").is_ok());
-    let names = folder.list(alloc).ok().ok_or("list")?;
-    assert_eq!(rt; names.len(), 2);
-    assert!(rt; names.as_slice().iter().any(|name| *name == Name::Log));
-    assert!(rt; names.as_slice().iter().any(|name| *name == Name::Mail(7)));
-    assert_eq!(rt; folder.faults(), 0);
-    Ok(())
-}
+const WRITTEN_OVER: [Step; 2] = [
+    Step::Follows(
+        Some(b"log"),
+        &[Change::Replace(Name::Log, b"new")],
+        Failures::Any,
+    ),
+    Step::ListsOrFails(&[Name::Log]),
+];
 
-/// How many of a folder's calls fail.
-fn count_failures(alloc: Global, folder: &mut Folder<MemSystem>) -> u32 {
-    let failures = [
-        folder.has_mailbox(alloc).is_err(),
-        folder.list(alloc).is_err(),
-        folder.read(alloc, Name::Log).is_err(),
-        folder.write_at(Name::Log, 0, b"log").is_err(),
-        folder.sync(Name::Log).is_err(),
-        folder.replace(Name::Log, b"log").is_err(),
-        folder.remove(Name::Log).is_err(),
-    ];
-    let mut count = 0u32;
-    for has_failed in failures {
-        count = count.saturating_add(u32::from(has_failed));
-    }
-    count
-}
+// Behind the removal of the old temporary file a new one is made, written, synced and renamed, and
+// then the folder is synced.
+const CLEARED: [Step; 3] = [
+    Step::Changes(Change::Replace(Name::Log, b"new"), false),
+    Step::Temporary(false),
+    Step::Faults(1),
+];
 
-#[test]
-fn nothing_is_done_without_the_lock(rt: HostRuntime) -> Result<(), Fail> {
-    let alloc = rt.alloc();
-    // Each of the seven makes the folder, and is refused its lock.
-    let mut folder = new_folder(alloc, &[2, 4, 6, 8, 10, 12, 14], None, Trace::Shown)?;
-    assert_eq!(rt; count_failures(alloc, &mut folder), 7);
-    assert_eq!(rt; folder.faults(), 7);
-    assert_eq!(rt; folder.system().call_count(), 14);
-    assert_eq!(rt; count_failures(alloc, &mut folder), 0);
-    Ok(())
-}
+const NOT_REMOVED: [Step; 2] = [
+    Step::Changes(Change::Replace(Name::Log, b"new"), false),
+    Step::Temporary(true),
+];
 
-/// A write of no bytes at a place leaves this file.
-fn fills(
-    rt: &impl Abort,
-    alloc: Global,
-    folder: &mut Folder<MemSystem>,
-    at: u32,
-    expected: &[u8],
-) -> Result<(), Fail> {
-    assert!(rt; folder.write_at(Name::Log, at, b"").is_ok());
-    file_is(rt, alloc, folder, Name::Log, expected)
-}
+const REPLACED: [Step; 2] = [
+    Step::Changes(Change::Replace(Name::Log, b"new"), true),
+    Step::Faults(0),
+];
 
-#[test]
-fn a_write_of_no_bytes_fills_a_gap(rt: HostRuntime) -> Result<(), Fail> {
-    let alloc = rt.alloc();
-    let mut folder = new_folder(alloc, &[], None, Trace::Nothing)?;
-    fills(&rt, alloc, &mut folder, 2, b"\0\0")?;
-    fills(&rt, alloc, &mut folder, 1, b"\0\0")?;
-    fills(&rt, alloc, &mut folder, 5, b"\0\0\0\0\0")
-}
+const REFUSING: Setup<'static> = Setup {
+    missing: Missing::Refuse,
+    ..NEW
+};
 
-/// Each call fails alone, and leaves this trace.
-fn one_call_fails(rt: &impl Abort, alloc: Global, trace: Trace) -> Result<(), Fail> {
-    let count = u32::try_from(count_calls(rt, alloc)?).unwrap_or(u32::MAX);
-    assert!(rt; 20 < count && count < 100);
-    for call in 1..=count {
-        let mut folder = new_folder(alloc, &[call], None, trace)?;
-        let failed = run(rt, alloc, &mut folder)?;
-        assert!(rt; failed > 0);
-        assert_eq!(rt; folder.faults(), u64::from(failed));
-    }
-    Ok(())
-}
+const REFUSING_WITH_LOG: Setup<'static> = Setup {
+    missing: Missing::Refuse,
+    ..WITH_LOG
+};
 
-#[test]
-fn a_call_fails_that_has_done_nothing(rt: HostRuntime) -> Result<(), Fail> {
-    one_call_fails(&rt, rt.alloc(), Trace::Nothing)
-}
+// Each of the seven calls looks for the folder, and does nothing else.
+const REFUSED: [Step; 9] = [
+    Step::Has(None),
+    Step::ListFails,
+    Step::ReadFails(Name::Log),
+    Step::Changes(Change::Write(Name::Log, 0, b"log"), false),
+    Step::Changes(Change::Sync(Name::Log), false),
+    Step::Changes(Change::Replace(Name::Log, b"log"), false),
+    Step::Changes(Change::Remove(Name::Log), false),
+    Step::Faults(7),
+    Step::Calls(7),
+];
 
-#[test]
-fn a_call_fails_and_reads_do_not_see_what_it_did(rt: HostRuntime) -> Result<(), Fail> {
-    one_call_fails(&rt, rt.alloc(), Trace::Hidden)
-}
+const NOT_REFUSED: [Step; 7] = [
+    Step::Has(Some(true)),
+    Step::Lists(&[Name::Log]),
+    Step::Reads(Name::Log, Some(b"log")),
+    Step::Changes(Change::Write(Name::Log, 0, b"log"), true),
+    Step::Changes(Change::Sync(Name::Log), true),
+    Step::Changes(Change::Replace(Name::Log, b"log"), true),
+    Step::Changes(Change::Remove(Name::Log), true),
+];
 
-#[test]
-fn a_call_fails_and_reads_see_what_it_did(rt: HostRuntime) -> Result<(), Fail> {
-    one_call_fails(&rt, rt.alloc(), Trace::Shown)
-}
-
-#[test]
-fn each_call_is_the_last(rt: HostRuntime) -> Result<(), Fail> {
-    let alloc = rt.alloc();
-    let count = u32::try_from(count_calls(&rt, alloc)?).unwrap_or(u32::MAX);
-    assert!(rt; 20 < count && count < 100);
-    for stop in 0..count {
-        let mut folder = new_folder(alloc, &[], Some(stop), Trace::Nothing)?;
-        assert!(rt; run(&rt, alloc, &mut folder)? > 0);
-    }
-    Ok(())
-}
-
-#[test]
-fn a_temporary_file_that_is_left_over_is_written_over(rt: HostRuntime) -> Result<(), Fail> {
-    let alloc = rt.alloc();
-    for stop in 0..20 {
-        let mut files = List::new(alloc);
-        files.push((Name::Log, bytes_of(alloc, b"log")?))?;
-        let temporary = Some(bytes_of(alloc, b"a longer text of a killed run")?);
-        let fails = List::new(alloc);
-        let trace = Trace::Nothing;
-        let system = MemSystem::of(alloc, &files, &temporary, fails, Some(stop), trace)?;
-        let mut folder = Folder::new(alloc, system, Missing::Make);
-        let is_ok = folder.replace(Name::Log, b"new").is_ok();
-        let index = Allowed::only(alloc, Name::Index, None)?;
-        let log = Allowed::only(alloc, Name::Log, Some(bytes_of(alloc, b"log")?))?;
-        let log = behind(alloc, log, Change::Replace(Name::Log, b"new"), is_ok, None)?;
-        images_are(&rt, alloc, &folder, &index, &log)?;
-        if let Ok(names) = folder.list(alloc) {
-            assert_eq!(rt; names.len(), 1);
-            assert!(rt; names.as_slice().iter().all(|name| *name == Name::Log));
-        }
-    }
-    Ok(())
-}
-
-/// A folder with a log and a temporary file that was left over.
-fn folder_with_log(
-    alloc: Global,
-    fails: &[u32],
-    trace: Trace,
-    missing: Missing,
-) -> Result<Folder<MemSystem>, NoMemory> {
-    let mut files = List::new(alloc);
-    files.push((Name::Log, bytes_of(alloc, b"log")?))?;
-    let temporary = Some(bytes_of(alloc, b"left over")?);
-    let fails = numbers(alloc, fails)?;
-    let system = MemSystem::of(alloc, &files, &temporary, fails, None, trace)?;
-    Ok(Folder::new(alloc, system, missing))
-}
-
-/// Whether a replace of which one system call fails fails too, and leaves no temporary file.
-fn clears(alloc: Global, call: u32, trace: Trace) -> Result<bool, NoMemory> {
-    let mut folder = folder_with_log(alloc, &[call], trace, Missing::Make)?;
-    let has_failed = folder.replace(Name::Log, b"new").is_err();
-    let temporary = folder.system().file(alloc, Entry::Temporary)?;
-    Ok(has_failed && temporary.is_none() && folder.faults() == 1)
-}
+const CASES: [(&str, Played); 21] = [
+    (
+        "changes are read and listed",
+        Played::Once(NEW, &READ_AND_LISTED),
+    ),
+    (
+        "nothing is done without the lock",
+        Played::Once(LOCK_FAILS, &UNLOCKED),
+    ),
+    ("a write of no bytes fills a gap", Played::Once(NEW, &GAPS)),
+    (
+        "a call fails that has done nothing",
+        Played::Run(Some(Trace::Nothing)),
+    ),
+    (
+        "a call fails and reads do not see what it did",
+        Played::Run(Some(Trace::Hidden)),
+    ),
+    (
+        "a call fails and reads see what it did",
+        Played::Run(Some(Trace::Shown)),
+    ),
+    ("each call is the last", Played::Run(None)),
+    (
+        "a temporary file that is left over is written over",
+        Played::Stops(20, LEFT_OVER, &WRITTEN_OVER),
+    ),
+    (
+        "a replace of which a call failed that has done nothing leaves no temporary file",
+        Played::Fails(Trace::Nothing, 6, 10, &CLEARED),
+    ),
+    (
+        "a replace of which a call failed that reads do not see leaves no temporary file",
+        Played::Fails(Trace::Hidden, 6, 10, &CLEARED),
+    ),
+    (
+        "a replace of which a call failed that reads see leaves no temporary file",
+        Played::Fails(Trace::Shown, 6, 10, &CLEARED),
+    ),
+    (
+        "a temporary file that is not removed stays",
+        Played::Fails(Trace::Nothing, 5, 5, &NOT_REMOVED),
+    ),
+    (
+        "no call is behind a replace",
+        Played::Fails(Trace::Nothing, 11, 11, &REPLACED),
+    ),
+    (
+        "a missing folder is not made where that is refused",
+        Played::Once(REFUSING, &REFUSED),
+    ),
+    (
+        "a folder that is there is taken",
+        Played::Once(REFUSING_WITH_LOG, &NOT_REFUSED),
+    ),
+    (
+        "an index makes a mailbox",
+        Played::Once(
+            Setup {
+                found: Found::Folder(Some((Name::Index, b"")), b""),
+                ..NEW
+            },
+            &[Step::Has(Some(true))],
+        ),
+    ),
+    (
+        "a log makes a mailbox",
+        Played::Once(
+            Setup {
+                found: Found::Folder(Some((Name::Log, b"")), b""),
+                ..NEW
+            },
+            &[Step::Has(Some(true))],
+        ),
+    ),
+    (
+        "a rotated log makes a mailbox",
+        Played::Once(
+            Setup {
+                found: Found::Folder(Some((Name::Log2, b"")), b""),
+                ..NEW
+            },
+            &[Step::Has(Some(true))],
+        ),
+    ),
+    (
+        "a message file makes a mailbox",
+        Played::Once(
+            Setup {
+                found: Found::Folder(Some((Name::Mail(7), b"")), b""),
+                ..NEW
+            },
+            &[Step::Has(Some(true))],
+        ),
+    ),
+    (
+        "no file makes no mailbox",
+        Played::Once(
+            Setup {
+                found: Found::Folder(None, b""),
+                ..NEW
+            },
+            &[Step::Has(Some(false))],
+        ),
+    ),
+    (
+        "a cache makes no mailbox",
+        Played::Once(
+            Setup {
+                found: Found::Folder(Some((Name::Cache, b"")), b""),
+                ..NEW
+            },
+            &[Step::Has(Some(false))],
+        ),
+    ),
+];
 
 #[test]
-fn a_replace_that_failed_leaves_no_temporary_file(rt: HostRuntime) -> Result<(), Fail> {
-    let alloc = rt.alloc();
-    for trace in TRACES {
-        // Behind the removal of the old one: it is made, written, synced and renamed, and then the
-        // folder is synced.
-        for call in 6..=10 {
-            assert!(rt; clears(alloc, call, trace)?);
-        }
-    }
-    // Nothing was done before it, or its removal failed.
-    assert!(rt; !clears(alloc, 5, Trace::Nothing)?);
-    assert!(rt; !clears(alloc, 11, Trace::Nothing)?);
-    Ok(())
-}
-
-#[test]
-fn a_missing_folder_is_not_made_where_that_is_refused(rt: HostRuntime) -> Result<(), Fail> {
-    let alloc = rt.alloc();
-    let system = MemSystem::new(alloc, List::new(alloc), None, Trace::Nothing);
-    let mut folder = Folder::new(alloc, system, Missing::Refuse);
-    assert_eq!(rt; count_failures(alloc, &mut folder), 7);
-    assert_eq!(rt; folder.faults(), 7);
-    // Each looked for the folder, and did nothing else.
-    assert_eq!(rt; folder.system().call_count(), 7);
-    let mut folder = folder_with_log(alloc, &[], Trace::Nothing, Missing::Refuse)?;
-    assert_eq!(rt; count_failures(alloc, &mut folder), 0);
-    Ok(())
-}
-
-/// Whether a folder with this file alone, or none, has a mailbox.
-fn has_mailbox(alloc: Global, name: Option<Name>) -> Result<Option<bool>, NoMemory> {
-    let mut files = List::new(alloc);
-    if let Some(name) = name {
-        files.push((name, List::new(alloc)))?;
-    }
-    let temporary = Some(List::new(alloc));
-    let fails = List::new(alloc);
-    let system = MemSystem::of(alloc, &files, &temporary, fails, None, Trace::Nothing)?;
-    let mut folder = Folder::new(alloc, system, Missing::Make);
-    Ok(folder.has_mailbox(alloc).ok())
-}
-
-#[test]
-fn each_file_but_the_cache_makes_a_mailbox(rt: HostRuntime) -> Result<(), Fail> {
-    let alloc = rt.alloc();
-    for name in [Name::Index, Name::Log, Name::Log2, Name::Mail(7)] {
-        assert_eq!(rt; has_mailbox(alloc, Some(name))?, Some(true));
-    }
-    for name in [None, Some(Name::Cache)] {
-        assert_eq!(rt; has_mailbox(alloc, name)?, Some(false));
-    }
-    Ok(())
-}
-
-/// Whether an image has this file of the log.
-fn shows(alloc: Global, system: &MemSystem, expected: Option<&[u8]>) -> Result<bool, NoMemory> {
-    let images = system.images(alloc)?;
-    Ok(
-        images
-            .as_slice()
-            .iter()
-            .any(|image| file_in(image, Name::Log) == expected),
-    )
-}
-
-/// Without a sync a crash loses the bytes, and without one of the folder the name.
-#[test]
-fn what_is_not_synced_may_be_lost(rt: HostRuntime) -> Result<(), Fail> {
-    let alloc = rt.alloc();
-    let mut system = MemSystem::new(alloc, List::new(alloc), None, Trace::Nothing);
-    assert!(rt; system.make_folder().is_ok());
-    assert!(rt; system.sync_parent().is_ok());
-    let file = system.create(Entry::Temporary).ok().ok_or("create")?;
-    assert!(rt; system.write(&file, 9, b"").is_ok());
-    assert!(rt; system.write(&file, 0, b"text").is_ok());
-    assert!(rt; system.rename(Name::Log).is_ok());
-    assert!(rt; shows(alloc, &system, None)?);
-    assert!(rt; shows(alloc, &system, Some(b""))?);
-    assert!(rt; shows(alloc, &system, Some(b"te"))?);
-    assert!(rt; shows(alloc, &system, Some(b"text"))?);
-    assert!(rt; system.sync_folder().is_ok());
-    assert!(rt; !shows(alloc, &system, None)?);
-    assert!(rt; shows(alloc, &system, Some(b""))?);
-    assert!(rt; system.sync_data(&file).is_ok());
-    assert!(rt; !shows(alloc, &system, Some(b""))?);
-    assert!(rt; shows(alloc, &system, Some(b"text"))?);
-    Ok(())
-}
-
-/// A sync that failed isn't made good by the next one.
-#[test]
-fn a_failed_sync_is_not_made_good(rt: HostRuntime) -> Result<(), Fail> {
-    let alloc = rt.alloc();
-    for trace in TRACES {
-        let mut files = List::new(alloc);
-        files.push((Name::Log, bytes_of(alloc, b"log")?))?;
-        let fails = numbers(alloc, &[3])?;
-        let mut system = MemSystem::of(alloc, &files, &None, fails, None, trace)?;
-        let file = system.open(Entry::File(Name::Log), Access::Write);
-        let file = file.ok().ok_or("open")?;
-        let file = file.ok_or("none is there")?;
-        assert!(rt; system.write(&file, 0, b"LOG").is_ok());
-        assert!(rt; system.sync(&file).is_err());
-        assert!(rt; system.sync(&file).is_ok());
-        let is_lost = shows(alloc, &system, Some(b"log"))?;
-        assert_eq!(rt; is_lost, trace != Trace::Nothing);
-    }
-    Ok(())
+fn a_folder_is_as_its_calls_leave_it(rt: HostRuntime) -> Result<(), Fail> {
+    all_hold(rt.alloc(), &CASES)
 }

@@ -4,6 +4,12 @@
 #[cfg(test)]
 mod allowed;
 #[cfg(test)]
+mod cases;
+#[cfg(test)]
 mod disk;
 #[cfg(test)]
+mod folders;
+#[cfg(test)]
 mod streams;
+#[cfg(test)]
+mod syncs;

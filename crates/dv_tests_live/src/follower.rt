@@ -8,18 +8,12 @@ ghost use Rattle.dv_live.specs.Steadiness.{steady};
 use dv_apply::Live;
 use dv_commands::parse_key;
 use dv_live::{Saved, keep_up, steady};
-use dv_model::{Key, List, NoMemory, Record};
+use dv_model::{Key, NoMemory, Record, Shown};
 use dv_records::decode;
 use dv_search::{Mail, eval, is_shallow};
 use dv_touched::Touched;
 use dv_view::View;
 use std::alloc::Global;
-
-/// A record, and the UIDs that are found behind it.
-pub struct Turn {
-    pub record: &'static [u8],
-    pub uids: &'static [u32],
-}
 
 // The record that these bytes are. What isn't one counts as want of memory, which no test expects,
 // and so does all else that can't be here.
@@ -55,36 +49,54 @@ pub fn kept_key(alloc: Global, text: &[u8]) -> Option<Key>
     ensures shallow { IfSome result (λ key. levels_of key ≤ most_levels) }
     ensures steady { IfSome result (λ key. steady key ≡ true) }
 {
-    let Ok(key) = parse_key(alloc, text) else {
-        return None;
-    };
-    if !is_shallow(&key) {
-        return None;
+    match parse_key(alloc, text) {
+        Ok(key) if is_shallow(&key) && steady(&key) => Some(key),
+        _ => None,
     }
-    if !steady(&key) {
-        return None;
-    }
-    Some(key)
 }
 
-// The UIDs that a search finds of a whole mailbox.
-fn searched(alloc: Global, key: &Key, live: &Live) -> Result<List<u32>, NoMemory> {
-    if !is_shallow(key) {
-        return Err(NoMemory);
+// Whether the rows with these numbers have these UIDs.
+fn are_uids(rows: &[Shown], numbers: &[u32], uids: &[u32]) -> bool {
+    if numbers.len() != uids.len() {
+        return false;
     }
-    let view = View::of(alloc, live)?;
-    let none = Mail::new(alloc);
-    let mut uids = List::new(alloc);
-    for number in eval(alloc, key, &view, live, &none)?.as_slice() {
-        if let Some(shown) = view
-            .rows()
-            .as_slice()
-            .get((*number as usize).wrapping_sub(1))
-        {
-            uids.push(shown.uid)?;
+    for (number, uid) in numbers.iter().zip(uids) {
+        match rows.get((*number as usize).wrapping_sub(1)) {
+            Some(row) if row.uid == *uid => {}
+            _ => return false,
         }
     }
-    Ok(uids)
+    true
+}
+
+// Of a key, a view and what is found each has one owner, so that it is let go in one place.
+fn view_finds(
+    alloc: Global,
+    key: &Key,
+    view: &View,
+    live: &Live,
+    uids: &[u32],
+) -> Result<bool, NoMemory>
+    requires { levels_of key.now ≤ most_levels }
+{
+    let none = Mail::new(alloc);
+    let numbers = eval(alloc, key, view, live, &none)?;
+    Ok(are_uids(view.rows().as_slice(), numbers.as_slice(), uids))
+}
+
+fn key_finds(alloc: Global, key: &Key, live: &Live, uids: &[u32]) -> Result<bool, NoMemory>
+    requires { levels_of key.now ≤ most_levels }
+{
+    let view = View::of(alloc, live)?;
+    view_finds(alloc, key, &view, live, uids)
+}
+
+// Whether a search of a whole mailbox finds these UIDs.
+fn finds(alloc: Global, text: &[u8], live: &Live, uids: &[u32]) -> Result<bool, NoMemory> {
+    match kept_key(alloc, text) {
+        Some(key) => key_finds(alloc, &key, live, uids),
+        None => Err(NoMemory),
+    }
 }
 
 /// A kept search beside the mailbox that it follows.
@@ -95,8 +107,8 @@ pub struct Watcher {
 }
 
 impl Watcher {
-    /// Of an empty mailbox, whose first record gets the modification sequence 3.
-    pub fn new(alloc: Global, key: Key) -> Result<Watcher, NoMemory>
+    // Of an empty mailbox, whose first record gets the modification sequence 3.
+    fn of(alloc: Global, key: Key) -> Result<Watcher, NoMemory>
         requires steady { steady key ≡ true }
         requires shallow { levels_of key ≤ most_levels }
         ensures { IfOk result (λ made. IsOf made.saved made.live.mailbox) }
@@ -105,12 +117,23 @@ impl Watcher {
         live.raise(2);
         match Saved::new(alloc, key, &live) {
             Ok(saved) => Ok(Watcher { live, saved }),
-            Err((_, e)) => Err(e),
+            Err(_) => Err(NoMemory),
         }
     }
 
-    /// A record is applied, and the search follows.
-    pub fn write(&mut self, alloc: Global, bytes: &[u8]) -> Result<(), NoMemory>
+    /// The same by the key's text. One that may not be kept counts as want of memory, which no test
+    /// expects.
+    pub fn new(alloc: Global, text: &[u8]) -> Result<Watcher, NoMemory>
+        ensures { IfOk result (λ made. IsOf made.saved made.live.mailbox) }
+    {
+        match kept_key(alloc, text) {
+            Some(key) => Watcher::of(alloc, key),
+            None => Err(NoMemory),
+        }
+    }
+
+    // A record is applied, and the search follows.
+    fn write(&mut self, alloc: Global, bytes: &[u8]) -> Result<(), NoMemory>
         requires { IsOf self.old.saved self.old.live.mailbox }
         ensures { OnOk result (IsOf self.new.saved self.new.live.mailbox) }
     {
@@ -118,29 +141,18 @@ impl Watcher {
         keep_up(alloc, &mut self.saved, &self.live, &touched)
     }
 
+    /// A record is applied, and the search follows: whether a search of the key of this text finds
+    /// what is kept then.
+    pub fn follows(&mut self, alloc: Global, text: &[u8], bytes: &[u8]) -> Result<bool, NoMemory>
+        requires { IsOf self.old.saved self.old.live.mailbox }
+        ensures { OnOk result (IsOf self.new.saved self.new.live.mailbox) }
+    {
+        self.write(alloc, bytes)?;
+        finds(alloc, text, &self.live, self.uids())
+    }
+
     /// The UIDs that are kept.
     pub fn uids(&self) -> &[u32] {
         self.saved.uids().as_slice()
     }
-
-    /// Whether a search anew finds what is kept.
-    pub fn agrees(&self, alloc: Global, key: &Key) -> Result<bool, NoMemory> {
-        let uids = searched(alloc, key, &self.live)?;
-        Ok(uids.as_slice() == self.uids())
-    }
-}
-
-/// The first turn behind which other UIDs are kept, counted from 0, for the key of this text.
-pub fn first_other(alloc: Global, text: &[u8], turns: &[Turn]) -> Result<Option<usize>, NoMemory> {
-    let Some(key) = kept_key(alloc, text) else {
-        return Err(NoMemory);
-    };
-    let mut watcher = Watcher::new(alloc, key)?;
-    for (at, turn) in turns.iter().enumerate() {
-        watcher.write(alloc, turn.record)?;
-        if watcher.uids() != turn.uids {
-            return Ok(Some(at));
-        }
-    }
-    Ok(None)
 }

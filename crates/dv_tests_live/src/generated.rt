@@ -1,9 +1,10 @@
-ghost use Rattle.std.specs.Prelude.{◌<◌};
+ghost use Rattle.std.specs.Prelude.{◌<◌, OnOk};
+ghost use Rattle.dv_live.specs.Laws.{IsOf};
 
-use crate::follower::{Watcher, kept_key};
+use crate::follower::Watcher;
 use dv_model::{Bytes, NoMemory};
 use std::alloc::Global;
-use std::test::*;
+use std::test::Fail;
 
 // Keys of every kind.
 const KEYS: [&[u8]; 16] = [
@@ -28,10 +29,14 @@ const KEYS: [&[u8]; 16] = [
 // The records of one generated log.
 const RECORDS: u32 = 24;
 
-// Draws of a generator of numbers, one after another.
+// How many logs are generated.
+const LOGS: usize = 96;
+
+// Draws of a generator of numbers, one after another, and the next UID of the mailbox.
 #[derive(Drop)]
 struct Draws {
     state: u64,
+    next_uid: u32,
 }
 
 impl Draws {
@@ -49,94 +54,96 @@ impl Draws {
     {
         self.next() % limit
     }
+
+    // The first UID of a range, which ends up to nine UIDs behind it, and the last one.
+    fn range(&mut self) -> (u32, u32) {
+        let first = self.below(self.next_uid.max(1)).saturating_add(1);
+        (first, first.saturating_add(self.below(10)))
+    }
 }
 
-// A record's header: so many groups of four bytes, at most 127, and a type with the external mark.
-fn begin(alloc: Global, words: u8, low: u8, high: u8) -> Result<Bytes, NoMemory> {
-    let mut bytes = Bytes::from_slice(alloc, &[0x80, 0x80, 0x80, 0x80 | words])?;
-    bytes.extend(&[low, high, 0, 0x10])?;
+// A record of this type with so many groups of four bytes, its header's two among them.
+fn record_of(alloc: Global, size: u8, kind: u32, words: &[u32]) -> Result<Bytes, NoMemory> {
+    let mut bytes = Bytes::from_slice(alloc, &[0x80, 0x80, 0x80, 0x80 | size])?;
+    bytes.extend(&kind.to_le_bytes())?;
+    for word in words {
+        bytes.extend(&word.to_le_bytes())?;
+    }
     Ok(bytes)
 }
 
-// The UIDs from a drawn one on, up to nine more.
-fn put_range(bytes: &mut Bytes, draws: &mut Draws, next_uid: u32) -> Result<(), NoMemory> {
-    let first = draws.below(next_uid.max(1)).saturating_add(1);
-    let last = first.saturating_add(draws.below(10));
-    bytes.extend(&first.to_le_bytes())?;
-    bytes.extend(&last.to_le_bytes())?;
-    Ok(())
-}
-
-// An append, a change of flags or keywords, or an expunge.
-fn record(alloc: Global, draws: &mut Draws, next_uid: &mut u32) -> Result<Bytes, NoMemory> {
+// An append, a change of flags or of a keyword, or an expunge or a loss of all keywords.
+fn next_record(alloc: Global, draws: &mut Draws) -> Result<Bytes, NoMemory> {
     match draws.below(8) {
         0 | 1 | 2 => {
-            let mut bytes = begin(alloc, 4, 0x02, 0)?;
-            bytes.extend(&next_uid.to_le_bytes())?;
-            bytes.extend(&[draws.below(32) as u8, 0, 0, 0])?;
-            *next_uid = next_uid.saturating_add(1);
-            Ok(bytes)
+            let uid = draws.next_uid;
+            draws.next_uid = uid.saturating_add(1);
+            record_of(alloc, 4, 0x1000_0002, &[uid, draws.below(32)])
         }
         3 | 4 => {
-            let mut bytes = begin(alloc, 5, 0x04, 0)?;
-            put_range(&mut bytes, draws, *next_uid)?;
-            bytes.extend(&[draws.below(32) as u8, draws.below(32) as u8, 0, 0])?;
-            Ok(bytes)
+            let (first, last) = draws.range();
+            let flags = draws.below(32) + 0x100 * draws.below(32);
+            record_of(alloc, 5, 0x1000_0004, &[first, last, flags])
         }
         5 | 6 => {
-            let mut bytes = begin(alloc, 6, 0, 0x04)?;
-            let name = b'0'.wrapping_add(draws.below(4) as u8);
-            bytes.extend(&[draws.below(3) as u8, 0, 2, 0, b'k', name, 0, 0])?;
-            put_range(&mut bytes, draws, *next_uid)?;
-            Ok(bytes)
+            // One of the names k0 to k3.
+            let name = 0x306b + 0x100 * draws.below(4);
+            let how = 0x2_0000 + draws.below(3);
+            let (first, last) = draws.range();
+            record_of(alloc, 6, 0x1000_0400, &[how, name, first, last])
         }
         _ => {
-            let expunge = draws.below(2) == 0;
-            let mut bytes = if expunge {
-                begin(alloc, 4, 0x91, 0xcd)?
+            let kind = if draws.below(2) == 0 {
+                0x1000_cd91
             } else {
-                begin(alloc, 4, 0, 0x08)?
+                0x1000_0800
             };
-            put_range(&mut bytes, draws, *next_uid)?;
-            Ok(bytes)
+            let (first, last) = draws.range();
+            record_of(alloc, 4, kind, &[first, last])
         }
     }
 }
 
-// Whether a search anew finds what is kept, behind each record of a generated log.
-fn agrees_throughout(alloc: Global, seed: u64, text: &[u8]) -> Result<bool, NoMemory> {
-    let Some(again) = kept_key(alloc, text) else {
-        return Err(NoMemory);
-    };
-    let Some(key) = kept_key(alloc, text) else {
-        return Err(NoMemory);
-    };
+// Whether a search anew finds what is kept behind the next record.
+fn follows_next(
+    alloc: Global,
+    watcher: &mut Watcher,
+    key: &[u8],
+    draws: &mut Draws,
+) -> Result<bool, NoMemory>
+    requires { IsOf watcher.old.saved watcher.old.live.mailbox }
+    ensures { OnOk result (IsOf watcher.new.saved watcher.new.live.mailbox) }
+{
+    let bytes = next_record(alloc, draws)?;
+    watcher.follows(alloc, key, bytes.as_slice())
+}
+
+// Whether it does behind each record of a generated log.
+fn follows_log(alloc: Global, seed: u64, key: &[u8]) -> Result<bool, NoMemory> {
     let mut watcher = Watcher::new(alloc, key)?;
-    let mut draws = Draws { state: seed };
-    let mut next_uid = 1;
+    let mut draws = Draws {
+        state: seed,
+        next_uid: 1,
+    };
     for _ in 0..RECORDS {
-        let bytes = record(alloc, &mut draws, &mut next_uid)?;
-        watcher.write(alloc, bytes.as_slice())?;
-        if !watcher.agrees(alloc, &again)? {
+        if !follows_next(alloc, &mut watcher, key, &mut draws)? {
             return Ok(false);
         }
     }
     Ok(true)
 }
 
-// The first seed below this one for which it isn't so.
-fn first_other(alloc: Global, seeds: u64) -> Result<Option<u64>, NoMemory> {
-    for seed in 0..seeds {
-        let text = KEYS[(seed % 16) as usize];
-        if !agrees_throughout(alloc, seed, text)? {
-            return Ok(Some(seed));
+// Fails by the seed of the first log for which it isn't so.
+fn are_followed(alloc: Global) -> Result<(), Fail> {
+    for seed in 0..LOGS {
+        if follows_log(alloc, seed as u64, KEYS[seed % 16]) != Ok(true) {
+            return Err(Fail::from(seed));
         }
     }
-    Ok(None)
+    Ok(())
 }
 
 #[test]
 fn generated_logs_are_followed(rt: HostRuntime) -> Result<(), Fail> {
-    assert_eq!(rt; first_other(rt.alloc(), 96)?, None);
-    Ok(())
+    are_followed(rt.alloc())
 }

@@ -1,6 +1,7 @@
 //! Tests of kept searches over a mailbox that records change: by hand, and generated.
 #![tactic(auto)]
 
+#[cfg(test)]
 mod follower;
 #[cfg(test)]
 mod generated;
@@ -8,5 +9,3 @@ mod generated;
 mod keys;
 #[cfg(test)]
 mod rows;
-
-pub use follower::{Turn, first_other};

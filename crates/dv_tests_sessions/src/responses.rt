@@ -9,7 +9,7 @@ use dv_responses::{
     is_shallow, meet, uids_looked_at,
 };
 use dv_script::replies_text;
-use dv_search::Mail;
+use dv_search::{Mail, MailFacts};
 use dv_view::View;
 use std::alloc::Global;
 use std::test::Fail;
@@ -39,15 +39,24 @@ pub struct Asked {
     pub says: &'static [u8],
 }
 
-// The facts of the message of UID 1, where it is there; a damaged one has no bytes here.
-fn facts_of(alloc: Global, c: &Command, live: &Live, message: &[u8]) -> Result<Mail, NoMemory> {
-    let mut mail = Mail::new(alloc);
-    if message.is_empty() || live.position(1).is_none() || !is_shallow(c) {
-        return Ok(mail);
-    }
+fn message_facts(alloc: Global, c: &Command, message: &[u8]) -> Result<MailFacts, NoMemory>
+    requires { IsShallow c.now }
+{
     let asked = asked_by(alloc, c)?;
     let message = Bytes::from_slice(alloc, message)?;
-    mail.push(facts_from(alloc, &asked, 1, message)?)?;
+    facts_from(alloc, &asked, 1, message)
+}
+
+// The facts of the message of UID 1, where it is there; a damaged one has no bytes here.
+fn facts_of(alloc: Global, c: &Command, live: &Live, message: &[u8]) -> Result<Mail, NoMemory>
+    requires { IsShallow c.now }
+{
+    if message.is_empty() || live.position(1).is_none() {
+        return Ok(Mail::new(alloc));
+    }
+    let facts = message_facts(alloc, c, message)?;
+    let mut mail = Mail::new(alloc);
+    mail.push(facts)?;
     Ok(mail)
 }
 
@@ -82,7 +91,8 @@ fn ending_of(
     Ok(ending(c, gone, damaged.as_slice(), live, taken, mark))
 }
 
-fn text_of(
+// The lines that answer the command.
+fn add_lines(
     alloc: Global,
     c: &Command,
     view: &View,
@@ -90,74 +100,102 @@ fn text_of(
     live: &Live,
     facts: &Mail,
     mark: Mark,
-) -> Result<Bytes, NoMemory>
+    lines: &mut List<Reply>,
+) -> Result<(), NoMemory>
     requires { IsShallow c.now }
 {
-    let mut lines = List::new(alloc);
-    add_data_lines(alloc, c, view, live, facts, &mut lines)?;
-    lines.push(ending_of(alloc, c, view, met, live, facts, mark)?)?;
-    replies_text(alloc, b"a", &lines)
+    add_data_lines(alloc, c, view, live, facts, lines)?;
+    let end = ending_of(alloc, c, view, met, live, facts, mark)?;
+    lines.push(end)?;
+    Ok(())
 }
 
-// What a session that was shown the first mailbox, and whose command met it, is answered at the
-// other one, at this mark. Each value has one owner, so that it is let go in one place.
-fn answer_with(
+fn is_text(alloc: Global, lines: &List<Reply>, says: &[u8]) -> Result<bool, NoMemory> {
+    let text = replies_text(alloc, b"a", lines)?;
+    Ok(text.as_slice() == says)
+}
+
+// Whether a session that was shown the first mailbox, and whose command met it, is answered so at
+// the other one. Each value has one owner, so that it is let go in one place.
+fn view_answers(
+    alloc: Global,
+    c: &Command,
+    view: &View,
+    met: &Live,
+    live: &Live,
+    facts: &Mail,
+    asked: &Asked,
+) -> Result<bool, NoMemory>
+    requires { IsShallow c.now }
+{
+    let mark = Mark {
+        file_seq: 1,
+        offset: asked.end,
+    };
+    let mut lines = List::new(alloc);
+    add_lines(alloc, c, view, met, live, facts, mark, &mut lines)?;
+    is_text(alloc, &lines, asked.says)
+}
+
+fn facts_answer(
     alloc: Global,
     c: &Command,
     met: &Live,
     live: &Live,
     facts: &Mail,
-    mark: Mark,
-) -> Result<Bytes, NoMemory>
+    asked: &Asked,
+) -> Result<bool, NoMemory>
     requires { IsShallow c.now }
 {
     let view = View::of(alloc, met)?;
-    text_of(alloc, c, &view, met, live, facts, mark)
+    view_answers(alloc, c, &view, met, live, facts, asked)
 }
 
-fn answer(
+fn answers(
     alloc: Global,
     c: &Command,
     met: &Live,
     live: &Live,
     asked: &Asked,
-) -> Result<Bytes, NoMemory> {
+) -> Result<bool, NoMemory> {
     if !is_shallow(c) {
         return Err(NoMemory);
     }
     let facts = facts_of(alloc, c, live, asked.message)?;
-    let mark = Mark {
-        file_seq: 1,
-        offset: asked.end,
-    };
-    answer_with(alloc, c, met, live, &facts, mark)
+    facts_answer(alloc, c, met, live, &facts, asked)
 }
 
-fn answer_behind(alloc: Global, c: &Command, met: &Live, asked: &Asked) -> Result<Bytes, NoMemory> {
+fn answers_behind(alloc: Global, c: &Command, met: &Live, asked: &Asked) -> Result<bool, NoMemory> {
     let live = live_of(alloc, 2, asked.all)?;
-    answer(alloc, c, met, &live, asked)
+    answers(alloc, c, met, &live, asked)
 }
 
-fn answer_of(alloc: Global, c: &Command, asked: &Asked) -> Result<Bytes, NoMemory> {
+fn command_answers(alloc: Global, c: &Command, asked: &Asked) -> Result<bool, NoMemory> {
     let met = live_of(alloc, 2, asked.met)?;
-    answer_behind(alloc, c, &met, asked)
+    answers_behind(alloc, c, &met, asked)
 }
 
 /// Whether the command is answered so.
 pub fn is_answered(alloc: Global, asked: &Asked) -> Result<bool, NoMemory> {
     let c = command_of(alloc, asked.command.as_bytes(), asked.appended)?;
-    let text = answer_of(alloc, &c, asked)?;
-    Ok(text.as_slice() == asked.says)
+    command_answers(alloc, &c, asked)
+}
+
+fn view_is_told(alloc: Global, live: &Live, view: &View, says: &[u8]) -> Result<bool, NoMemory> {
+    let mut lines = List::new(alloc);
+    add_select_lines(alloc, live, view, &mut lines)?;
+    is_text(alloc, &lines, says)
+}
+
+fn is_told(alloc: Global, live: &Live, says: &[u8]) -> Result<bool, NoMemory> {
+    let view = View::of(alloc, live)?;
+    view_is_told(alloc, live, &view, says)
 }
 
 /// Whether a SELECT says this of the mailbox of these records.
 pub fn selects(alloc: Global, records: &[&[u8]], says: &[u8]) -> Result<bool, NoMemory> {
     let live = live_of(alloc, 2, records)?;
-    let view = View::of(alloc, &live)?;
-    let mut lines = List::new(alloc);
-    add_select_lines(alloc, &live, &view, &mut lines)?;
-    let text = replies_text(alloc, b"a", &lines)?;
-    Ok(text.as_slice() == says)
+    is_told(alloc, &live, says)
 }
 
 const SEARCHED: &[&[u8]] = &[APPEND_1, SEE_1, DRAFT_1, ADD_K1_TO_1];

@@ -21,11 +21,17 @@ fn key_of(alloc: Global, search: &str) -> Result<Key, NoMemory> {
     }
 }
 
+fn subject(alloc: Global) -> Result<List<(Bytes, Option<Bytes>)>, NoMemory> {
+    let name = Bytes::from_slice(alloc, b"Subject")?;
+    let value = Bytes::from_slice(alloc, b"Hello World")?;
+    let mut fields = List::new(alloc);
+    fields.push((name, Some(value)))?;
+    Ok(fields)
+}
+
 // What is known of UID 3: five bytes, and its subject.
 fn mail_of(alloc: Global) -> Result<Mail, NoMemory> {
-    let subject = Bytes::from_slice(alloc, b"Hello World")?;
-    let mut fields = List::new(alloc);
-    fields.push((Bytes::from_slice(alloc, b"Subject")?, Some(subject)))?;
+    let fields = subject(alloc)?;
     let mut mail = Mail::new(alloc);
     mail.push(MailFacts {
         uid: 3,
@@ -36,22 +42,36 @@ fn mail_of(alloc: Global) -> Result<Mail, NoMemory> {
     Ok(mail)
 }
 
-// Whether these rows are found.
-fn are_found(alloc: Global, key: &Key, live: &Live, expected: &[u32]) -> Result<bool, NoMemory> {
+// Whether these rows are found. Each value has one owner, so that it is let go in one place.
+fn are_found(
+    alloc: Global,
+    key: &Key,
+    view: &View,
+    live: &Live,
+    expected: &[u32],
+) -> Result<bool, NoMemory> {
     if !is_shallow(key) {
         return Err(NoMemory);
     }
     let mail = mail_of(alloc)?;
-    let view = View::of(alloc, live)?;
-    let found = eval(alloc, key, &view, live, &mail)?;
+    let found = eval(alloc, key, view, live, &mail)?;
     Ok(found.as_slice() == expected)
+}
+
+fn finds_in(alloc: Global, key: &Key, live: &Live, expected: &[u32]) -> Result<bool, NoMemory> {
+    let view = View::of(alloc, live)?;
+    are_found(alloc, key, &view, live, expected)
+}
+
+fn key_finds(alloc: Global, key: &Key, expected: &[u32]) -> Result<bool, NoMemory> {
+    let live = live_of(alloc, 1, &[APPEND, ADD_K1])?;
+    finds_in(alloc, key, &live, expected)
 }
 
 /// Whether these of the three rows are found; of the second and the third no message is known.
 pub fn finds(alloc: Global, search: &str, expected: &[u32]) -> Result<bool, NoMemory> {
     let key = key_of(alloc, search)?;
-    let live = live_of(alloc, 1, &[APPEND, ADD_K1])?;
-    are_found(alloc, &key, &live, expected)
+    key_finds(alloc, &key, expected)
 }
 
 // The key behind NOT so often.
@@ -63,6 +83,13 @@ fn behind_nots(alloc: Global, count: u32, key: Key) -> Result<Key, NoMemory> {
     Ok(key)
 }
 
+fn nests_so(key: &Key, reads: Option<bool>) -> bool {
+    match reads {
+        Some(reads) => is_shallow(key) && needs_mail(key) == reads,
+        None => !is_shallow(key),
+    }
+}
+
 /// Whether the key behind so many NOTs nests in its bounds, and whether it reads messages then.
 pub fn nests(
     alloc: Global,
@@ -71,13 +98,7 @@ pub fn nests(
     reads: Option<bool>,
 ) -> Result<bool, NoMemory> {
     let key = behind_nots(alloc, nots, key_of(alloc, search)?)?;
-    if !is_shallow(&key) {
-        return Ok(reads.is_none());
-    }
-    match reads {
-        Some(reads) => Ok(needs_mail(&key) == reads),
-        None => Ok(false),
-    }
+    Ok(nests_so(&key, reads))
 }
 
 const CASES: [(&str, Case); 8] = [

@@ -37,22 +37,44 @@ fn set_of(alloc: Global, text: &str) -> Result<List<Span>, NoMemory> {
     }
 }
 
-// Whether the set names these numbers, and these among UIDs.
-fn are_named(
+fn has_numbers(
     alloc: Global,
     set: &List<Span>,
     rows: &List<Shown>,
-    by_number: &[u32],
-    by_uid: &[u32],
+    expected: &[u32],
+) -> Result<bool, NoMemory>
+    requires { length rows.now < 2 ^ 32 }
+{
+    match numbers(alloc, set, rows) {
+        Ok(found) => Ok(found.as_slice() == expected),
+        Err(_) => Ok(false),
+    }
+}
+
+fn has_uids(
+    alloc: Global,
+    set: &List<Span>,
+    rows: &List<Shown>,
+    expected: &[u32],
 ) -> Result<bool, NoMemory>
     requires few { length rows.now < 2 ^ 32 }
     requires rising { IsStrictlyIncreasing (map (λ row. row.uid) rows.now) }
 {
-    let Ok(found) = numbers(alloc, set, rows) else {
-        return Ok(false);
-    };
     let named = uids(alloc, set, rows)?;
-    Ok(found.as_slice() == by_number && named.as_slice() == by_uid)
+    Ok(named.as_slice() == expected)
+}
+
+// Whether the set names these numbers of rows with these UIDs, and these by the UIDs. Each value
+// has one owner, so that it is let go in one place.
+fn set_names(
+    alloc: Global,
+    set: &List<Span>,
+    uids: &[u32],
+    by_number: &[u32],
+    by_uid: &[u32],
+) -> Result<bool, NoMemory> {
+    let rows = rows_of(alloc, uids)?;
+    Ok(has_numbers(alloc, set, &rows, by_number)? && has_uids(alloc, set, &rows, by_uid)?)
 }
 
 /// Whether the set names these numbers of rows with these UIDs, and these by the UIDs.
@@ -63,26 +85,38 @@ pub fn names(
     by_number: &[u32],
     by_uid: &[u32],
 ) -> Result<bool, NoMemory> {
-    let rows = rows_of(alloc, uids)?;
     let set = set_of(alloc, text)?;
-    are_named(alloc, &set, &rows, by_number, by_uid)
+    set_names(alloc, &set, uids, by_number, by_uid)
 }
 
-/// Whether the set names this number, which no row has.
-pub fn misses(alloc: Global, text: &str, uids: &[u32], number: u32) -> Result<bool, NoMemory> {
+fn set_misses(
+    alloc: Global,
+    set: &List<Span>,
+    uids: &[u32],
+    number: u32,
+) -> Result<bool, NoMemory> {
     let rows = rows_of(alloc, uids)?;
-    let set = set_of(alloc, text)?;
-    match numbers(alloc, &set, &rows) {
+    match numbers(alloc, set, &rows) {
         Err(SetEnd::NoMessage(missed)) => Ok(missed == number),
         _ => Ok(false),
     }
 }
 
+/// Whether the set names this number, which no row has.
+pub fn misses(alloc: Global, text: &str, uids: &[u32], number: u32) -> Result<bool, NoMemory> {
+    let set = set_of(alloc, text)?;
+    set_misses(alloc, &set, uids, number)
+}
+
+fn prints(alloc: Global, set: &List<Span>, printed: &[u8]) -> Result<bool, NoMemory> {
+    let again = print_set(alloc, set)?;
+    Ok(again.as_slice() == printed)
+}
+
 /// Whether the set is printed so.
 pub fn is_printed(alloc: Global, text: &str, printed: &str) -> Result<bool, NoMemory> {
     let set = set_of(alloc, text)?;
-    let again = print_set(alloc, &set)?;
-    Ok(again.as_slice() == printed.as_bytes())
+    prints(alloc, &set, printed.as_bytes())
 }
 
 /// Whether the flag list has these bits of system flags, and is printed so.

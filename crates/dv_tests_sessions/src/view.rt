@@ -66,6 +66,59 @@ fn is_said(said: &List<Reply>, expected: &[Line]) -> bool {
 /// A record of the log, and the step that the view then takes, with what is said.
 pub type Turn = (&'static [u8], Option<(Step, &'static [Line])>);
 
+fn has_same_rows(client: &[Shown], view: &[Shown]) -> bool {
+    if client.len() != view.len() {
+        return false;
+    }
+    for (a, b) in client.iter().zip(view) {
+        if a.uid != b.uid || a.flags != b.flags {
+            return false;
+        }
+    }
+    true
+}
+
+// A view, and a client that hears what is said of its moves.
+#[derive(Drop)]
+struct Watched {
+    view: View,
+    client: Client,
+}
+
+impl Watched {
+    fn new(alloc: Global) -> Watched
+        ensures { result.view ≡ empty_view }
+    {
+        Watched {
+            view: View::empty(alloc),
+            client: Client {
+                rows: List::new(alloc),
+            },
+        }
+    }
+
+    fn hear(&mut self, alloc: Global, said: &List<Reply>) -> Result<(), NoMemory> {
+        for r in said.as_slice() {
+            self.client.hear(alloc, r)?;
+        }
+        Ok(())
+    }
+
+    // Whether what is said is what is expected, and a client that hears it has the view.
+    fn hears(
+        &mut self,
+        alloc: Global,
+        said: &List<Reply>,
+        expected: &[Line],
+    ) -> Result<bool, NoMemory> {
+        self.hear(alloc, said)?;
+        Ok(
+            is_said(said, expected)
+                && has_same_rows(self.client.rows.as_slice(), self.view.rows().as_slice()),
+        )
+    }
+}
+
 // Moves on, where the mailbox isn't older than the view.
 fn advance(
     alloc: Global,
@@ -73,8 +126,6 @@ fn advance(
     live: &Live,
     step: Step,
 ) -> Result<List<Reply>, NoMemory> {
-    // A copy shows that the mailbox is valid.
-    let _copy = live.mailbox(alloc)?;
     if view.next_uid() > live.next_uid() {
         return Err(NoMemory);
     }
@@ -83,54 +134,39 @@ fn advance(
     Ok(said)
 }
 
-fn hear_all(alloc: Global, client: &mut Client, said: &List<Reply>) -> Result<(), NoMemory> {
-    for r in said.as_slice() {
-        client.hear(alloc, r)?;
-    }
-    Ok(())
-}
-
-fn has_same_rows(client: &Client, view: &View) -> bool {
-    if client.rows.len() != view.rows().len() {
-        return false;
-    }
-    for (a, b) in client.rows.as_slice().iter().zip(view.rows().as_slice()) {
-        if a.uid != b.uid || a.flags != b.flags {
-            return false;
-        }
-    }
-    true
-}
-
 fn take(
     alloc: Global,
-    view: &mut View,
-    client: &mut Client,
+    watched: &mut Watched,
     live: &Live,
     step: Step,
     expected: &[Line],
 ) -> Result<bool, NoMemory> {
-    let said = advance(alloc, view, live, step)?;
-    hear_all(alloc, client, &said)?;
-    Ok(is_said(&said, expected) && has_same_rows(client, view))
+    let said = advance(alloc, &mut watched.view, live, step)?;
+    watched.hears(alloc, &said, expected)
 }
 
-/// Whether each turn says what is expected, and a client that hears it has the view.
-pub fn are_right(alloc: Global, turns: &[Turn]) -> Result<bool, NoMemory> {
-    let mut live = Live::empty(alloc, 1000);
-    let mut view = View::empty(alloc);
-    let mut client = Client {
-        rows: List::new(alloc),
-    };
+fn are_taken(
+    alloc: Global,
+    live: &mut Live,
+    watched: &mut Watched,
+    turns: &[Turn],
+) -> Result<bool, NoMemory> {
     for (bytes, step) in turns {
-        apply(alloc, &mut live, &[*bytes])?;
+        apply(alloc, live, &[*bytes])?;
         if let Some((step, expected)) = step {
-            if !take(alloc, &mut view, &mut client, &live, *step, expected)? {
+            if !take(alloc, watched, live, *step, expected)? {
                 return Ok(false);
             }
         }
     }
     Ok(true)
+}
+
+/// Whether each turn says what is expected, and a client that hears it has the view.
+pub fn are_right(alloc: Global, turns: &[Turn]) -> Result<bool, NoMemory> {
+    let mut live = Live::empty(alloc, 1000);
+    let mut watched = Watched::new(alloc);
+    are_taken(alloc, &mut live, &mut watched, turns)
 }
 
 fn shown(alloc: Global, uid: u32, flags: u8) -> Shown
@@ -177,23 +213,51 @@ fn next_changes(alloc: Global) -> Result<List<Fresh>, NoMemory>
     Ok(fresh)
 }
 
+// What is said of the first changes.
+fn first_move(alloc: Global, view: &mut View) -> Result<List<Reply>, NoMemory>
+    requires { view.old ≡ empty_view }
+{
+    let names = Table::empty(alloc);
+    let fresh = first_changes(alloc)?;
+    let mut said = List::new(alloc);
+    view.advance_by(3, fresh, &names, Step::Full, &mut said)?;
+    Ok(said)
+}
+
+// What a step says of the next ones.
+fn next_move(alloc: Global, view: &mut View, step: Step) -> Result<List<Reply>, NoMemory> {
+    if view.next_uid() != 3 || view.position(2).is_none() {
+        return Err(NoMemory);
+    }
+    let names = Table::empty(alloc);
+    let fresh = next_changes(alloc)?;
+    let mut said = List::new(alloc);
+    view.advance_by(4, fresh, &names, step, &mut said)?;
+    Ok(said)
+}
+
+fn begin(alloc: Global, watched: &mut Watched) -> Result<(), NoMemory>
+    requires { watched.old.view ≡ empty_view }
+{
+    let said = first_move(alloc, &mut watched.view)?;
+    watched.hear(alloc, &said)
+}
+
+fn go_on(
+    alloc: Global,
+    watched: &mut Watched,
+    step: Step,
+    expected: &[Line],
+) -> Result<bool, NoMemory> {
+    let said = next_move(alloc, &mut watched.view, step)?;
+    watched.hears(alloc, &said, expected)
+}
+
 /// Whether the second move says what is expected, and a client that hears both has the view.
 pub fn is_right(alloc: Global, step: Step, expected: &[Line]) -> Result<bool, NoMemory> {
-    let names = Table::empty(alloc);
-    let mut client = Client {
-        rows: List::new(alloc),
-    };
-    let mut view = View::empty(alloc);
-    let mut said = List::new(alloc);
-    view.advance_by(3, first_changes(alloc)?, &names, Step::Full, &mut said)?;
-    hear_all(alloc, &mut client, &said)?;
-    if view.next_uid() != 3 || view.position(2).is_none() {
-        return Ok(false);
-    }
-    let mut said = List::new(alloc);
-    view.advance_by(4, next_changes(alloc)?, &names, step, &mut said)?;
-    hear_all(alloc, &mut client, &said)?;
-    Ok(is_said(&said, expected) && has_same_rows(&client, &view))
+    let mut watched = Watched::new(alloc);
+    begin(alloc, &mut watched)?;
+    go_on(alloc, &mut watched, step, expected)
 }
 
 const UNTOLD: [Turn; 4] = [

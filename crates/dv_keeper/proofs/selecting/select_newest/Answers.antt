@@ -2,11 +2,13 @@ use Rattle.std.proofs.Common.{◌∙◌, inl, inr, List, [], ap, refl, subst, sy
 use Rattle.std.proofs.lemmas.Result.{err_from_is_err_and}
 use mathlib.Core.List.{IsPrefix}
 use Rattle.dv_front.specs.declared.notes.Note.{Note}
+use Rattle.dv_generations.specs.Feeds.{journal}
 use Rattle.dv_member.specs.Calls.{turn_of}
 use Rattle.dv_member.specs.Members.{Member, log_seen, notes_of}
 use Rattle.dv_model.specs.declared.types.Command.TheVariants.{Select}
 use Rattle.dv_keeper.specs.Sessions.{HasRejoined}
-use Rattle.dv_keeper.proofs.Selected.{rejoined, selects}
+use Rattle.dv_keeper.specs.Turns.{HasSeen}
+use Rattle.dv_keeper.proofs.Selected.{caught_seen, rejoined, selects}
 use Rattle.dv_keeper.proofs.Telling.{taken_same}
 use Rattle.dv_keeper.proofs.selecting.select_newest.Goals as goal
 
@@ -54,4 +56,9 @@ returns-in_err-answer-clause-turn g c =
 pub returns-in_err-answer-clause-err : goal.returns-in_err-answer-clause-err
 returns-in_err-answer-clause-err g c =
     let p = err_from_is_err_and c.from_residual-in_err-answer.result c.from_residual-in_err-answer.ensures.1 in
-    rw p.1 (inr (subst (HasRejoined c.args.s.now) (sym c.in_err-answer.ensures.err) (rejoined c.args.shared.now.kept.feed c.args.s.now c.catch_up.new.s c.in_ok-catch_up.ensures.ok)))
+    let k = g.K.Keeping in
+    let feed = c.args.shared.now.kept.feed in
+    let old = c.args.s.now in
+    let caught = c.catch_up.new.s in
+    let has = c.in_ok-catch_up.ensures.ok in
+    rw p.1 (inr (subst (λ (s : Member). HasRejoined old s × HasSeen (journal feed) s) (sym c.in_err-answer.ensures.err) (rejoined feed old caught has, caught_seen k.start k.count feed old caught has c.number.ensures.session)))

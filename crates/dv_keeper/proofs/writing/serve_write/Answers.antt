@@ -34,7 +34,7 @@ returns-in_err-met-clause-commit g c =
     let begins = subst (λ (l : Locked g.row.S.Denot g.row.C.Denot). IsPrefix (notes_of c.face.new.s) (notes_in l.kept)) (sym c.face.ensures.same) c.face.ensures.begins in (
       record { before = kept; behind = kept; came = Err fault.NoMemory },
       (c.knows.ensures.holds, c.knows.ensures.holds),
-      no_commit g.S.Shelf.sees g.C.Clock.sees k.start k.honest c.args.s.now c.face.new.s as_before c.args.c.now kept begins,
+      no_commit g.S.Shelf.sees g.C.Clock.sees k.start k.honest c.args.s.now c.face.new.s as_before c.args.c.now kept begins c.knows.ensures.owes,
       rw (p.1, p.2) (refl, as_before),
       rw p.1 tt,
     )
@@ -56,7 +56,7 @@ returns-in_err-met-clause-replies g c =
 pub tell_written-requires-clause-pass : goal.tell_written-requires-clause-pass
 tell_written-requires-clause-pass g c more =
     let e = c.in-Ok.ensures in
-    e.value.pass (omega (arith, more, c.count-before.ensures, e.told.number))
+    e.value.pass (omega (arith, more, c.count-before.ensures, e.value.told.number))
 
 pub returns-in-Ok-clause-begins : goal.returns-in-Ok-clause-begins
 returns-in-Ok-clause-begins g c =
@@ -68,7 +68,7 @@ returns-in-Ok-clause-begins g c =
     let noted = e.value.notes in
     let group = group_of c.args.c.now f.follower.state.view m noted.guid in
     let note : Note = note_of (log_of g.K.Keeping.start (notes_in k0)) f.number c.args.c.now noted.received group m in
-    written_begins c.args.s.now f c.commit.new.s c.tell_written.new.s c.face.ensures.as_before (notes_in k0) (notes_in k1) note group.records noted.is c.in-Ok.written e.told.number e.session
+    written_begins c.args.s.now f c.commit.new.s c.tell_written.new.s c.face.ensures.as_before (notes_in k0) (notes_in k1) note group.records noted.is c.in-Ok.written e.value.told.number e.session
     (notes_of c.tell_written.new.s) c.tell_written.ensures.begins
 
 pub returns-in-Ok-clause-commit : goal.returns-in-Ok-clause-commit
@@ -91,8 +91,8 @@ returns-in-Ok-clause-commit g c =
     let untold = subst (λ (n : ℕ). IfErr c.tell_written.result (LeavesUntold n v k1.feed w new)) c.count-before.ensures c.tell_written.ensures.err in (
       record { before = k0; behind = k1; came = Ok v },
       (c.knows.ensures.holds, c.knows-in-Ok.ensures.holds),
-      commit_of g.S.Shelf.sees g.C.Clock.sees k.start k.honest old f as_before c.args.c.now k0 begins k1 (Ok v) e.value e.told e.outcome e.cause e.settled,
-      leaves_written old f w new as_before (notes_in k0) (notes_in k1) note group.records noted.is v e.told.number e.session k1.feed refl c.tell_written.result c.tell_written.ensures.ok untold,
+      commit_of g.S.Shelf.sees g.C.Clock.sees k.start k.honest old f as_before c.args.c.now k0 begins k1 (Ok v) e.value e.outcome c.knows.ensures.owes e.owes e.cause e.settled,
+      leaves_written old f w new as_before (notes_in k0) (notes_in k1) note group.records noted.is v e.value.told.number e.session k1.feed refl c.tell_written.result c.tell_written.ensures.ok untold,
       tt,
     )
 
@@ -113,9 +113,9 @@ returns-in-Ok-clause-turn g c h =
     let group = group_of c.args.c.now f.follower.state.view m noted.guid in
     let note : Note = note_of (log_of k.start (notes_in k0)) f.number c.args.c.now noted.received group m in
     let begins = subst (λ (l : Locked g.row.S.Denot g.row.C.Denot). IsPrefix (notes_of f) (notes_in l.kept)) (sym c.face.ensures.same) c.face.ensures.begins in
-    let commit = commit_of g.S.Shelf.sees g.C.Clock.sees k.start k.honest old f as_before c.args.c.now k0 begins k1 (Ok v) e.value e.told e.outcome e.cause e.settled in
+    let commit = commit_of g.S.Shelf.sees g.C.Clock.sees k.start k.honest old f as_before c.args.c.now k0 begins k1 (Ok v) e.value e.outcome c.knows.ensures.owes e.owes e.cause e.settled in
     let met = c.in_ok-met.ensures ∙ ap (λ (x : View). met_of c.args.c.now x c.live.result.now.mailbox) c.view.ensures ∙ ap (λ (x : Held). met_of c.args.c.now f.follower.state.view x.mailbox) c.live.ensures in
-    write_turn old f w new as_before (notes_in k0) (notes_in k1) note group.records noted.is v e.told.number e.session k.start k.count c.args.c.now k0.store k1.store c.knows.ensures.holds.stands c.knows-in-Ok.ensures.holds.stands
+    write_turn old f w new as_before (notes_in k0) (notes_in k1) note group.records noted.is v e.value.told.number e.session k.start k.count c.args.c.now k0.store k1.store c.knows.ensures.holds.stands c.knows-in-Ok.ensures.holds.stands
     c.number.ensures.session c.requires.fresh commit.begins (commit.outcome h) g.R.Replies.with c.args.replies.now c.tell_written.new.replies c.tell_written.result
     (c.tell_written.ensures.answer (log_of k.start (notes_in k1)).mail m (met ∙ ap (λ (x : Member). met_of c.args.c.now x.follower.state.view m) (sym e.session))) c.tell_written.ensures.ok
 
@@ -136,10 +136,10 @@ returns-in-Ok-clause-entry g c h =
     let group = group_of c.args.c.now f.follower.state.view m noted.guid in
     let note : Note = note_of (log_of k.start (notes_in k0)) f.number c.args.c.now noted.received group m in
     let begins = subst (λ (l : Locked g.row.S.Denot g.row.C.Denot). IsPrefix (notes_of f) (notes_in l.kept)) (sym c.face.ensures.same) c.face.ensures.begins in
-    let commit = commit_of g.S.Shelf.sees g.C.Clock.sees k.start k.honest old f as_before c.args.c.now k0 begins k1 (Ok v) e.value e.told e.outcome e.cause e.settled in
+    let commit = commit_of g.S.Shelf.sees g.C.Clock.sees k.start k.honest old f as_before c.args.c.now k0 begins k1 (Ok v) e.value e.outcome c.knows.ensures.owes e.owes e.cause e.settled in
     let untold = subst (λ (n : ℕ). IfErr c.tell_written.result (LeavesUntold n v k1.feed w new)) c.count-before.ensures c.tell_written.ensures.err in
-    leaves_entry old f w new as_before (notes_in k0) (notes_in k1) note group.records noted.is v e.told.number e.session k1.feed refl k.start c.args.c.now c.tell_written.result untold
-    (write_left old f w new as_before (notes_in k0) (notes_in k1) note group.records noted.is v e.told.number e.session k.start k.count c.args.c.now k0.store k1.store c.knows.ensures.holds.stands c.knows-in-Ok.ensures.holds.stands
+    leaves_entry old f w new as_before (notes_in k0) (notes_in k1) note group.records noted.is v e.value.told.number e.session k1.feed refl k.start c.args.c.now c.tell_written.result untold
+    (write_left old f w new as_before (notes_in k0) (notes_in k1) note group.records noted.is v e.value.told.number e.session k.start k.count c.args.c.now k0.store k1.store c.knows.ensures.holds.stands c.knows-in-Ok.ensures.holds.stands
     c.number.ensures.session c.requires.fresh commit.begins (commit.outcome h) c.requires.write)
 
 -- ---- it was refused
@@ -164,7 +164,7 @@ returns-in_ok-tell_fault-in-Err-clause-commit g c =
     let begins = subst (λ (l : Locked g.row.S.Denot g.row.C.Denot). IsPrefix (notes_of f) (notes_in l.kept)) (sym c.face.ensures.same) c.face.ensures.begins in (
       record { before = k0; behind = k1; came = Err fail },
       (c.knows.ensures.holds, c.knows-in-Err.ensures.holds),
-      commit_of g.S.Shelf.sees g.C.Clock.sees k.start k.honest old f as_before c.args.c.now k0 begins k1 (Err fail) e.value tt e.outcome e.cause e.settled,
+      commit_of g.S.Shelf.sees g.C.Clock.sees k.start k.honest old f as_before c.args.c.now k0 begins k1 (Err fail) e.value e.outcome c.knows.ensures.owes e.owes e.cause e.settled,
       (told.ok.0, leaves_met old f w new as_before (length (notes_in k0)) fail e.session told.ok.1),
       told.said,
     )
@@ -181,7 +181,7 @@ returns-in_ok-tell_fault-in-Err-clause-turn g c h =
     let as_before = c.face.ensures.as_before in
     let told = c.in_ok-tell_fault-in-Err.ensures in
     let begins = subst (λ (l : Locked g.row.S.Denot g.row.C.Denot). IsPrefix (notes_of f) (notes_in l.kept)) (sym c.face.ensures.same) c.face.ensures.begins in
-    let commit = commit_of g.S.Shelf.sees g.C.Clock.sees k.start k.honest old f as_before c.args.c.now k0 begins k1 (Err fail) e.value tt e.outcome e.cause e.settled in
+    let commit = commit_of g.S.Shelf.sees g.C.Clock.sees k.start k.honest old f as_before c.args.c.now k0 begins k1 (Err fail) e.value e.outcome c.knows.ensures.owes e.owes e.cause e.settled in
     record {
       replies = fault_lines fail;
       taken = told.said.0;
@@ -211,7 +211,7 @@ returns-in_err-tell_fault-in-Err-clause-commit g c =
     let untold = leaves_before old f c.commit.new.s c.tell_fault.new.s as_before (length (notes_in k0)) fail e.session c.in_err-tell_fault-in-Err.ensures.err in (
       record { before = k0; behind = k1; came = Err fail },
       (c.knows.ensures.holds, c.knows-in-Err.ensures.holds),
-      commit_of g.S.Shelf.sees g.C.Clock.sees k.start k.honest old f as_before c.args.c.now k0 begins k1 (Err fail) e.value tt e.outcome e.cause e.settled,
+      commit_of g.S.Shelf.sees g.C.Clock.sees k.start k.honest old f as_before c.args.c.now k0 begins k1 (Err fail) e.value e.outcome c.knows.ensures.owes e.owes e.cause e.settled,
       rw (p.1, p.2) (e.value.notes, untold),
       rw p.1 tt,
     )

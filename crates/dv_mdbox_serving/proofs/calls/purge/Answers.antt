@@ -15,7 +15,7 @@ returns-clause-called g c = λ tells start base calls follows.
     let old = c.args.storage.now in
     let k = follows.keeps in
     subst (λ (told : Option Answer). IsCalled S.sees start base calls Purge told old c.purge.new.self) (sym c.purged_answer.ensures)
-    (purged_called S.sees start base calls old c.purge.new.self follows c.has_valid_map.ensures c.purge.result done.answers done.count (done.gives tells k.messages k.debt k.rests) done.value done.cause)
+    (purged_called S.sees start base calls old c.purge.new.self follows c.has_valid_map.ensures c.purge.result done.count (done.gives tells k.messages k.debt k.rests) done.value done.cause)
 
 pub returns-clause-clears : goal.returns-clause-clears
 returns-clause-clears g c = λ tells messages debt rest.

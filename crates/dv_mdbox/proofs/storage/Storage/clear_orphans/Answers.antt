@@ -4,9 +4,9 @@ use Rattle.dv_logfile.proofs.Settling.{looked_settled, settled_then}
 use Rattle.dv_chain.specs.declared.chain.Chain.{Chain}
 use Rattle.dv_filing.specs.Clearing.{Needs}
 use Rattle.dv_files.specs.Writing.{IsSwept}
-use Rattle.dv_mdbox.specs.Purging.{AllNamed}
+use Rattle.dv_mdbox.specs.Purging.{AllNamed, IsNamed}
 use Rattle.dv_mdbox.proofs.Finished.{looked_both, on_ok}
-use Rattle.dv_mdbox.proofs.Orphaned.{none_unnamed, orphans_spared}
+use Rattle.dv_mdbox.proofs.Orphaned.{named_kept, none_unnamed, orphans_spared}
 use Rattle.dv_mdbox.proofs.Thinning.{quiet_looked, quiet_then}
 use Rattle.dv_mdbox.proofs.storage.Storage.clear_orphans.Goals as goal
 
@@ -46,6 +46,20 @@ returns-clause-named g c = λ tells.
     subst (λ (k : Chain). AllNamed (S.sees.files new.shelf) k.live.mailbox) stays.chain
     (none_unnamed mid.chain.live.mailbox c.as_slice.result.now c.in_ok-files.files.items (S.sees.files old.shelf) (S.sees.files new.shelf) (subst (Lists (S.sees.files old.shelf)) (sym c.as_slice.ensures) (c.in_ok-names.ensures.found tells)) c.in_ok-files.ensures
     (subst (λ (l : List ℕ). IsSwept l (S.sees.files old.shelf) (S.sees.files new.shelf)) c.as_slice-2.ensures.value (subst (λ (f : Folder). IsSwept c.as_slice-2.result.now f (S.sees.files new.shelf)) looks.same gone)))) (c.clear_files.ensures.gone tells)
+
+pub returns-clause-kept : goal.returns-clause-kept
+returns-clause-kept g c = λ tells.
+    let S = g.S.Shelf in
+    let stays = c.in_ok-names.ensures.stays in
+    let old = c.args.self.now in
+    let mid = c.list_files.new.self in
+    let new = c.clear_files.new.self in
+    let looks = c.in_ok-names.ensures.looks tells in
+    on_ok c.clear_files.result
+    (λ gone file named.
+    named_kept mid.chain.live.mailbox c.as_slice.result.now c.in_ok-files.files.items (S.sees.files old.shelf) (S.sees.files new.shelf) c.in_ok-files.ensures
+    (subst (λ (l : List ℕ). IsSwept l (S.sees.files old.shelf) (S.sees.files new.shelf)) c.as_slice-2.ensures.value (subst (λ (f : Folder). IsSwept c.as_slice-2.result.now f (S.sees.files new.shelf)) looks.same gone)) file
+    (subst (λ (k : Chain). IsNamed k.live.mailbox file) (sym stays.chain) named)) (c.clear_files.ensures.gone tells)
 
 pub returns-clause-gives : goal.returns-clause-gives
 returns-clause-gives g c = λ tells messages rest.

@@ -4,7 +4,9 @@ use Rattle.std.proofs.lemmas.Result.{err_from_is_err_and}
 use Rattle.dv_model.specs.Sessions.{group_limit}
 use Rattle.dv_chain.specs.Rest.{Nothing}
 use Rattle.dv_mdbox.specs.Answers.{HasRoom, IsFull}
-use Rattle.dv_mdbox.proofs.Thinning.{failure_answers, later_stays, takes_none}
+use Rattle.dv_mdbox.specs.Purging.{HasRoomAt, LacksRoomAt, group_size}
+use Rattle.dv_mdbox.proofs.Marked.{found_room, has_at, lacks_at}
+use Rattle.dv_mdbox.proofs.Thinning.{later_stays, takes_none}
 use Rattle.dv_mdbox.proofs.Written.{group_clocked, group_kept, quiet_clocked}
 use Rattle.dv_mdbox.proofs.storage.Storage.put_group.Goals as goal
 
@@ -45,9 +47,11 @@ returns-then-lacks_room-clause-gives g c = rw (← c.self.view_is) (λ tells. la
 pub returns-then-lacks_room-clause-clock : goal.returns-then-lacks_room-clause-clock
 returns-then-lacks_room-clause-clock g c = rw (← c.self.view_is) (λ tells. takes_none (g.C.Clock.sees.upcoming c.self.inside.clock))
 
-pub returns-then-lacks_room-clause-answers : goal.returns-then-lacks_room-clause-answers
-returns-then-lacks_room-clause-answers g c = rw (← c.self.view_is) (
-    MatchBool-at_true ((group_limit < c.in_ok-size.size) ⊎ IsFull c.self.inside.chain c.in_ok-size.size) ((c.in_ok-size.size ≤ group_limit) × HasRoom c.self.inside.chain c.in_ok-size.size) c.if-lacks_room.true c.lacks_room.ensures)
+pub returns-then-lacks_room-clause-room : goal.returns-then-lacks_room-clause-room
+returns-then-lacks_room-clause-room g c = rw (← c.self.view_is) (
+    let old = c.self.inside in
+    let lacks = MatchBool-at_true ((group_limit < c.in_ok-size.size) ⊎ IsFull old.chain c.in_ok-size.size) ((c.in_ok-size.size ≤ group_limit) × HasRoom old.chain c.in_ok-size.size) c.if-lacks_room.true c.lacks_room.ensures in
+    (c.in_ok-size.ensures, subst (LacksRoomAt old.mark) c.in_ok-size.ensures (lacks_at old.mark old.owed old.chain c.in_ok-size.size c.self.invariant.1 lacks)))
 
 -- ---- the group
 
@@ -59,8 +63,12 @@ returns-clause-gives g c = rw (← c.self.view_is) (λ tells messages after rest
     let done = c.write.ensures.gives tells messages messages Nothing after rest.fits rest.stands gives through in
     (_, (quiet_clocked g.S.Shelf.sees messages messages Nothing after _ _ c.write.new.self c.turn_time-time.new.clock c.write.result done.0, done.1)))
 
-pub returns-clause-answers : goal.returns-clause-answers
-returns-clause-answers g c = failure_answers c.write.new.self.chain c.write.result c.write.ensures.err
+pub returns-clause-room : goal.returns-clause-room
+returns-clause-room g c = rw (← c.self.view_is) (
+    let old = c.self.inside in
+    let fits = MatchBool-at_false ((group_limit < c.in_ok-size.size) ⊎ IsFull old.chain c.in_ok-size.size) ((c.in_ok-size.size ≤ group_limit) × HasRoom old.chain c.in_ok-size.size) c.if-lacks_room.false c.lacks_room.ensures in
+    let room = subst (HasRoomAt old.mark) c.in_ok-size.ensures (has_at old.mark old.owed old.chain c.in_ok-size.size c.self.invariant.1 fits) in
+    found_room old.mark (group_size c.args.records) c.write.result room c.write.ensures.err)
 
 pub returns-clause-clock : goal.returns-clause-clock
 returns-clause-clock g c = rw (← c.self.view_is) (λ tells. (_, ap g.C.Clock.sees.upcoming c.write.ensures.beside.clock ∙ c.turn_time-time.ensures.clock tells))

@@ -1,10 +1,10 @@
-use Rattle.std.proofs.Common.{◌∙◌, ◌^◌, ◌<◌, List, Err, inl, inr, refl, ap, subst}
+use Rattle.std.proofs.Common.{◌∙◌, ◌^◌, ◌<◌, List, Err, inr, refl, ap, subst}
 use Rattle.std.specs.Prelude.{All}
 use Rattle.std.proofs.lemmas.Result.{err_from_is_err_and}
 use Rattle.dv_maps.specs.declared.mapped.Mapped.{Mapped}
 use Rattle.dv_maps.specs.Purges.{StandsIn, size_of, texts_in}
 use Rattle.dv_mdbox.proofs.Moved.{some_items}
-use Rattle.dv_mdbox.proofs.Stepping.{none_taken}
+use Rattle.dv_mdbox.proofs.Finished.{number_missed}
 use Rattle.dv_mdbox.proofs.Thinning.{quiet_stays, takes_none}
 use Rattle.dv_mdbox.proofs.storage.Storage.put_texts.Goals as goal
 
@@ -19,9 +19,10 @@ rewrite_file-requires g c = record {
 }
 
 pub returns-in_err-new-clause-value : goal.returns-in_err-new-clause-value
-returns-in_err-new-clause-value g c = λ from next.
+returns-in_err-new-clause-value g c = λ from known next fits.
+    let old = c.args.self.now in
     let p = err_from_is_err_and c.from_residual.result c.from_residual.ensures.1 in
-    rw p.1 (inl (none_taken from c.args.self.now c.args.self.now refl refl refl refl refl))
+    rw p.1 (number_missed known from c.args.file old fits (λ none. some_items c.args.rows.kept.items c.requires.some.0 (c.requires.rows.kept ∙ none)) _ c.in_err-new.ensures p.0 p.2)
 
 pub returns-in_err-new-clause-gives : goal.returns-in_err-new-clause-gives
 returns-in_err-new-clause-gives g c = λ tells messages bytes rest texts stands.

@@ -1,14 +1,16 @@
-use Rattle.std.proofs.Common.{◌∙◌, ◌^◌, ◌<◌, ◌≤◌, List, ℕ, length, Ok, Err, inl, refl, sym, subst}
+use Rattle.std.proofs.Common.{◌∙◌, ◌^◌, ◌<◌, ◌≤◌, List, ℕ, length, Ok, Err, refl, sym, subst}
 use Rattle.std.proofs.lemmas.Result.{err_from_is_err_and}
+use Rattle.dv_model.specs.declared.types.Mailbox.{Mailbox}
 use Rattle.dv_model.specs.declared.types.Record.{Record}
 use Rattle.dv_logfile.proofs.Settling.{settled_then}
 use Rattle.dv_maps.specs.declared.mapped.Mapped.{Mapped}
 use Rattle.dv_maps.specs.Groups.{purge_records}
 use Rattle.dv_maps.specs.Purges.{AreSpelled, moved, size_of}
 use Rattle.dv_mdbox.specs.Purging.{TakesSome}
-use Rattle.dv_mdbox.proofs.Finished.{file_quiet, file_taken, group_quiet, on_ok, spared, taken_away}
+use Rattle.dv_mdbox.specs.Answers.{IsFailure}
+use Rattle.dv_mdbox.proofs.Finished.{file_missed, file_quiet, file_taken, group_quiet, on_ok, rewrites_map, spared, taken_away}
 use Rattle.dv_mdbox.proofs.Rewritten.{apart, rewritten_by, some_records}
-use Rattle.dv_mdbox.proofs.Stepping.{group_missed, none_taken}
+use Rattle.dv_mdbox.proofs.Stepping.{none_taken, takes_failed}
 use Rattle.dv_mdbox.proofs.Thinning.{quiet_err, quiet_stays, takes_none}
 use Rattle.dv_mdbox.proofs.storage.Storage.rewrite_file.Goals as goal
 
@@ -30,9 +32,10 @@ put_group-requires-clause-spelled g c =
 -- ---- nothing was written
 
 pub returns-in_err-records-clause-value : goal.returns-in_err-records-clause-value
-returns-in_err-records-clause-value g c = λ from next.
+returns-in_err-records-clause-value g c = λ from known next fits.
+    let old = c.args.self.now in
     let p = err_from_is_err_and c.from_residual.result c.from_residual.ensures.1 in
-    rw p.1 (inl (none_taken from c.args.self.now c.args.self.now refl refl refl refl refl))
+    rw p.1 (takes_failed known from c.args.file old old (none_taken known from old old refl refl refl refl refl) p.0 (subst IsFailure (sym p.2) tt))
 
 pub returns-in_err-records-clause-gives : goal.returns-in_err-records-clause-gives
 returns-in_err-records-clause-gives g c = λ tells messages bytes rest kept.
@@ -47,9 +50,12 @@ returns-in_err-records-clause-clock g c = λ tells. takes_none (g.C.Clock.sees.u
 -- ---- the group failed
 
 pub returns-in_err-put_group-clause-value : goal.returns-in_err-put_group-clause-value
-returns-in_err-put_group-clause-value g c = λ from next.
+returns-in_err-put_group-clause-value g c = λ from known next fits.
+    let need = c.requires in
+    let same = c.in_ok-records.ensures ∙ (λ i. purge_records (moved c.args.new 0 (need.kept i)) (need.gone i)) in
     let p = err_from_is_err_and c.from_residual-in_err-put_group.result c.from_residual-in_err-put_group.ensures.1 in
-    rw p.1 (inl (group_missed c.in_ok-records.records from c.args.self.now c.put_group.new.self _ c.in_err-put_group.ensures.value))
+    rw p.1
+    (file_missed known from c.args.file c.args.new c.args.self.now c.put_group.new.self fits (record { above = need.above; low = c.is_number.ensures }) c.in_ok-records.records same _ c.in_err-put_group.ensures.value c.in_err-put_group.ensures.room p.0 p.2)
 
 pub returns-in_err-put_group-clause-gives : goal.returns-in_err-put_group-clause-gives
 returns-in_err-put_group-clause-gives g c = λ tells messages bytes rest kept.
@@ -72,10 +78,16 @@ returns-in_err-put_group-clause-gives g c = λ tells messages bytes rest kept.
 -- ---- the group was written
 
 pub returns-clause-value : goal.returns-clause-value
-returns-clause-value g c = λ from next.
+returns-clause-value g c = λ from known next fits.
     let need = c.requires in
-    let same = c.in_ok-records.ensures ∙ (λ i. purge_records (moved c.args.new 0 (need.kept i)) (need.gone i)) in
-    file_taken from c.args.file c.args.new c.args.self.now c.put_group.new.self c.clear_files.new.self next need.short need.above c.is_number.ensures c.in_ok-records.records same _ c.in_ok-put_group.ensures.value c.clear_files.ensures.stays c.clear_files.result
+    let old = c.args.self.now in
+    let file = c.args.file in
+    let new = c.args.new in
+    let same = c.in_ok-records.ensures ∙ (λ i. purge_records (moved new 0 (need.kept i)) (need.gone i)) in
+    let some = subst (λ (ids : List ℕ). 1 ≤ length ids) need.gone need.some in
+    let rewrites = λ (after : Mailbox). rewrites_map c.rewrites_are.ensures old.chain.live.mailbox after file new c.has_valid_map.ensures some c.is_number.ensures need.short in
+    file_taken known from file new old c.put_group.new.self c.clear_files.new.self next fits (record { above = need.above; low = c.is_number.ensures }) c.in_ok-records.records same c.in_ok-put_group.ensures.room rewrites _ c.in_ok-put_group.ensures.value c.clear_files.ensures.stays c.clear_files.result
+    c.clear_files.ensures.err
 
 pub returns-clause-gives : goal.returns-clause-gives
 returns-clause-gives g c = λ tells messages bytes rest kept.

@@ -3,7 +3,7 @@ use Rattle.dv_model.specs.declared.types.Mailbox.{Mailbox}
 use Rattle.dv_mdbox.specs.Tails.{KeepsEnd}
 use Rattle.dv_mdbox.proofs.Marked.{paid_at}
 use Rattle.dv_mdbox.proofs.Stepping.{none_taken}
-use Rattle.dv_mdbox.proofs.Thinning.{outcome_failure, paid_then, quiet_settled, repaired_id}
+use Rattle.dv_mdbox.proofs.Thinning.{outcome_failure, paid_then, quiet_settled, repaired_id, repaired_mails}
 use Rattle.dv_mdbox.proofs.storage.Storage.settle.Goals as goal
 
 pub invariant_of-self : goal.invariant_of-self
@@ -16,7 +16,10 @@ invariant_of-self g c =
     )
 
 pub returns-clause-value : goal.returns-clause-value
-returns-clause-value g c = rw (← c.self.view_is) (none_taken 0 _ _ (λ i. (c.pay-paid.ensures.value.live i).mailbox) refl refl refl (repaired_id _ _ _ c.pay-paid.result c.pay-paid.ensures.value.chain))
+returns-clause-value g c = rw (← c.self.view_is) (λ known. none_taken known 0 _ _ (λ i. (c.pay-paid.ensures.value.live i).mailbox) refl refl refl (repaired_id _ _ _ c.pay-paid.result c.pay-paid.ensures.value.chain))
+
+pub returns-clause-files : goal.returns-clause-files
+returns-clause-files g c = rw (← c.self.view_is) (λ tells file. repaired_mails _ _ c.pay-paid.result _ _ (c.pay-paid.ensures.files tells) file)
 
 pub returns-clause-gives : goal.returns-clause-gives
 returns-clause-gives g c = rw (← c.self.view_is) (λ tells messages debt rest.

@@ -1,20 +1,22 @@
-use Rattle.std.proofs.Common.{◌≡◌, ◌∙◌, ◌≤◌, [], List, ℕ, length, Err, inl, inr, refl, sym, subst, arith}
+use Rattle.std.proofs.Common.{◌≡◌, ◌∙◌, ◌≤◌, [], List, ℕ, length, Some, Err, inr, refl, sym, subst, arith}
 use Rattle.std.proofs.lemmas.Result.{err_from_is_err_and}
 use Rattle.std.proofs.lemmas.Bool.{eqb-true}
 use Rattle.std.proofs.lemmas.Bool.Decides.{nat_tests}
 use Rattle.dv_maps.specs.declared.mapped.Mapped.{Mapped}
+use Rattle.dv_mdbox.specs.Answers.{IsFailure}
 use Rattle.dv_mdbox.specs.Purging.{kept_rows}
 use Rattle.dv_mdbox.proofs.Finished.{on_ok}
-use Rattle.dv_mdbox.proofs.Moved.{no_items, nothing_kept}
+use Rattle.dv_mdbox.proofs.Moved.{fit_empty, no_items, nothing_kept}
 use Rattle.dv_mdbox.proofs.Rewritten.{some_gone}
-use Rattle.dv_mdbox.proofs.Stepping.{none_taken}
+use Rattle.dv_mdbox.proofs.Stepping.{none_taken, takes_failed}
 use Rattle.dv_mdbox.proofs.Thinning.{quiet_stays, takes_none}
 use Rattle.dv_mdbox.proofs.storage.Storage.take_file.Goals as goal
 
 pub returns-in_err-rows-clause-value : goal.returns-in_err-rows-clause-value
-returns-in_err-rows-clause-value g c = λ from next.
+returns-in_err-rows-clause-value g c = λ from known next knows.
+    let old = c.args.self.now in
     let p = err_from_is_err_and c.from_residual.result c.from_residual.ensures.1 in
-    rw p.1 (inl (none_taken from c.args.self.now c.args.self.now refl refl refl refl refl))
+    rw p.1 (takes_failed known from c.args.file old old (none_taken known from old old refl refl refl refl refl) p.0 (subst IsFailure (sym p.2) tt))
 
 pub returns-in_err-rows-clause-gives : goal.returns-in_err-rows-clause-gives
 returns-in_err-rows-clause-gives g c = λ tells messages rest.
@@ -40,10 +42,18 @@ move_texts-requires-clause-some g c =
       subst (λ (ids : List ℕ). 1 ≤ length ids) (sym c.in_ok-rows.ensures.gone) (some_gone m c.requires.0 c.args.file c.requires.1),
     )
 
+pub returns-then-is_empty-clause-value : goal.returns-then-is_empty-clause-value
+returns-then-is_empty-clause-value g c = λ from known next knows.
+    let m = c.args.self.now.chain.live.mailbox in
+    let none : length c.as_slice.result.now ≡ 0 = eqb-true _ _ (sym c.is_empty.ensures ∙ c.if-is_empty.true) in
+    let empty : kept_rows m c.args.file ≡ [] = sym c.in_ok-rows.ensures.kept ∙ sym c.as_slice.ensures.value ∙ no_items c.as_slice.result.now none in
+    c.rewrite_file.ensures.value from known next (fit_empty known m c.args.file empty)
+
 pub returns-then-is_empty-clause-gives : goal.returns-then-is_empty-clause-gives
 returns-then-is_empty-clause-gives g c = λ tells messages rest.
+    let S = g.S.Shelf in
     let m = c.args.self.now.chain.live.mailbox in
     let none : length c.as_slice.result.now ≡ 0 = eqb-true _ _ (sym c.is_empty.ensures ∙ c.if-is_empty.true) in
     let empty : kept_rows m c.args.file ≡ [] = sym c.in_ok-rows.ensures.kept ∙ sym c.as_slice.ensures.value ∙ no_items c.as_slice.result.now none in
     let two = c.rewrite_file.ensures.gives tells messages [] rest empty in
-    (two.0, on_ok c.rewrite_file.result (λ away. inr away) two.1)
+    (two.0, on_ok c.rewrite_file.result (λ away. inr (fit_empty (Some (S.sees.files c.args.self.now.shelf)) m c.args.file empty, away)) two.1)

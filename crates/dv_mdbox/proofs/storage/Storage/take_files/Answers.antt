@@ -1,9 +1,12 @@
-use Rattle.std.proofs.Common.{◌≡◌, ℕ, ◌+◌, ◌++◌, ◌∷◌, [], Ok, Err, refl, sym, subst, arith}
+use Rattle.std.proofs.Common.{◌≡◌, ℕ, ◌+◌, ◌++◌, ◌∷◌, [], None, Some, Ok, Err, refl, sym, subst, arith}
 use Rattle.std.proofs.lemmas.Result.{err_from_is_err_and}
 use Rattle.dv_logfile.proofs.Settling.{settled_then}
 use Rattle.dv_chain.specs.Rest.{Nothing}
+use Rattle.dv_maps.specs.Texts.{Messages}
 use Rattle.dv_mdbox.specs.Purging.{IsClearedTo, PurgesTo}
 use Rattle.dv_mdbox.proofs.Clearing.{cleared_all, cleared_more, cleared_none}
+use Rattle.dv_mdbox.specs.States.{IsAtRest}
+use Rattle.dv_mdbox.proofs.Purged.{KnowsStill, knows_more, knows_next, knows_start}
 use Rattle.dv_mdbox.proofs.Stepping.{none_taken, taken_last, taken_more}
 use Rattle.dv_mdbox.proofs.Thinning.{quiet_err, quiet_stays, quiet_then, takes_both, takes_none}
 use Rattle.dv_mdbox.proofs.storage.Storage.take_files.Goals as goal
@@ -14,7 +17,7 @@ loop-file-init g c =
     let start = c.args.self.now in
     record {
       from = omega arith;
-      value = ([], none_taken 0 start start refl refl refl refl refl);
+      value = λ known knows. (([], none_taken known 0 start start refl refl refl refl refl), knows_start S.sees known start knows);
       gives = λ tells messages rest. quiet_stays S.sees messages c.thinnings_are.ensures start start refl refl refl (λ f left. g.met.S.Shelf.only_now start.shelf f tells left) rest (Ok tt);
       clears = λ tells messages rest named. cleared_none (S.sees.files start.shelf) start.chain.live.mailbox named;
       settled = λ tells stayed settled. settled;
@@ -39,10 +42,17 @@ loop-file-preserved g c =
     let same : c.from-from.result ≡ file = c.from-from.ensures in
     record {
       from = omega arith;
-      value = (inv.value.0 ++ file ∷ [], subst (λ (n : ℕ). PurgesTo 0 (inv.value.0 ++ file ∷ []) (n + 1) start new) (sym same) (taken_more inv.value.0 from file start mid new inv.value.1 (taken.value from next)));
+      value = λ known knows.
+          let was = inv.value known knows in
+          let files = was.0.0 in
+          let here = taken.value from known next (knows_next S.sees known start mid from file next knows was.1) in
+          let away = λ (tells : S.sees.tells) (messages : Messages) (rest : IsAtRest S.sees messages Nothing start). (taken.gives tells messages (inv.gives tells messages rest).ok).1 in (
+            (files ++ file ∷ [], subst (λ (n : ℕ). PurgesTo known 0 (files ++ file ∷ []) (n + 1) start new) (sym same) (taken_more known files from file start mid new was.0.1 here)),
+            subst (λ (n : ℕ). KnowsStill S.sees known start (n + 1) new) (sym same) (knows_more S.sees known start mid new from file next away knows was.1),
+          );
       gives = λ tells messages rest.
           let one = inv.gives tells messages rest in
-          quiet_then S.sees messages c.thinnings_are.ensures Nothing start mid new tt one inv.value.1.indexid (Ok tt) (taken.gives tells messages one.ok).0;
+          quiet_then S.sees messages c.thinnings_are.ensures Nothing start mid new tt one (inv.value None tt).0.1.indexid (Ok tt) (taken.gives tells messages one.ok).0;
       clears = λ tells messages rest named.
           let one = inv.gives tells messages rest in
           subst (λ (n : ℕ). IsClearedTo (n + 1) (S.sees.files new.shelf) new.chain.live.mailbox) (sym same)
@@ -55,9 +65,15 @@ loop-file-preserved g c =
 -- ---- the last file was taken
 
 pub returns-clause-value : goal.returns-clause-value
-returns-clause-value g c =
-    let inv = c.loop-file.invariant in
-    (inv.value.0, c.loop-file.from, inv.value.1, c.in_default.ensures)
+returns-clause-value g c = λ known knows.
+    let was = c.loop-file.invariant.value known knows in
+    (was.0.0, c.loop-file.from, was.0.1, c.in_default.ensures)
+
+pub returns-clause-kept : goal.returns-clause-kept
+returns-clause-kept g c = λ tells messages rest.
+    let S = g.S.Shelf in
+    let start = c.args.self.now in
+    (c.loop-file.invariant.value (Some (S.sees.files start.shelf)) (tells, (messages, rest), λ f named. refl)).1.same
 
 pub returns-clause-gives : goal.returns-clause-gives
 returns-clause-gives g c = c.loop-file.invariant.gives
@@ -68,10 +84,16 @@ returns-clause-clears g c = λ tells messages rest named. cleared_all c.loop-fil
 -- ---- or one failed
 
 pub returns-in_err-take_file-clause-value : goal.returns-in_err-take_file-clause-value
-returns-in_err-take_file-clause-value g c =
-    let inv = c.loop-file.invariant in
+returns-in_err-take_file-clause-value g c = λ known knows.
+    let start = c.args.self.now in
+    let mid = c.loop-file.self in
+    let from = c.loop-file.from in
+    let file = c.in-Some.file in
+    let next = c.in-Some.ensures in
+    let was = c.loop-file.invariant.value known knows in
+    let here = c.in_err-take_file.ensures.value from known next (knows_next g.S.Shelf.sees known start mid from file next knows was.1) in
     let p = err_from_is_err_and c.from_residual.result c.from_residual.ensures.1 in
-    rw p.1 (taken_last inv.value.0 c.loop-file.from c.in-Some.file c.args.self.now c.loop-file.self c.take_file.new.self inv.value.1 (c.in_err-take_file.ensures.value c.loop-file.from c.in-Some.ensures))
+    rw p.1 (taken_last known was.0.0 from file start mid c.take_file.new.self next was.0.1 _ p.0 p.2 here)
 
 pub returns-in_err-take_file-clause-gives : goal.returns-in_err-take_file-clause-gives
 returns-in_err-take_file-clause-gives g c = λ tells messages rest.
@@ -81,7 +103,7 @@ returns-in_err-take_file-clause-gives g c = λ tells messages rest.
     let p = err_from_is_err_and c.from_residual.result c.from_residual.ensures.1 in
     rw p.1
     (quiet_err S.sees messages Nothing c.args.self.now c.take_file.new.self _ p.0
-    (quiet_then S.sees messages c.thinnings_are.ensures Nothing c.args.self.now c.loop-file.self c.take_file.new.self tt one inv.value.1.indexid (Err _) (c.in_err-take_file.ensures.gives tells messages one.ok).0))
+    (quiet_then S.sees messages c.thinnings_are.ensures Nothing c.args.self.now c.loop-file.self c.take_file.new.self tt one (inv.value None tt).0.1.indexid (Err _) (c.in_err-take_file.ensures.gives tells messages one.ok).0))
 
 pub returns-in_err-take_file-clause-settled : goal.returns-in_err-take_file-clause-settled
 returns-in_err-take_file-clause-settled g c = λ tells.

@@ -1,5 +1,0 @@
-use Rattle.dv_live.specs.Laws.{IsOf}
-use Rattle.dv_bench.proofs.kept.write_all.Given as goal
-
-abbrev pub invariant-loop-record : goal.invariant-loop-record
-invariant-loop-record l = IsOf l.saved l.live.mailbox

@@ -1,0 +1,11 @@
+pub mod Coming
+pub mod Cuts
+pub mod Found
+pub mod Gone
+pub mod Items
+pub mod Leaving
+pub mod Pieces
+pub mod Seen
+pub mod Sharing
+pub mod Sides
+pub mod Starts

@@ -1,5 +1,0 @@
-use Rattle.dv_live.specs.Laws.{IsOf}
-use Rattle.dv_tests_live.proofs.generated.agrees_throughout.Given as goal
-
-abbrev pub invariant-loop : goal.invariant-loop
-invariant-loop l = IsOf l.watcher.saved l.watcher.live.mailbox
