@@ -4,3 +4,4 @@ pub mod Turning
 pub mod Committed
 pub mod Telling
 pub mod Selected
+pub mod Fresh

@@ -20,6 +20,3 @@ pub use cache_file::CacheFile;
 pub use checking::cache_of_messages;
 pub use found::{BodyFound, FactsFound, FieldFound, SizesFound};
 pub use singles::body;
-
-#[cfg(test)]
-mod tests;

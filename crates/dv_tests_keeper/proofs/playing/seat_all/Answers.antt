@@ -2,7 +2,7 @@ use Rattle.std.proofs.Common.{◌≡◌, ◌∙◌, Option, Some, false, subst}
 use Rattle.std.specs.Prelude.{IfSome}
 use Rattle.std.proofs.lemmas.List.Elements.{All-pop}
 use Rattle.dv_member.specs.Members.{Member}
-use Rattle.dv_tests_keeper.proofs.Beginning.{new_are_fresh}
+use Rattle.dv_keeper.proofs.Fresh.{new_are_fresh}
 use Rattle.dv_tests_keeper.proofs.playing.seat_all.Goals as goal
 
 abbrev is_fresh : Member → Type 0

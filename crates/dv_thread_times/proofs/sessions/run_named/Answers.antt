@@ -1,4 +1,4 @@
-use Rattle.dv_thread_times.proofs.Fresh.{new_are_fresh}
+use Rattle.dv_keeper.proofs.Fresh.{new_are_fresh}
 use Rattle.dv_thread_times.proofs.sessions.run_named.Goals as goal
 
 pub run_sessions-ran-requires-clause-fresh : goal.run_sessions-ran-requires-clause-fresh
