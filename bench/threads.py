@@ -10,7 +10,9 @@ read than to answer, and one thread reads it.) Beside that as many threads of pl
 turn, which tells what the machine's processors give. A thousandth of COUNT APPENDs is parted so too, on the disk of
 DIRECTORY (the system's place for temporary files) and in memory. Each number is the median of nine turns; the last
 columns are how much faster it was than with one session, and than the arithmetic made possible. Peak memory is told of the
-readers.
+readers. Beside the readers as many processes of Dovecot's imap show the same flags over one mailbox of as many messages,
+each with a script piped from a file, what they answer thrown away; where that isn't installed, or this isn't run as root,
+it is left out.
 """
 
 import os
@@ -20,6 +22,8 @@ import sys
 import tempfile
 import time
 from pathlib import Path
+
+import dovecot
 
 TURNS, ROWS, SESSIONS = 9, 10_000, (1, 2, 4, 8)
 WORK = r"""
@@ -70,6 +74,36 @@ def readers(program, folder, sessions, count):
     return seconds - without, memory
 
 
+class Dovecot:
+    """A mailbox of Dovecot's, and what as many imap processes over it take to show as many flags as sessions do."""
+
+    def __init__(self):
+        self.place = dovecot.Place("/dev/shm")
+        imap = dovecot.Imap(self.place)
+        for _ in range(ROWS):
+            imap.command(b"a APPEND INBOX {1+}\r\nx\r\n")
+        imap.end()
+
+    def took(self, processes, script):
+        with tempfile.NamedTemporaryFile() as text:
+            text.write(b"s SELECT INBOX\r\n" + script + b"l LOGOUT\r\n")
+            text.flush()
+            start, made = time.perf_counter(), []
+            for _ in range(processes):
+                pipe = subprocess.Popen(["cat", text.name], stdout=subprocess.PIPE)
+                words, quiet = [dovecot.IMAP, "-c", self.place.conf], subprocess.DEVNULL
+                made.append(subprocess.Popen(words, stdin=pipe.stdout, stdout=quiet, stderr=quiet, **self.place.as_user))
+                made.append(pipe)
+                pipe.stdout.close()
+            if any([process.wait() for process in made]):
+                sys.exit("Dovecot's imap failed")
+            return time.perf_counter() - start
+
+    def readers(self, processes, count):
+        fetches = b"f FETCH 101:200 (FLAGS)\r\n" * (count // 100 // processes)
+        return self.took(processes, fetches) - self.took(processes, b"")
+
+
 def writers(program, place, sessions, count):
     with tempfile.TemporaryDirectory(dir=place) as folder:
         _, whole = script_of(sessions, b"APPEND () {0}\n\n", count)
@@ -97,17 +131,23 @@ def main():
         subprocess.run(["gcc", "-O1", "-pthread", "-o", place / "work", place / "work.c"], check=True)
         box = place / "box"
         answered(program, box, b"a SELECT\n" + b"a APPEND () {0}\n\n" * ROWS, "run")
-        plain, read, written, kept, memory = ({n: [] for n in SESSIONS} for _ in range(5))
+        plain, read, written, kept, memory, theirs = ({n: [] for n in SESSIONS} for _ in range(6))
+        other = Dovecot() if dovecot.is_there() else None
         for _ in range(TURNS):
             for n in SESSIONS:
                 plain[n].append(timed([place / "work", str(n)])[0])
                 seconds, most = readers(program, box, n, count)
                 read[n].append(seconds)
                 memory[n].append(most)
+                if other:
+                    theirs[n].append(other.readers(n, count))
                 written[n].append(writers(program, place, n, count // 1000))
                 kept[n].append(writers(program, disk, n, count // 1000))
         table("FETCH", read, count, plain)
         print("peak memory in MB:", ", ".join(f"{n}: {statistics.median(memory[n]):.0f}" for n in SESSIONS))
+        if other:
+            table("Dovecot's FETCH", theirs, count, plain)
+            other.place.remove()
         table("APPEND in memory", written, count // 1000, plain)
         table("APPEND on the disk", kept, count // 1000, plain)
 
