@@ -17,11 +17,10 @@ is told beside it:
 - From an APPEND to when a session that does nothing but look was told of its message, at 1,000 APPENDs a second. The
   message is published between the beginning of the APPEND's call and its end, and the time since both is told.
 - The largest memory of the program, by sessions, by rows of the mailbox and by rows in one command's replies, is told, of
-  one run each.
+  one run each. It needs GNU time (Debian's package `time`), since a child of this script begins with the script's own size.
 """
 
 import bisect
-import os
 import re
 import shutil
 import statistics
@@ -32,6 +31,7 @@ from pathlib import Path
 
 from threads import SESSIONS, WORK, timed
 
+TIME = "/usr/bin/time"
 ROWS, LINES = 10_000, 100
 FETCH, FETCH_ALL, NOOP, APPEND = b"FETCH 500 (FLAGS)", b"FETCH 1:* (FLAGS)", b"NOOP", b"APPEND () {0}\n"
 HOUR = 3_600_000
@@ -41,34 +41,39 @@ ROUND = re.compile(rb"session (\d+) from (\d+) to (\d+) ns")
 
 class Run:
     """What the program says: the moments in nanoseconds at which each session's rounds began and ended, and how many
-    groups were written; and the most memory that it had, in MB."""
+    groups were written."""
 
-    def __init__(self, sessions, said, rounds, memory):
+    def __init__(self, sessions, said, rounds):
         self.rounds = [[] for _ in range(sessions)]
         for line in rounds.splitlines():
             number, began, ended = ROUND.fullmatch(line).groups()
             self.rounds[int(number) - 1].append((int(began), int(ended)))
         self.groups = int(said.split()[0])
-        self.memory = memory
 
     def seconds(self, sessions):
         """From when the first of them began to when the last of them ended."""
         return (max(self.rounds[n][-1][1] for n in sessions) - min(self.rounds[n][0][0] for n in sessions)) / 1e9
 
 
-def run(program, folder, sessions, *words):
+def run(program, folder, sessions, *words, before=()):
     """The program over a folder, with these lines of each session."""
     with tempfile.TemporaryFile() as script, tempfile.TemporaryFile() as out, tempfile.TemporaryFile() as err:
         script.writelines(b"s%d %s\n" % (n, line) for n, lines in enumerate(sessions) for line in lines)
         script.seek(0)
-        process = subprocess.Popen([program, folder, *map(str, words)], stdin=script, stdout=out, stderr=err)
-        _, status, used = os.wait4(process.pid, 0)
+        done = subprocess.run([*before, program, folder, *map(str, words)], stdin=script, stdout=out, stderr=err, check=False)
         out.seek(0)
         err.seek(0)
         said = out.read()
-        if status:
-            sys.exit(f"{words}: status {status}: {said!r}")
-        return Run(len(sessions), said, err.read(), used.ru_maxrss / 1024)
+        if done.returncode:
+            sys.exit(f"{words}: status {done.returncode}: {said!r}")
+        return Run(len(sessions), said, err.read())
+
+
+def peak(program, folder, sessions):
+    """The most memory that the program had, in MB."""
+    with tempfile.NamedTemporaryFile() as told:
+        run(program, folder, sessions, "answer", 10, HOUR, 0, before=[TIME, "-f", "%M", "-o", told.name])
+        return int(told.read()) / 1024
 
 
 def answered(program, folder, sessions, count):
@@ -190,7 +195,7 @@ def tell_memory(program, place):
     for rows in MAILBOXES:
         box = made(program, place, rows)
         for line, replies in ((FETCH, 1), (FETCH_ALL, rows)):
-            peaks = (run(program, box, [[line]] * n, "answer", 10, HOUR, 0).memory for n in SESSIONS)
+            peaks = (peak(program, box, [[line]] * n) for n in SESSIONS)
             print(f"{rows:>8} {replies:>8} {'':>17} " + " ".join(f"{peak:>6.1f}" for peak in peaks))
         shutil.rmtree(box)
 
