@@ -1,14 +1,13 @@
 -- Rows that come to blocks.
-use Rattle.std.proofs.Common.{◌≡◌, ◌∙◌, ℕ, zero, suc, ◌+◌, ◌-◌, ◌^◌, ◌<◌, ◌≤◌, List, [], ◌∷◌, ◌++◌, length, get_or, map, take, ap, sym, refl, subst, arith}
+use Rattle.std.proofs.Common.{◌≡◌, ◌∙◌, ℕ, zero, suc, ◌+◌, ◌-◌, ◌^◌, ◌<◌, ◌≤◌, List, [], ◌∷◌, ◌++◌, length, get_or, map, ap, sym, refl, subst, arith}
 use Rattle.std.specs.Prelude.{All}
 use Rattle.std.specs.List.Sorted.{IsStrictlyIncreasing}
-use Rattle.std.proofs.lemmas.List.{append-nil, append_assoc, get_or_append_left, length-append, length-map, map-append, map_push}
+use Rattle.std.proofs.lemmas.List.{append-nil, append_assoc, length-append, length-map, map_push}
 use Rattle.std.proofs.lemmas.List.Elements.{All-map, All-push}
 use Rattle.dv_model.specs.Effects.{with_item}
-use Rattle.dv_validity.proofs.Items.{map_kept}
 use Rattle.dv_validity.proofs.Rows.{rising_push}
-use Rattle.dv_blocks.specs.Cells.{Cell, Cells}
-use Rattle.dv_blocks.specs.Chunks.{AreChunks, AreRising, IsChunk, cell_of, cells_of, starts_from, uids_of, with_rows}
+use Rattle.dv_blocks.specs.Cells.{Cell}
+use Rattle.dv_blocks.specs.Chunks.{AreChunks, AreCounted, AreRising, IsChunk, cell_of, cells_of, starts_from, uids_of, with_rows}
 use Rattle.dv_blocks.specs.declared.chunk.Chunk.{Chunk}
 use Rattle.dv_blocks.specs.declared.chunk.Entry.{Entry}
 use Rattle.dv_blocks.proofs.Items.{all_item}
@@ -65,7 +64,7 @@ cells_last row (c ∷ (d ∷ cs)) zero e = absurd (omega arith)
 cells_last row (c ∷ (d ∷ cs)) (suc i) e =
     ap (λ l. c.block.cells ++ l) (cells_last row (d ∷ cs) i (omega arith)) ∙ sym (append_assoc c.block.cells (cells_of (d ∷ cs)) (row ∷ []))
 
-starts_last : (f : Chunk → Chunk) (n : ℕ) (cs : List Chunk) (i : ℕ) → i + 1 ≡ length cs → starts_from n (with_item i f cs) ≡ starts_from n cs
+pub starts_last : (f : Chunk → Chunk) (n : ℕ) (cs : List Chunk) (i : ℕ) → i + 1 ≡ length cs → starts_from n (with_item i f cs) ≡ starts_from n cs
 starts_last f n [] i e = refl
 starts_last f n (c ∷ []) zero e = refl
 starts_last f n (c ∷ []) (suc i) e = absurd (omega arith)
@@ -85,13 +84,12 @@ are_last w row cs i d e above low are =
         filled = let long = length-append c.block.cells (row ∷ []) in omega (arith, long, one.filled);
         first = one.first ∙ first_stays c.block.cells row one.filled;
       }) are.each;
-      starts = map_kept (λ (c : Chunk). c.start) f (λ c. refl) i cs ∙ are.starts ∙ sym (starts_last f 0 cs i e);
       rising = subst AreRising (ap (map (λ (c : Cell). c.uid)) (sym (cells_last row cs i e))) (rising_more (cells_of cs) row above low are.rising);
     }
 
 -- ---- in a block of its own
 
-starts_push : (n : ℕ) (cs : List Chunk) (c : Chunk) → starts_from n (cs ++ c ∷ []) ≡ starts_from n cs ++ (n + length (cells_of cs)) ∷ []
+pub starts_push : (n : ℕ) (cs : List Chunk) (c : Chunk) → starts_from n (cs ++ c ∷ []) ≡ starts_from n cs ++ (n + length (cells_of cs)) ∷ []
 starts_push n [] c = let none : n ≡ n + 0 = omega arith in ap (λ m. m ∷ []) none
 starts_push n (b ∷ cs) c =
     let sum = length-append b.block.cells (cells_of cs) in
@@ -101,21 +99,25 @@ starts_push n (b ∷ cs) c =
 pub cells_new : (cs : List Chunk) (c : Chunk) (row : Cell) → c.block.cells ≡ row ∷ [] → cells_of (cs ++ c ∷ []) ≡ cells_of cs ++ row ∷ []
 cells_new cs c row e = cells_append cs (c ∷ []) ∙ ap (λ l. cells_of cs ++ l) (append-nil c.block.cells ∙ e)
 
-pub are_new : (w : ℕ) (cs : List Chunk) (c : Chunk) (row : Cell) → c.block.cells ≡ row ∷ [] → c.block.width ≡ w → c.start ≡ length (cells_of cs) → c.first ≡ row.uid → All (λ x. x.uid < row.uid) (cells_of cs) → row.uid < 2 ^ 32 - 1 → AreChunks w cs → AreChunks w (cs ++ c ∷ [])
-are_new w cs c row e wide start first above low are = record {
+pub are_new : (w : ℕ) (cs : List Chunk) (c : Chunk) (row : Cell) → c.block.cells ≡ row ∷ [] → c.block.width ≡ w → c.first ≡ row.uid → All (λ x. x.uid < row.uid) (cells_of cs) → row.uid < 2 ^ 32 - 1 → AreChunks w cs → AreChunks w (cs ++ c ∷ [])
+are_new w cs c row e wide first above low are = record {
   each = All-push (IsChunk w) cs c are.each (record {
     wide = wide;
     filled = let one = ap length e in omega (arith, one);
     first = first ∙ ap (λ l. get_or (map (λ (x : Cell). x.uid) l) 0 0) (sym e);
   });
-  starts = let zero_sum : length (cells_of cs) ≡ 0 + length (cells_of cs) = omega arith in
-      map_push (λ (x : Chunk). x.start) cs c ∙ ap (λ l. l ++ c.start ∷ []) are.starts ∙ ap (λ m. starts_from 0 cs ++ m ∷ []) (start ∙ zero_sum) ∙ sym (starts_push 0 cs c);
   rising = subst AreRising (ap (map (λ (x : Cell). x.uid)) (sym (cells_new cs c row e))) (rising_more (cells_of cs) row above low are.rising);
 }
 
+-- its start is put behind the others
+pub counted_new : (ns : List ℕ) (cs : List Chunk) (c : Chunk) (n : ℕ) → AreCounted ns cs → n ≡ length (cells_of cs) → AreCounted (ns ++ n ∷ []) (cs ++ c ∷ [])
+counted_new ns cs c n e h =
+    let sum : n ≡ 0 + length (cells_of cs) = omega arith in
+    ap (λ l. l ++ n ∷ []) e ∙ ap (λ m. starts_from 0 cs ++ m ∷ []) sum ∙ sym (starts_push 0 cs c)
+
 abbrev pub no_chunk : Chunk
-no_chunk = record { start = 0; first = 0; block = record { width = 0; cells = [] } }
+no_chunk = record { first = 0; block = record { width = 0; cells = [] } }
 
 -- a block of one row
-abbrev pub chunk_of : ℕ → Entry → List ℕ → Chunk
-chunk_of start row part = record { start = start; first = row.uid; block = record { width = length part; cells = cell_of row part ∷ [] } }
+abbrev pub chunk_of : Entry → List ℕ → Chunk
+chunk_of row part = record { first = row.uid; block = record { width = length part; cells = cell_of row part ∷ [] } }

@@ -1,5 +1,5 @@
 -- Parts that are cut from bytes.
-use Rattle.std.proofs.Common.{◌≡◌, ◌∙◌, ℕ, zero, suc, ◌+◌, ◌<◌, min, List, [], ◌∷◌, length, get_or, take, drop, ap, sym, refl, subst, arith}
+use Rattle.std.proofs.Common.{◌≡◌, ◌∙◌, ℕ, suc, ◌+◌, ◌<◌, min, List, [], ◌∷◌, length, get_or, take, drop, ap, sym, refl, arith}
 use Rattle.std.specs.Prelude.{slice_get, Some}
 use Rattle.std.proofs.lemmas.List.{drop-drop, drop_min, drop_more, get_or-drop, take_min}
 use Rattle.std.proofs.lemmas.Option.{slice_get-get_or}

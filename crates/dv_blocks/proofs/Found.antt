@@ -1,16 +1,16 @@
 -- The place of a UID among rising ones.
-use Rattle.std.proofs.Common.{◌≡◌, ◌∙◌, ◌⊎◌, inl, inr, ℕ, zero, suc, ◌+◌, ◌-◌, ◌<◌, ◌≤◌, true, false, leb, ltb, List, [], ◌∷◌, ◌++◌, length, get_or, map, take, drop, ap, sym, refl, subst, arith}
+use Rattle.std.proofs.Common.{◌≡◌, ◌∙◌, ◌⊎◌, inl, inr, ℕ, zero, suc, ◌+◌, ◌-◌, ◌<◌, ◌≤◌, true, false, leb, List, [], ◌∷◌, length, get_or, map, take, ap, sym, refl, subst, arith}
 use Rattle.std.specs.Prelude.{All}
 use Rattle.std.specs.List.Sorted.{IsNonDecreasingBy, IsPartitionPoint, IsStrictlyIncreasing}
 use Rattle.std.proofs.lemmas.Bool.{cases_lt, le-ltb, leb-false, leb-true, lt-ltb, ltb-false, ltb-true}
 use Rattle.std.proofs.lemmas.List.{get_or_default, get_or-map, get_or_past, get_or-take, length-map, length-take-le}
 use Rattle.std.proofs.lemmas.List.Elements.{All-get_or}
 use Rattle.std.proofs.lemmas.List.Kept.{AllPairs-from_increasing}
-use Rattle.dv_blocks.specs.Cells.{Cell, Cells}
-use Rattle.dv_blocks.specs.Chunks.{AreChunks, AreCounted, IsChunk, IsEntry, IsIn, IsPlace, cell_of, cells_of, uids_of}
+use Rattle.dv_blocks.specs.Cells.{Cell}
+use Rattle.dv_blocks.specs.Chunks.{AreChunks, IsChunk, IsEntry, IsIn, IsPlace, cell_of, cells_of, uids_of}
 use Rattle.dv_blocks.specs.declared.chunk.Entry.{Entry}
 use Rattle.dv_blocks.specs.declared.chunk.Chunk.{Chunk}
-use Rattle.dv_blocks.proofs.Starts.{cells_append, grows, next_start, row_in, start_of, whole}
+use Rattle.dv_blocks.proofs.Starts.{grows, next_start, row_in, whole}
 
 -- later UIDs are higher
 pub far : (us : List ℕ) → IsStrictlyIncreasing us → (i j : ℕ) → i < j → j < length us → get_or us i 0 < get_or us j 0

@@ -1,10 +1,11 @@
 -- Rows that leave, and their sets of keywords.
-use Rattle.std.proofs.Common.{◌≡◌, ◌∙◌, ◌⊎◌, inl, inr, ℕ, zero, suc, ◌+◌, ◌-◌, ◌<◌, ◌≤◌, List, [], ◌∷◌, ◌++◌, length, get_or, map, take, drop, ap, sym, refl, subst, arith}
+use Rattle.std.proofs.Common.{◌≡◌, ◌∙◌, ◌⊎◌, inl, inr, ℕ, zero, suc, ◌+◌, ◌<◌, ◌≤◌, List, [], ◌∷◌, ◌++◌, length, get_or, map, take, drop, ap, sym, refl, subst, arith}
 use Rattle.std.specs.List.{between, remove_range}
 use Rattle.std.proofs.lemmas.List.{drop_more}
 use Rattle.std.proofs.lemmas.List.Edits.{between_more, between_none, split_between}
 use Rattle.dv_blocks.specs.Cells.{Cell}
 use Rattle.dv_blocks.specs.Shared.{AreLess, AreShared, IsReleased, how_many, one_at, row_of, set_of, uses_of}
+use Rattle.dv_blocks.specs.declared.chunk.Pending.{Pending}
 use Rattle.dv_blocks.specs.declared.sets.Held.{Held}
 use Rattle.dv_blocks.proofs.Seen.{rows_same, used}
 use Rattle.dv_blocks.proofs.Sharing.{many_append, one_here}
@@ -34,7 +35,7 @@ more_less s t u cells from at d h k less is =
     subst (AreLess s u) (sym (between_more cells from at d h k)) (one_less s t u (between from at cells) (get_or cells at d) less is)
 
 -- the set of the next one can be released
-pub next_leaves : (s t : List Held) (cells : List Cell) (from at : ℕ) (d : Cell) → from ≤ at → at < length cells → AreShared s cells → AreLess s t (between from at cells) → ((get_or cells at d).words ≡ 0) ⊎ (0 < uses_of t (get_or cells at d).words)
+pub next_leaves : {hs : List Pending} → (s t : List Held) (cells : List Cell) (from at : ℕ) (d : Cell) → from ≤ at → at < length cells → AreShared hs s cells → AreLess s t (between from at cells) → ((get_or cells at d).words ≡ 0) ⊎ (0 < uses_of t (get_or cells at d).words)
 next_leaves s t cells from at d h k are less = by_number (get_or cells at d).words refl
   where
     by_number : (n : ℕ) → (get_or cells at d).words ≡ n → (n ≡ 0) ⊎ (0 < uses_of t n)
@@ -57,17 +58,17 @@ many_left n i j cells h =
     let c = many_append n (take i cells) (drop j cells) in
     omega arith
 
-pub left_shared : (s t : List Held) (cells : List Cell) (i j : ℕ) → i ≤ j → AreShared s cells → AreLess s t (between i j cells) → AreShared t (remove_range cells i j)
+pub left_shared : {hs : List Pending} → (s t : List Held) (cells : List Cell) (i j : ℕ) → i ≤ j → AreShared hs s cells → AreLess s t (between i j cells) → AreShared hs t (remove_range cells i j)
 left_shared s t cells i j h are less = record {
   uses = λ k. let a = are.uses k in let b = less.uses k in let c = many_left (suc k) i j cells h in omega arith;
   freed = less.freed are.freed;
 }
 
-left_used : (s t : List Held) (cells : List Cell) (i j : ℕ) → i ≤ j → AreShared s cells → AreLess s t (between i j cells) → (k : ℕ) → 0 < how_many k (remove_range cells i j) → set_of t k ≡ set_of s k
+left_used : {hs : List Pending} → (s t : List Held) (cells : List Cell) (i j : ℕ) → i ≤ j → AreShared hs s cells → AreLess s t (between i j cells) → (k : ℕ) → 0 < how_many k (remove_range cells i j) → set_of t k ≡ set_of s k
 left_used s t cells i j h are less zero some = refl
 left_used s t cells i j h are less (suc k) some = less.others (suc k) (used t (remove_range cells i j) k (left_shared s t cells i j h are less) some)
 
-pub left_rows : (s t : List Held) (sizes : List ℕ) (cells : List Cell) (i j : ℕ) → i ≤ j → AreShared s cells → AreLess s t (between i j cells) → map (row_of t sizes) (remove_range cells i j) ≡ remove_range (map (row_of s sizes) cells) i j
+pub left_rows : {hs : List Pending} → (s t : List Held) (sizes : List ℕ) (cells : List Cell) (i j : ℕ) → i ≤ j → AreShared hs s cells → AreLess s t (between i j cells) → map (row_of t sizes) (remove_range cells i j) ≡ remove_range (map (row_of s sizes) cells) i j
 left_rows s t sizes cells i j h are less =
     rows_same s t sizes (remove_range cells i j) (left_used s t cells i j h are less)
     ∙ sym (map_removed (row_of s sizes) cells (map (row_of s sizes) cells) i j refl)

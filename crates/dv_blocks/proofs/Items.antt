@@ -1,12 +1,12 @@
 -- One row of a block changes.
 use Rattle.std.proofs.Common.{◌≡◌, ◌∙◌, ℕ, zero, suc, ◌+◌, ◌<◌, List, [], ◌∷◌, ◌++◌, length, get_or, map, set, take, ap, sym, refl, subst, arith}
 use Rattle.std.specs.Prelude.{All}
-use Rattle.std.proofs.lemmas.List.{append_assoc, length-append}
+use Rattle.std.proofs.lemmas.List.{length-append}
 use Rattle.std.proofs.lemmas.List.Elements.{All-get_or, All-set}
 use Rattle.dv_model.specs.Effects.{with_item}
 use Rattle.dv_validity.proofs.Items.{map_kept}
 use Rattle.dv_blocks.specs.Cells.{Cell, Cells}
-use Rattle.dv_blocks.specs.Chunks.{AreChunks, AreRising, IsChunk, IsIn, cells_of, starts_from, uids_of, with_rows}
+use Rattle.dv_blocks.specs.Chunks.{AreChunks, AreCounted, AreRising, IsChunk, IsIn, cells_of, starts_from, with_rows}
 use Rattle.dv_blocks.specs.declared.chunk.Chunk.{Chunk}
 
 pub item_is_set : {X : Type 0} (f : X → X) (xs : List X) (k : ℕ) (d : X) → k < length xs → with_item k f xs ≡ set xs k (f (get_or xs k d))
@@ -60,13 +60,16 @@ are_item w g cs at i o d same is are =
         filled = let long = item_long g o c.block.cells in omega (arith, long, one.filled);
         first = one.first ∙ ap (λ l. get_or l 0 0) (sym (map_kept (λ (x : Cell). x.uid) g same o c.block.cells));
       }) are.each;
-      starts = map_kept (λ (c : Chunk). c.start) f (λ c. refl) i cs ∙ are.starts ∙ sym (starts_item f (λ c. item_long g o c.block.cells) 0 i cs);
       rising = subst AreRising (sym (ap (map (λ (x : Cell). x.uid)) cells ∙ map_kept (λ (x : Cell). x.uid) g same at (cells_of cs))) are.rising;
     }
 
+-- and are counted as before
+pub counted_item : (ns : List ℕ) (g : Cell → Cell) (cs : List Chunk) (i o : ℕ) → AreCounted ns cs → AreCounted ns (with_item i (with_rows (with_item o g)) cs)
+counted_item ns g cs i o e = e ∙ sym (starts_item (with_rows (with_item o g)) (λ c. item_long g o c.block.cells) 0 i cs)
+
 -- a block with these rows in its place
 abbrev pub with_block : Cells → Chunk → Chunk
-with_block b c = record { start = c.start; first = c.first; block = b }
+with_block b c = record { first = c.first; block = b }
 
 -- the blocks, of which one has a changed row
 pub changed_list : (g : Cell → Cell) (cs : List Chunk) (i o : ℕ) (x : Chunk) (b : Cells) → i < length cs → b ≡ record { width = (get_or cs i x).block.width; cells = with_item o g (get_or cs i x).block.cells } → set cs i (with_block b (get_or cs i x)) ≡ with_item i (with_rows (with_item o g)) cs

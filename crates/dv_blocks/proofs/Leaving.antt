@@ -1,15 +1,14 @@
 -- Rows that leave blocks.
-use Rattle.std.proofs.Common.{◌≡◌, ◌∙◌, ◌⊎◌, inl, inr, ℕ, zero, suc, ◌+◌, ◌-◌, ◌^◌, ◌<◌, ◌≤◌, min, Bool, true, false, cond, ltb, List, [], ◌∷◌, ◌++◌, length, get_or, map, set, take, drop, ap, sym, refl, subst, arith}
+use Rattle.std.proofs.Common.{◌≡◌, ◌∙◌, ◌⊎◌, inl, inr, ℕ, zero, suc, ◌+◌, ◌-◌, ◌^◌, ◌<◌, ◌≤◌, min, Bool, true, false, List, [], ◌∷◌, ◌++◌, length, get_or, map, set, take, drop, ap, sym, refl, subst, arith}
 use Rattle.std.specs.Prelude.{All, filter}
 use Rattle.std.specs.List.{remove_range}
 use Rattle.std.specs.List.Sorted.{IsStrictlyIncreasing}
 use Rattle.std.proofs.lemmas.Bool.{cases_lt, cond-false, cond-true, ltb-false, ltb-true}
-use Rattle.std.proofs.lemmas.List.{append-nil, append_assoc, drop_all, drop_min, drop_more, get_or-append_right, get_or_append_left, get_or_at, get_or-drop, get_or-take, length-append, length-drop, length-take-le, nil_from_length, set_at, take_min, take_more}
+use Rattle.std.proofs.lemmas.List.{append-nil, append_assoc, drop_all, drop_min, drop_more, get_or-append_right, get_or_append_left, get_or_at, get_or-drop, get_or-take, length-append, length-drop, length-take-le, nil_from_length, set_at, take_all, take-append-drop, take_min, take_more}
 use Rattle.std.proofs.lemmas.List.Elements.{All-append, All-cons, All-drop, All-filter, All-head, All-nil, All-tail, All-take, All-weaker, filter_passes}
-use Rattle.dv_blocks.specs.Cells.{Cell, Cells}
-use Rattle.dv_blocks.specs.Chunks.{AreChunks, AreRising, IsChunk, cells_of, counted_from, has_rows, left_from, noted, starts_from, uids_of, with_rows}
+use Rattle.dv_blocks.specs.Cells.{Cell}
+use Rattle.dv_blocks.specs.Chunks.{AreBlocks, AreChunks, AreRising, IsChunk, AreCounted, cells_of, has_rows, left_from, left_in, lowered, noted, starts_from, uids_of}
 use Rattle.dv_blocks.specs.declared.chunk.Chunk.{Chunk}
-use Rattle.dv_blocks.proofs.Coming.{few}
 use Rattle.dv_blocks.proofs.Found.{far}
 use Rattle.dv_blocks.proofs.Sides.{map_removed}
 
@@ -51,6 +50,10 @@ capped xs i j = ap (λ l. l ++ drop (min j (length xs)) xs) (take_min i xs) ∙ 
 
 -- ---- rows leave their blocks
 
+-- as far as there are items
+pub up_to : {X : Type 0} (xs : List X) (i j k : ℕ) → i ≤ k → k ≡ min j (length xs) → remove_range xs i k ≡ remove_range xs i j
+up_to xs i j k h e = ap (λ m. take i xs ++ drop m xs) e ∙ ap (λ l. take i xs ++ l) (drop_min j xs)
+
 nothing : (i j : ℕ) → remove_range {X = Cell} [] i j ≡ []
 nothing zero zero = refl
 nothing zero (suc j) = refl
@@ -64,22 +67,21 @@ cells_left i j (c ∷ cs) h =
     ∙ ap (λ l. remove_range c.block.cells i j ++ l) (cells_left (i - length c.block.cells) (j - length c.block.cells) cs (omega arith))
     ∙ sym (removed_both c.block.cells (cells_of cs) i j h)
 
-pub left_push : (i j : ℕ) (cs : List Chunk) (c : Chunk) → left_from i j (cs ++ c ∷ []) ≡ left_from i j cs ++ left_from (i - length (cells_of cs)) (j - length (cells_of cs)) (c ∷ [])
-left_push i j [] c =
+pub left_both : (i j : ℕ) (cs ds : List Chunk) → left_from i j (cs ++ ds) ≡ left_from i j cs ++ left_from (i - length (cells_of cs)) (j - length (cells_of cs)) ds
+left_both i j [] ds =
     let low : i ≡ i - 0 = omega arith in
     let high : j ≡ j - 0 = omega arith in
-    ap (λ k. left_from k j (c ∷ [])) low ∙ ap (λ k. left_from (i - 0) k (c ∷ [])) high
-left_push i j (b ∷ cs) c =
+    ap (λ k. left_from k j ds) low ∙ ap (λ k. left_from (i - 0) k ds) high
+left_both i j (b ∷ cs) ds =
     let sum = length-append b.block.cells (cells_of cs) in
     let low : i - length b.block.cells - length (cells_of cs) ≡ i - length (b.block.cells ++ cells_of cs) = omega (arith, sum) in
     let high : j - length b.block.cells - length (cells_of cs) ≡ j - length (b.block.cells ++ cells_of cs) = omega (arith, sum) in
-    let first : Chunk = with_rows (λ cells. remove_range cells (min i (length cells)) (min j (length cells))) b in
     let rest = left_from (i - length b.block.cells) (j - length b.block.cells) cs in
-    ap (λ l. first ∷ l) (left_push (i - length b.block.cells) (j - length b.block.cells) cs c)
-    ∙ ap (λ k. first ∷ (rest ++ left_from k (j - length b.block.cells - length (cells_of cs)) (c ∷ []))) low
-    ∙ ap (λ k. first ∷ (rest ++ left_from (i - length (b.block.cells ++ cells_of cs)) k (c ∷ []))) high
+    ap (λ l. left_in i j b ∷ l) (left_both (i - length b.block.cells) (j - length b.block.cells) cs ds)
+    ∙ ap (λ k. left_in i j b ∷ (rest ++ left_from k (j - length b.block.cells - length (cells_of cs)) ds)) low
+    ∙ ap (λ k. left_in i j b ∷ (rest ++ left_from (i - length (b.block.cells ++ cells_of cs)) k ds)) high
 
-left_long : (i j : ℕ) (cs : List Chunk) → length (left_from i j cs) ≡ length cs
+pub left_long : (i j : ℕ) (cs : List Chunk) → length (left_from i j cs) ≡ length cs
 left_long i j [] = refl
 left_long i j (c ∷ cs) = ap suc (left_long (i - length c.block.cells) (j - length c.block.cells) cs)
 
@@ -94,7 +96,7 @@ left_there i j k cs now x h is read =
     read ∙ ap (λ t. get_or t k x) split ∙ get_or_at done c rest x k long
 
 -- one block of the loop
-pub left_more : (i j low high k : ℕ) (cs now : List Chunk) (x : Chunk) → k < length cs → now ≡ left_from i j (take k cs) ++ drop k cs → low ≡ i - length (cells_of (take k cs)) → high ≡ j - length (cells_of (take k cs)) → x ≡ get_or now k x → set now k (with_rows (λ cells. remove_range cells (min low (length cells)) (min high (length cells))) x) ≡ left_from i j (take (k + 1) cs) ++ drop (k + 1) cs
+pub left_more : (i j low high k : ℕ) (cs now : List Chunk) (x : Chunk) → k < length cs → now ≡ left_from i j (take k cs) ++ drop k cs → low ≡ i - length (cells_of (take k cs)) → high ≡ j - length (cells_of (take k cs)) → x ≡ get_or now k x → set now k (left_in low high x) ≡ left_from i j (take (k + 1) cs) ++ drop (k + 1) cs
 left_more i j low high k cs now x h is l g read =
     let done = left_from i j (take k cs) in
     let c = get_or cs k x in
@@ -102,12 +104,62 @@ left_more i j low high k cs now x h is l g read =
     let split : now ≡ done ++ (c ∷ rest) = is ∙ ap (λ t. done ++ t) (drop_more cs k x h) in
     let long : length done ≡ k = left_long i j (take k cs) ∙ length-take-le k cs (omega arith) in
     let here : x ≡ c = left_there i j k cs now x h is read in
-    let made : Chunk → Chunk = with_rows (λ cells. remove_range cells (min low (length cells)) (min high (length cells))) in
+    let made : Chunk → Chunk = left_in low high in
     let wanted : left_from i j (take (k + 1) cs) ≡ done ++ made c ∷ [] =
-    ap (left_from i j) (take_more cs k x h) ∙ left_push i j (take k cs) c
+    ap (left_from i j) (take_more cs k x h) ∙ left_both i j (take k cs) (c ∷ [])
     ∙ ap (λ n. done ++ left_from n (j - length (cells_of (take k cs))) (c ∷ [])) (sym l) ∙ ap (λ n. done ++ left_from low n (c ∷ [])) (sym g) in
     ap (λ t. set t k (made x)) split ∙ set_at done c rest (made x) k long ∙ ap (λ t. done ++ (made t ∷ rest)) here
     ∙ sym (append_assoc done (made c ∷ []) rest) ∙ ap (λ t. t ++ rest) (sym wanted)
+
+-- ---- other blocks stay
+
+-- the first UIDs of blocks are at hand
+abbrev pub AreNoted : List Chunk → Type 0
+AreNoted cs = All (λ (c : Chunk). c.first ≡ get_or (map (λ (x : Cell). x.uid) c.block.cells) 0 0) cs
+
+abbrev chunk_with : ℕ → ℕ → List Cell → Chunk
+chunk_with n w cells = record { first = n; block = record { width = w; cells = cells } }
+
+same_left : (i j : ℕ) (c : Chunk) → c.first ≡ get_or (map (λ (x : Cell). x.uid) c.block.cells) 0 0 → remove_range c.block.cells i j ≡ c.block.cells → left_in i j c ≡ c
+same_left i j c e h =
+    let kept : remove_range c.block.cells (min i (length c.block.cells)) (min j (length c.block.cells)) ≡ c.block.cells = capped c.block.cells i j ∙ h in
+    ap noted (ap (chunk_with c.first c.block.width) kept) ∙ ap (λ n. chunk_with n c.block.width c.block.cells) (sym e)
+
+pub kept_past : {X : Type 0} (xs : List X) (i j : ℕ) → i ≤ j → length xs ≤ i → remove_range xs i j ≡ xs
+kept_past xs i j h k = ap (λ l. l ++ drop j xs) (take_all i xs k) ∙ ap (λ l. xs ++ l) (drop_all j xs (omega arith)) ∙ append-nil xs
+
+pub before_stay : (i j : ℕ) (cs : List Chunk) → i ≤ j → AreNoted cs → length (cells_of cs) ≤ i → left_from i j cs ≡ cs
+before_stay i j [] h noted_all k = refl
+before_stay i j (c ∷ cs) h noted_all k =
+    let sum = length-append c.block.cells (cells_of cs) in
+    let here = same_left i j c (All-head (λ (x : Chunk). x.first ≡ get_or (map (λ (y : Cell). y.uid) x.block.cells) 0 0) c cs noted_all) (kept_past c.block.cells i j h (omega (arith, sum))) in
+    let rest = before_stay (i - length c.block.cells) (j - length c.block.cells) cs (omega arith) (All-tail (λ (x : Chunk). x.first ≡ get_or (map (λ (y : Cell). y.uid) x.block.cells) 0 0) c cs noted_all) (omega (arith, sum)) in
+    ap (λ x. x ∷ left_from (i - length c.block.cells) (j - length c.block.cells) cs) here ∙ ap (λ l. c ∷ l) rest
+
+kept_none : {X : Type 0} (xs : List X) (i j : ℕ) → i ≡ 0 → j ≡ 0 → remove_range xs i j ≡ xs
+kept_none xs i j a b = ap (λ k. take k xs ++ drop j xs) a ∙ ap (λ k. drop k xs) b
+
+pub behind_stay : (i j : ℕ) (cs : List Chunk) → i ≡ 0 → j ≡ 0 → AreNoted cs → left_from i j cs ≡ cs
+behind_stay i j [] a b noted_all = refl
+behind_stay i j (c ∷ cs) a b noted_all =
+    let here = same_left i j c (All-head (λ (x : Chunk). x.first ≡ get_or (map (λ (y : Cell). y.uid) x.block.cells) 0 0) c cs noted_all) (kept_none c.block.cells i j a b) in
+    let rest = behind_stay (i - length c.block.cells) (j - length c.block.cells) cs (omega arith) (omega arith) (All-tail (λ (x : Chunk). x.first ≡ get_or (map (λ (y : Cell). y.uid) x.block.cells) 0 0) c cs noted_all) in
+    ap (λ x. x ∷ left_from (i - length c.block.cells) (j - length c.block.cells) cs) here ∙ ap (λ l. c ∷ l) rest
+
+pub are_noted : (w : ℕ) (cs : List Chunk) → All (IsChunk w) cs → AreNoted cs
+are_noted w cs all = All-weaker (IsChunk w) (λ (c : Chunk). c.first ≡ get_or (map (λ (x : Cell). x.uid) c.block.cells) 0 0) (λ c one. one.first) cs all
+
+-- before the first block from which rows leave
+pub begins : (w i j k : ℕ) (cs : List Chunk) → i ≤ j → All (IsChunk w) cs → length (cells_of (take k cs)) ≤ i → cs ≡ left_from i j (take k cs) ++ drop k cs
+begins w i j k cs h all less =
+    sym (take-append-drop k cs) ∙ ap (λ l. l ++ drop k cs) (sym (before_stay i j (take k cs) h (All-take (λ (c : Chunk). c.first ≡ get_or (map (λ (x : Cell). x.uid) c.block.cells) 0 0) k cs (are_noted w cs all)) less))
+
+-- behind the last one
+pub ends : (w i j k : ℕ) (cs : List Chunk) → i ≤ j → All (IsChunk w) cs → j ≤ length (cells_of (take k cs)) → left_from i j (take k cs) ++ drop k cs ≡ left_from i j cs
+ends w i j k cs h all more =
+    ap (λ l. left_from i j (take k cs) ++ l)
+    (sym (behind_stay (i - length (cells_of (take k cs))) (j - length (cells_of (take k cs))) (drop k cs) (omega arith) (omega arith) (All-drop (λ (c : Chunk). c.first ≡ get_or (map (λ (x : Cell). x.uid) c.block.cells) 0 0) k cs (are_noted w cs all))))
+    ∙ sym (left_both i j (take k cs) (drop k cs)) ∙ ap (left_from i j) (take-append-drop k cs)
 
 -- ---- blocks without rows leave
 
@@ -123,61 +175,69 @@ cells_kept (c ∷ cs) = kept_one c cs (has_rows c) refl (cells_kept cs)
 
 -- ---- blocks are counted
 
-pub cells_counted : (n : ℕ) (cs : List Chunk) → cells_of (counted_from n cs) ≡ cells_of cs
-cells_counted n [] = refl
-cells_counted n (c ∷ cs) = ap (λ l. c.block.cells ++ l) (cells_counted (n + length c.block.cells) cs)
+at_most : (a b : ℕ) → min a b ≤ b
+at_most a b = omega arith
 
-pub are_counted : (n : ℕ) (cs : List Chunk) → map (λ (c : Chunk). c.start) (counted_from n cs) ≡ starts_from n (counted_from n cs)
-are_counted n [] = refl
-are_counted n (c ∷ cs) = ap (λ l. n ∷ l) (are_counted (n + length c.block.cells) cs)
+low_numbers : (i n l : ℕ) → min n i + min (i - n) l ≡ min (n + l) i
+low_numbers i n l = omega arith
 
-counted_long : (n : ℕ) (cs : List Chunk) → length (counted_from n cs) ≡ length cs
-counted_long n [] = refl
-counted_long n (c ∷ cs) = ap suc (counted_long (n + length c.block.cells) cs)
+high_numbers : (j n l : ℕ) → n - j + (l - min (j - n) l) ≡ n + l - j
+high_numbers j n l = omega arith
 
-counted_push : (n : ℕ) (cs : List Chunk) (c : Chunk) → counted_from n (cs ++ c ∷ []) ≡ counted_from n cs ++ noted (n + length (cells_of cs)) c ∷ []
-counted_push n [] c = let none : n ≡ n + 0 = omega arith in ap (λ m. noted m c ∷ []) none
-counted_push n (b ∷ cs) c =
-    let sum = length-append b.block.cells (cells_of cs) in
-    let same : n + length b.block.cells + length (cells_of cs) ≡ n + length (b.block.cells ++ cells_of cs) = omega (arith, sum) in
-    ap (λ l. noted n b ∷ l) (counted_push (n + length b.block.cells) cs c) ∙ ap (λ m. noted n b ∷ (counted_from (n + length b.block.cells) cs ++ noted m c ∷ [])) same
+sums : (a b c d e f : ℕ) → a + c ≡ e → b + d ≡ f → a + b + (c + d) ≡ e + f
+sums a b c d e f g h = omega arith
 
--- one block of the loop
-pub counted_more : (n k : ℕ) (cs now : List Chunk) (x : Chunk) → k < length cs → now ≡ counted_from 0 (take k cs) ++ drop k cs → n ≡ length (cells_of (take k cs)) → x ≡ get_or now k x → (x ≡ get_or cs k x) × (set now k (noted n x) ≡ counted_from 0 (take (k + 1) cs) ++ drop (k + 1) cs)
-counted_more n k cs now x h is e read =
-    let done = counted_from 0 (take k cs) in
-    let c = get_or cs k x in
-    let rest = drop (k + 1) cs in
-    let split : now ≡ done ++ (c ∷ rest) = is ∙ ap (λ t. done ++ t) (drop_more cs k x h) in
-    let long : length done ≡ k = counted_long 0 (take k cs) ∙ length-take-le k cs (omega arith) in
-    let here : x ≡ c = read ∙ ap (λ t. get_or t k x) split ∙ get_or_at done c rest x k long in
-    let sum : 0 + length (cells_of (take k cs)) ≡ n = omega arith in
-    let wanted : counted_from 0 (take (k + 1) cs) ≡ done ++ noted n c ∷ [] =
-    ap (counted_from 0) (take_more cs k x h) ∙ counted_push 0 (take k cs) c ∙ ap (λ m. done ++ noted m c ∷ []) sum in (
-      here,
-      ap (λ t. set t k (noted n x)) split ∙ set_at done c rest (noted n x) k long ∙ ap (λ t. done ++ (noted n t ∷ rest)) here
-          ∙ sym (append_assoc done (noted n c ∷ []) rest) ∙ ap (λ t. t ++ rest) (sym wanted),
-    )
+numbers : (i j n l : ℕ) → min n i + (n - j) + (min (i - n) l + (l - min (j - n) l)) ≡ min (n + l) i + (n + l - j)
+numbers i j n l = sums (min n i) (n - j) (min (i - n) l) (l - min (j - n) l) (min (n + l) i) (n + l - j) (low_numbers i n l) (high_numbers j n l)
+
+left_some : (cells : List Cell) (i j n : ℕ) → i ≤ j → lowered i j n + length (remove_range cells (min (i - n) (length cells)) (min (j - n) (length cells))) ≡ lowered i j (n + length cells)
+left_some cells i j n h =
+    let a = length-append (take (min (i - n) (length cells)) cells) (drop (min (j - n) (length cells)) cells) in
+    let b = length-take-le (min (i - n) (length cells)) cells (at_most (i - n) (length cells)) in
+    let c = length-drop (min (j - n) (length cells)) cells in
+    ap (λ m. min n i + (n - j) + m) (a ∙ ap (λ m. m + length (drop (min (j - n) (length cells)) cells)) b ∙ ap (λ m. min (i - n) (length cells) + m) c) ∙ numbers i j n (length cells)
+
+lowered_from : (i j n : ℕ) (cs : List Chunk) → i ≤ j → starts_from (lowered i j n) (left_from (i - n) (j - n) cs) ≡ map (lowered i j) (starts_from n cs)
+lowered_from i j n [] h = refl
+lowered_from i j n (c ∷ cs) h =
+    let low : i - n - length c.block.cells ≡ i - (n + length c.block.cells) = omega arith in
+    let high : j - n - length c.block.cells ≡ j - (n + length c.block.cells) = omega arith in
+    ap (λ l. lowered i j n ∷ l)
+    (ap (λ m. starts_from m (left_from (i - n - length c.block.cells) (j - n - length c.block.cells) cs)) (left_some c.block.cells i j n h)
+    ∙ ap (λ m. starts_from (lowered i j (n + length c.block.cells)) (left_from m (j - n - length c.block.cells) cs)) low
+    ∙ ap (λ m. starts_from (lowered i j (n + length c.block.cells)) (left_from (i - (n + length c.block.cells)) m cs)) high
+    ∙ lowered_from i j (n + length c.block.cells) cs h)
+
+-- the starts behind it all
+pub lowered_starts : (i j : ℕ) (ns : List ℕ) (cs : List Chunk) → i ≤ j → AreCounted ns cs → AreCounted (map (lowered i j) ns) (left_from i j cs)
+lowered_starts i j ns cs h e =
+    let none : lowered i j 0 ≡ 0 = omega arith in
+    let low : i - 0 ≡ i = omega arith in
+    let high : j - 0 ≡ j = omega arith in
+    ap (map (lowered i j)) e ∙ sym (lowered_from i j 0 cs h) ∙ ap (λ n. starts_from n (left_from (i - 0) (j - 0) cs)) none
+    ∙ ap (λ n. starts_from 0 (left_from n (j - 0) cs)) low ∙ ap (λ n. starts_from 0 (left_from i n cs)) high
 
 -- ---- they stay blocks
 
 wide_left : (w i j : ℕ) (cs : List Chunk) → All (λ (c : Chunk). c.block.width ≡ w) cs → All (λ (c : Chunk). c.block.width ≡ w) (left_from i j cs)
 wide_left w i j [] all = All-nil (λ (c : Chunk). c.block.width ≡ w)
 wide_left w i j (c ∷ cs) all =
-    All-cons (λ (x : Chunk). x.block.width ≡ w) (with_rows (λ cells. remove_range cells (min i (length cells)) (min j (length cells))) c) (left_from (i - length c.block.cells) (j - length c.block.cells) cs)
+    All-cons (λ (x : Chunk). x.block.width ≡ w) (left_in i j c) (left_from (i - length c.block.cells) (j - length c.block.cells) cs)
     (All-head (λ (x : Chunk). x.block.width ≡ w) c cs all)
     (wide_left w (i - length c.block.cells) (j - length c.block.cells) cs (All-tail (λ (x : Chunk). x.block.width ≡ w) c cs all))
 
-each_counted : (w n : ℕ) (cs : List Chunk) → All (λ (c : Chunk). c.block.width ≡ w) cs → All (λ (c : Chunk). has_rows c ≡ true) cs → All (IsChunk w) (counted_from n cs)
-each_counted w n [] wide filled = All-nil (IsChunk w)
-each_counted w n (c ∷ cs) wide filled =
-    All-cons (IsChunk w) (noted n c) (counted_from (n + length c.block.cells) cs)
-    (record {
-      wide = All-head (λ (x : Chunk). x.block.width ≡ w) c cs wide;
-      filled = ltb-true 0 (length c.block.cells) (All-head (λ (x : Chunk). has_rows x ≡ true) c cs filled);
-      first = refl;
-    })
-    (each_counted w (n + length c.block.cells) cs (All-tail (λ (x : Chunk). x.block.width ≡ w) c cs wide) (All-tail (λ (x : Chunk). has_rows x ≡ true) c cs filled))
+noted_left : (i j : ℕ) (cs : List Chunk) → AreNoted (left_from i j cs)
+noted_left i j [] = All-nil (λ (c : Chunk). c.first ≡ get_or (map (λ (x : Cell). x.uid) c.block.cells) 0 0)
+noted_left i j (c ∷ cs) =
+    All-cons (λ (x : Chunk). x.first ≡ get_or (map (λ (y : Cell). y.uid) x.block.cells) 0 0) (left_in i j c) (left_from (i - length c.block.cells) (j - length c.block.cells) cs)
+    refl (noted_left (i - length c.block.cells) (j - length c.block.cells) cs)
+
+each_chunk : (w : ℕ) (cs : List Chunk) → All (λ (c : Chunk). c.block.width ≡ w) cs → AreNoted cs → All (λ (c : Chunk). has_rows c ≡ true) cs → All (IsChunk w) cs
+each_chunk w cs wide noted_all filled k d h = record {
+  wide = wide k d h;
+  filled = ltb-true 0 (length (get_or cs k d).block.cells) (filled k d h);
+  first = noted_all k d h;
+}
 
 gap_low : (us : List ℕ) (i j k : ℕ) → k < i → i ≤ length us → get_or (remove_range us i j) k 0 ≡ get_or us k 0
 gap_low us i j k h inside =
@@ -219,25 +279,30 @@ rising_left us i j h are = record {
   below = All-append (λ u. u < 2 ^ 32 - 1) (take i us) (drop j us) (All-take (λ u. u < 2 ^ 32 - 1) i us are.below) (All-drop (λ u. u < 2 ^ 32 - 1) j us are.below);
 }
 
--- the rows behind it all
-pub cells_removed : (i j : ℕ) (cs : List Chunk) → i ≤ j → cells_of (counted_from 0 (filter has_rows (left_from i j cs))) ≡ remove_range (cells_of cs) i j
-cells_removed i j cs h = cells_counted 0 (filter has_rows (left_from i j cs)) ∙ cells_kept (left_from i j cs) ∙ cells_left i j cs h
-
 pub uids_left : (i j : ℕ) (cells : List Cell) → remove_range (map (λ (c : Cell). c.uid) cells) i j ≡ map (λ (c : Cell). c.uid) (remove_range cells i j)
 uids_left i j cells = map_removed (λ (c : Cell). c.uid) cells (map (λ (c : Cell). c.uid) cells) i j refl
 
-pub are_removed : (w i j : ℕ) (cs : List Chunk) → i ≤ j → AreChunks w cs → AreChunks w (counted_from 0 (filter has_rows (left_from i j cs)))
-are_removed w i j cs h are =
-    let wide = All-weaker (IsChunk w) (λ (c : Chunk). c.block.width ≡ w) (λ c one. one.wide) cs are.each in
+pub rising_cells : (i j : ℕ) (cs : List Chunk) → i ≤ j → AreRising (uids_of cs) → AreRising (uids_of (left_from i j cs))
+rising_cells i j cs h are = subst AreRising (uids_left i j (cells_of cs) ∙ ap (map (λ (c : Cell). c.uid)) (sym (cells_left i j cs h))) (rising_left (uids_of cs) i j h are)
+
+-- where each block has rows still
+pub are_left : (w i j : ℕ) (cs : List Chunk) → i ≤ j → AreChunks w cs → All (λ (c : Chunk). has_rows c ≡ true) (left_from i j cs) → AreChunks w (left_from i j cs)
+are_left w i j cs h are filled = record {
+  each = each_chunk w (left_from i j cs) (wide_left w i j cs (All-weaker (IsChunk w) (λ (c : Chunk). c.block.width ≡ w) (λ c one. one.wide) cs are.each)) (noted_left i j cs) filled;
+  rising = rising_cells i j cs h are.rising;
+}
+
+-- where those without rows leave
+pub are_closed : (w i j : ℕ) (cs : List Chunk) → i ≤ j → AreChunks w cs → AreChunks w (filter has_rows (left_from i j cs))
+are_closed w i j cs h are =
     let left = left_from i j cs in
     record {
-      each = each_counted w 0 (filter has_rows left) (All-filter has_rows (λ (c : Chunk). c.block.width ≡ w) left (wide_left w i j cs wide)) (filter_passes has_rows left);
-      starts = are_counted 0 (filter has_rows left);
-      rising = subst AreRising (uids_left i j (cells_of cs) ∙ ap (map (λ (c : Cell). c.uid)) (sym (cells_removed i j cs h))) (rising_left (uids_of cs) i j h are.rising);
+      each = each_chunk w (filter has_rows left)
+          (All-filter has_rows (λ (c : Chunk). c.block.width ≡ w) left (wide_left w i j cs (All-weaker (IsChunk w) (λ (c : Chunk). c.block.width ≡ w) (λ c one. one.wide) cs are.each)))
+          (All-filter has_rows (λ (c : Chunk). c.first ≡ get_or (map (λ (x : Cell). x.uid) c.block.cells) 0 0) left (noted_left i j cs)) (filter_passes has_rows left);
+      rising = subst AreRising (ap (map (λ (c : Cell). c.uid)) (sym (cells_kept left))) (rising_cells i j cs h are.rising);
     }
 
--- they can be counted
-pub few_left : (i j : ℕ) (cs : List Chunk) → i ≤ j → AreRising (uids_of cs) → length (cells_of (filter has_rows (left_from i j cs))) < 2 ^ 32
-few_left i j cs h are =
-    let cells : cells_of (filter has_rows (left_from i j cs)) ≡ remove_range (cells_of cs) i j = cells_kept (left_from i j cs) ∙ cells_left i j cs h in
-    few (filter has_rows (left_from i j cs)) (subst AreRising (uids_left i j (cells_of cs) ∙ ap (map (λ (c : Cell). c.uid)) (sym cells)) (rising_left (uids_of cs) i j h are))
+-- what equals blocks is blocks
+pub same_blocks : (w : ℕ) (ns ms : List ℕ) (cs ds : List Chunk) → ms ≡ ns → ds ≡ cs → AreBlocks w ns cs → AreBlocks w ms ds
+same_blocks w ns ms cs ds e h are = subst (λ l. AreBlocks w l ds) (sym e) (subst (AreBlocks w ns) (sym h) are)

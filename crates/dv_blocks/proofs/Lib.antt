@@ -4,8 +4,10 @@ pub mod Found
 pub mod Gone
 pub mod Items
 pub mod Leaving
+pub mod Pendings
 pub mod Pieces
 pub mod Seen
 pub mod Sharing
 pub mod Sides
 pub mod Starts
+pub mod Two

@@ -1,7 +1,7 @@
 -- Strings of one length, one after another.
 use Rattle.std.proofs.Common.{◌≡◌, ◌∙◌, ℕ, zero, suc, ◌+◌, ◌-◌, ◌*◌, ◌<◌, ◌≤◌, List, [], ◌∷◌, ◌++◌, length, get_or, set, take, drop, ap, sym, refl, subst, arith, append_assoc}
 use Rattle.std.proofs.Math.Nat.{mul-le-mul_right}
-use Rattle.std.proofs.lemmas.List.{drop_at, drop-append-le, get_or_at, length-append, length-drop, length-take, length-take-le, set_split, take_all, take_at, take-append-drop, take-append-le}
+use Rattle.std.proofs.lemmas.List.{drop_at, drop-append-le, get_or_at, length-append, length-drop, length-take-le, set_split, take_all, take_at, take-append-drop, take-append-le}
 use Rattle.std.specs.List.{remove_range}
 use Rattle.dv_blocks.specs.Cells.{Strings, pieces}
 

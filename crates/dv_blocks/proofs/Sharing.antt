@@ -1,12 +1,10 @@
 -- Sets that are held and released.
-use Rattle.std.proofs.Common.{◌≡◌, ◌≢◌, ◌∙◌, ◌⊎◌, inl, inr, ℕ, zero, suc, ◌+◌, ◌-◌, ◌<◌, ◌≤◌, Bool, true, false, cond, eqb, List, [], ◌∷◌, ◌++◌, length, get_or, map, set, take, drop, ap, sym, refl, subst, arith}
-use Rattle.std.specs.Prelude.{All}
-use Rattle.std.proofs.lemmas.Bool.{cases_eq, cases_lt, cond-false, cond-true, eq-eqb, eqb-true, ne_eqb}
-use Rattle.std.proofs.lemmas.List.{get_or-append_right, get_or_append_left, get_or_past, get_or_push, get_or-set_other, get_or-set_same, length_push}
-use Rattle.dv_model.specs.declared.types.Row.{Row}
+use Rattle.std.proofs.Common.{◌≡◌, ◌≢◌, ◌∙◌, ◌⊎◌, inl, inr, ℕ, zero, suc, ◌+◌, ◌<◌, ◌≤◌, eqb, List, [], ◌∷◌, ◌++◌, length, get_or, set, ap, sym, refl, subst, arith}
+use Rattle.std.proofs.lemmas.Bool.{cases_eq, cases_lt, cond-false, cond-true, eq-eqb, ne_eqb}
+use Rattle.std.proofs.lemmas.List.{get_or_append_left, get_or_past, get_or_push, get_or-set_other, get_or-set_same, length_push}
 use Rattle.dv_model.specs.Effects.{with_item}
 use Rattle.dv_blocks.specs.Cells.{Cell}
-use Rattle.dv_blocks.specs.Shared.{AreFreed, AreShared, IsChangedAt, IsFound, IsHeld, IsReleased, how_many, one_at, set_of, unheld, uses_of}
+use Rattle.dv_blocks.specs.Shared.{AreFreed, IsChangedAt, IsHeld, IsReleased, how_many, one_at, set_of, unheld, uses_of}
 use Rattle.dv_blocks.specs.declared.sets.Held.{Held}
 
 -- ---- one place

@@ -1,7 +1,7 @@
 -- Rows side by side, and their columns.
-use Rattle.std.proofs.Common.{◌≡◌, ◌∙◌, ℕ, zero, suc, List, [], ◌∷◌, ◌++◌, drop, length, map, set, take, ap, refl, subst, sym}
+use Rattle.std.proofs.Common.{◌≡◌, ◌∙◌, ℕ, zero, suc, List, [], ◌∷◌, ◌++◌, drop, map, set, take, ap, refl, subst, sym}
 use Rattle.std.specs.List.{remove_range}
-use Rattle.std.proofs.lemmas.List.{drop-map, length-map, map-append, map_push, take-map}
+use Rattle.std.proofs.lemmas.List.{drop-map, map-append, map_push, take-map}
 use Rattle.dv_model.specs.Effects.{with_item}
 use Rattle.dv_blocks.specs.Cells.{AreColumns, Cell, Cells, beside, with_part, with_values}
 use Rattle.dv_validity.proofs.Items.{map_kept, map_with_item}

@@ -1,9 +1,8 @@
 -- The number of rows before each block.
 use Rattle.std.proofs.Common.{◌≡◌, ◌∙◌, inl, inr, ℕ, zero, suc, ◌+◌, ◌-◌, ◌<◌, ◌≤◌, true, false, leb, List, [], ◌∷◌, ◌++◌, length, get_or, map, take, drop, ap, sym, refl, subst, arith}
-use Rattle.std.specs.List.{flat_map}
 use Rattle.std.specs.List.Sorted.{IsNonDecreasingBy, IsPartitionPoint}
 use Rattle.std.proofs.lemmas.Bool.{cases_lt, leb-false, leb-true}
-use Rattle.std.proofs.lemmas.List.{append-nil, get_or-map, length-append, take_all, take-append-drop, take_more, take-take}
+use Rattle.std.proofs.lemmas.List.{append-nil, get_or_default, get_or-map, length-append, take_all, take-append-drop, take_more, take-take}
 use Rattle.std.proofs.lemmas.List.Concat.{flat_map-append, get_or-flat_map}
 use Rattle.dv_blocks.specs.Cells.{Cell}
 use Rattle.dv_blocks.specs.Chunks.{AreCounted, IsIn, cells_of, starts_from}
@@ -16,11 +15,18 @@ start_at n (c ∷ cs) (suc i) h =
     let sum = length-append c.block.cells (cells_of (take i cs)) in
     start_at (n + length c.block.cells) cs i (omega arith) ∙ omega (arith, sum)
 
+pub starts_long : (n : ℕ) (cs : List Chunk) → length (starts_from n cs) ≡ length cs
+starts_long n [] = refl
+starts_long n (c ∷ cs) = ap suc (starts_long (n + length c.block.cells) cs)
+
+pub as_many : (ns : List ℕ) (cs : List Chunk) → AreCounted ns cs → length ns ≡ length cs
+as_many ns cs e = ap length e ∙ starts_long 0 cs
+
 -- the rows before a block
-pub start_of : (cs : List Chunk) (i : ℕ) (d : Chunk) → AreCounted cs → i < length cs → (get_or cs i d).start ≡ length (cells_of (take i cs))
-start_of cs i d e h =
+pub start_of : (ns : List ℕ) (cs : List Chunk) (i : ℕ) → AreCounted ns cs → i < length cs → get_or ns i 0 ≡ length (cells_of (take i cs))
+start_of ns cs i e h =
     let is : get_or (starts_from 0 cs) i 0 ≡ 0 + length (cells_of (take i cs)) = start_at 0 cs i h in
-    sym (get_or-map (λ (c : Chunk). c.start) cs i d 0 h) ∙ ap (λ l. get_or l i 0) e ∙ is ∙ omega arith
+    ap (λ l. get_or l i 0) e ∙ is ∙ omega arith
 
 pub cells_append : (cs ds : List Chunk) → cells_of (cs ++ ds) ≡ cells_of cs ++ cells_of ds
 cells_append cs ds = flat_map-append (λ (c : Chunk). c.block.cells) cs ds
@@ -44,41 +50,51 @@ grows cs i j h =
 pub whole : (cs : List Chunk) (i : ℕ) → length cs ≤ i → length (cells_of (take i cs)) ≡ length (cells_of cs)
 whole cs i h = ap (λ l. length (cells_of l)) (take_all i cs h)
 
-pub ordered : (cs : List Chunk) → AreCounted cs → IsNonDecreasingBy (λ (c : Chunk). c.start) cs
-ordered cs e i j d h k =
-    let low : (get_or cs i d).start ≡ length (cells_of (take i cs)) = start_of cs i d e (omega arith) in
-    let high : (get_or cs j d).start ≡ length (cells_of (take j cs)) = start_of cs j d e k in
+pub ordered : (ns : List ℕ) (cs : List Chunk) → AreCounted ns cs → IsNonDecreasingBy (λ (n : ℕ). n) ns
+ordered ns cs e i j d h k =
+    let long = as_many ns cs e in
+    let low : get_or ns i 0 ≡ length (cells_of (take i cs)) = start_of ns cs i e (omega arith) in
+    let high : get_or ns j 0 ≡ length (cells_of (take j cs)) = start_of ns cs j e (omega arith) in
+    let low_is = get_or_default ns i 0 d (omega arith) in
+    let high_is = get_or_default ns j 0 d k in
     let up = grows cs i j h in
     omega arith
 
+-- the starts up to a place are partitioned from those above it
+abbrev pub IsSplit : List ℕ → ℕ → ℕ → Type 0
+IsSplit ns at p = IsPartitionPoint (λ (n : ℕ). leb n at ≡ true) (λ (n : ℕ). leb n at ≡ false) ns p
+
 -- no row is before the first block
-positive : (cs : List Chunk) (d : Chunk) (at p : ℕ) → AreCounted cs → 0 < length cs → IsPartitionPoint (λ (c : Chunk). leb c.start at ≡ true) (λ (c : Chunk). leb c.start at ≡ false) cs p → p ≡ 0 → ⊥
-positive cs d at p e h is z =
-    let zero_start : (get_or cs 0 d).start ≡ 0 = start_of cs 0 d e h in
-    let above : at < (get_or cs 0 d).start = leb-false (get_or cs 0 d).start at (is.1 0 d (omega arith) h) in
+positive : (ns : List ℕ) (cs : List Chunk) (at p : ℕ) → AreCounted ns cs → 0 < length cs → IsSplit ns at p → p ≡ 0 → ⊥
+positive ns cs at p e h is z =
+    let long = as_many ns cs e in
+    let zero_start : get_or ns 0 0 ≡ 0 = start_of ns cs 0 e h in
+    let above : at < get_or ns 0 0 = leb-false (get_or ns 0 0) at (is.1 0 0 (omega arith) (omega arith)) in
     omega arith
 
-pub not_first : (cs : List Chunk) (at p : ℕ) → AreCounted cs → at < length (cells_of cs) → IsPartitionPoint (λ (c : Chunk). leb c.start at ≡ true) (λ (c : Chunk). leb c.start at ≡ false) cs p → 1 ≤ p
-not_first [] at p e h is = absurd (omega arith)
-not_first (c ∷ cs) at zero e h is = absurd (positive (c ∷ cs) c at 0 e (omega arith) is refl)
-not_first (c ∷ cs) at (suc p) e h is = omega arith
+pub not_first : (ns : List ℕ) (cs : List Chunk) (at p : ℕ) → AreCounted ns cs → at < length (cells_of cs) → IsSplit ns at p → 1 ≤ p
+not_first ns [] at p e h is = absurd (omega arith)
+not_first ns (c ∷ cs) at zero e h is = absurd (positive ns (c ∷ cs) at 0 e (omega arith) is refl)
+not_first ns (c ∷ cs) at (suc p) e h is = omega arith
 
-before_next : (cs : List Chunk) (d : Chunk) (at i p : ℕ) → AreCounted cs → at < length (cells_of cs) → i + 1 ≡ p → p ≤ length cs → IsPartitionPoint (λ (c : Chunk). leb c.start at ≡ true) (λ (c : Chunk). leb c.start at ≡ false) cs p → at < length (cells_of (take (i + 1) cs))
-before_next cs d at i p e h n inside is = elim (cases_lt (i + 1) (length cs)) [
+before_next : (ns : List ℕ) (cs : List Chunk) (at i p : ℕ) → AreCounted ns cs → at < length (cells_of cs) → i + 1 ≡ p → p ≤ length cs → IsSplit ns at p → at < length (cells_of (take (i + 1) cs))
+before_next ns cs at i p e h n inside is = elim (cases_lt (i + 1) (length cs)) [
   | inl lt ↦
-      let above : at < (get_or cs (i + 1) d).start = leb-false (get_or cs (i + 1) d).start at (is.1 (i + 1) d (omega arith) lt) in
-      let start : (get_or cs (i + 1) d).start ≡ length (cells_of (take (i + 1) cs)) = start_of cs (i + 1) d e lt in
+      let long = as_many ns cs e in
+      let above : at < get_or ns (i + 1) 0 = leb-false (get_or ns (i + 1) 0) at (is.1 (i + 1) 0 (omega arith) (omega arith)) in
+      let start : get_or ns (i + 1) 0 ≡ length (cells_of (take (i + 1) cs)) = start_of ns cs (i + 1) e lt in
       omega arith
   | inr ge ↦ let all = whole cs (i + 1) ge in omega arith
 ]
 
 -- the block whose start is the last one up to the place has the row
-pub found : (cs : List Chunk) (d : Chunk) (at i p : ℕ) → AreCounted cs → at < length (cells_of cs) → i + 1 ≡ p → p ≤ length cs → IsPartitionPoint (λ (c : Chunk). leb c.start at ≡ true) (λ (c : Chunk). leb c.start at ≡ false) cs p → ((get_or cs i d).start ≤ at) × IsIn cs at i (at - (get_or cs i d).start)
-found cs d at i p e h n inside is =
+pub found : (ns : List ℕ) (cs : List Chunk) (at i p : ℕ) → AreCounted ns cs → at < length (cells_of cs) → i + 1 ≡ p → p ≤ length cs → IsSplit ns at p → (get_or ns i 0 ≤ at) × IsIn cs at i (at - get_or ns i 0)
+found ns cs at i p e h n inside is =
+    let long = as_many ns cs e in
     let block : i < length cs = omega arith in
-    let start : (get_or cs i d).start ≡ length (cells_of (take i cs)) = start_of cs i d e block in
-    let low : (get_or cs i d).start ≤ at = leb-true (get_or cs i d).start at (is.0 i d (omega arith) (omega arith)) in
-    let high : at < length (cells_of (take (i + 1) cs)) = before_next cs d at i p e h n inside is in (
+    let start : get_or ns i 0 ≡ length (cells_of (take i cs)) = start_of ns cs i e block in
+    let low : get_or ns i 0 ≤ at = leb-true (get_or ns i 0) at (is.0 i 0 (omega arith) (omega arith)) in
+    let high : at < length (cells_of (take (i + 1) cs)) = before_next ns cs at i p e h n inside is in (
       low,
       record {
         inside = block;
@@ -100,9 +116,9 @@ value_in f cs at i o x column e d is same h =
     ∙ ap f (ap (λ (c : Chunk). get_or c.block.cells o d) same ∙ sym (row_in cs at i o is d x))
 
 -- how many rows there are
-pub total : (cs : List Chunk) (i : ℕ) (d : Chunk) → AreCounted cs → i + 1 ≡ length cs → (get_or cs i d).start + length (get_or cs i d).block.cells ≡ length (cells_of cs)
-total cs i d e h =
-    let start = start_of cs i d e (omega arith) in
+pub total : (ns : List ℕ) (cs : List Chunk) (i : ℕ) (d : Chunk) → AreCounted ns cs → i + 1 ≡ length cs → get_or ns i 0 + length (get_or cs i d).block.cells ≡ length (cells_of cs)
+total ns cs i d e h =
+    let start = start_of ns cs i e (omega arith) in
     let next = next_start cs i d (omega arith) in
     let all = whole cs (i + 1) (omega arith) in
     omega arith

@@ -2,7 +2,7 @@
 use Rattle.std.specs.Prelude.{◌≡◌, ℕ, ◌+◌, ◌-◌, ◌^◌, ◌<◌, Bool, true, false, List, [], ◌∷◌, All, flat_map, get_or, length, map, min, nat_lt, take}
 use Rattle.std.specs.List.{remove_range}
 use Rattle.std.specs.List.Sorted.{IsPartitionPoint, IsStrictlyIncreasing}
-use Rattle.dv_blocks.specs.Cells.{Cell, Cells}
+use Rattle.dv_blocks.specs.Cells.{Cell}
 use Rattle.dv_blocks.specs.declared.chunk.Chunk.{Chunk}
 use Rattle.dv_blocks.specs.declared.chunk.Entry.{Entry}
 
@@ -20,8 +20,8 @@ starts_from n [] = []
 starts_from n (c ∷ chunks) = n ∷ starts_from (n + length c.block.cells) chunks
 
 -- the number of rows before each block is at hand
-abbrev pub AreCounted : List Chunk → Type 0
-AreCounted chunks = map (λ c. c.start) chunks ≡ starts_from 0 chunks
+abbrev pub AreCounted : List ℕ → List Chunk → Type 0
+AreCounted starts chunks = starts ≡ starts_from 0 chunks
 
 -- a block that has rows, all with parts of this length, and its first UID
 pub record IsChunk (w : ℕ) (c : Chunk) : Type 0 where
@@ -37,8 +37,12 @@ pub record AreRising (uids : List ℕ) : Type 0 where
 -- blocks of rows by rising UID
 pub record AreChunks (w : ℕ) (chunks : List Chunk) : Type 0 where
   pub each : All (IsChunk w) chunks
-  pub starts : AreCounted chunks
   pub rising : AreRising (uids_of chunks)
+
+-- and the number of rows before each
+pub record AreBlocks (w : ℕ) (starts : List ℕ) (chunks : List Chunk) : Type 0 where
+  pub counted : AreCounted starts chunks
+  pub are : AreChunks w chunks
 
 -- the row at a place of all is that at a place of a block
 pub record IsIn (chunks : List Chunk) (at block offset : ℕ) : Type 0 where
@@ -65,21 +69,22 @@ with_rows f c = record c { block = record { width = c.block.width; cells = f c.b
 abbrev pub cell_of : Entry → List ℕ → Cell
 cell_of e part = record { uid = e.uid; flags = e.flags; modseq = e.modseq; words = e.words; part = part }
 
+-- the block with its first UID
+abbrev pub noted : Chunk → Chunk
+noted c = record { first = get_or (map (λ x. x.uid) c.block.cells) 0 0; block = c.block }
+
+-- the block without the rows from one place to another, as far as it has them
+abbrev pub left_in : ℕ → ℕ → Chunk → Chunk
+left_in i j c = noted (with_rows (λ cells. remove_range cells (min i (length cells)) (min j (length cells))) c)
+
 -- without the rows from one place of all to another
 abbrev pub left_from : ℕ → ℕ → List Chunk → List Chunk
 left_from i j [] = []
-left_from i j (c ∷ chunks) =
-    with_rows (λ cells. remove_range cells (min i (length cells)) (min j (length cells))) c
-    ∷ left_from (i - length c.block.cells) (j - length c.block.cells) chunks
+left_from i j (c ∷ chunks) = left_in i j c ∷ left_from (i - length c.block.cells) (j - length c.block.cells) chunks
 
--- the block, before which so many rows are, with its first UID
-abbrev pub noted : ℕ → Chunk → Chunk
-noted n c = record { start = n; first = get_or (map (λ x. x.uid) c.block.cells) 0 0; block = c.block }
-
--- each block so, where so many rows are before the first
-abbrev pub counted_from : ℕ → List Chunk → List Chunk
-counted_from n [] = []
-counted_from n (c ∷ chunks) = noted n c ∷ counted_from (n + length c.block.cells) chunks
+-- so many of the rows before a place stay: those before the first place, and those from the last one on
+abbrev pub lowered : ℕ → ℕ → ℕ → ℕ
+lowered i j n = min n i + (n - j)
 
 -- the block has rows
 abbrev pub has_rows : Chunk → Bool

@@ -1,7 +1,9 @@
 -- Sets of keywords that rows share, by number.
-use Rattle.std.specs.Prelude.{◌≡◌, ◌≢◌, ℕ, zero, suc, ◌+◌, ◌<◌, List, [], ◌∷◌, get_or, if◌then◌else◌, length, nat_eq, sum, take, drop}
+use Rattle.std.specs.Prelude.{◌≡◌, ◌≢◌, ℕ, zero, suc, ◌+◌, ◌^◌, ◌<◌, List, [], ◌∷◌, get_or, if◌then◌else◌, length, nat_eq, sum, take, drop}
 use Rattle.dv_model.specs.declared.types.Row.{Row}
+use Rattle.dv_model.specs.Effects.{with_item}
 use Rattle.dv_blocks.specs.Cells.{Cell, Cells}
+use Rattle.dv_blocks.specs.declared.chunk.Pending.{Pending}
 use Rattle.dv_blocks.specs.declared.sets.Held.{Held}
 
 -- a set that no row has
@@ -47,6 +49,7 @@ pub record IsReleased (old new : List Held) (n : ℕ) : Type 0 where
 -- the set at this place is used, and is this one
 pub record IsFound (sets : List Held) (set : List ℕ) (at : ℕ) : Type 0 where
   pub inside : at < length sets
+  pub fits : (get_or sets at unheld).uses + 1 < 2 ^ 32
   pub used : 0 < (get_or sets at unheld).uses
   pub same : (get_or sets at unheld).places ≡ set
 
@@ -55,9 +58,14 @@ abbrev pub how_many : ℕ → List Cell → ℕ
 how_many n [] = 0
 how_many n (c ∷ cells) = one_at c.words n + how_many n cells
 
+-- for how many rows it is held
+abbrev pub how_many_held : ℕ → List Pending → ℕ
+how_many_held n [] = 0
+how_many_held n (p ∷ held) = one_at p.words n + how_many_held n held
+
 -- each set is counted, and one that no row has takes no memory
-pub record AreShared (sets : List Held) (cells : List Cell) : Type 0 where
-  pub uses : (k : ℕ) → uses_of sets (suc k) ≡ how_many (suc k) cells
+pub record AreShared (held : List Pending) (sets : List Held) (cells : List Cell) : Type 0 where
+  pub uses : (k : ℕ) → uses_of sets (suc k) ≡ how_many (suc k) cells + how_many_held (suc k) held
   pub freed : AreFreed sets
 
 -- bytes cut to these lengths
@@ -69,10 +77,27 @@ cut (n ∷ sizes) bytes = take n bytes ∷ cut sizes (drop n bytes)
 abbrev pub row_of : List Held → List ℕ → Cell → Row
 row_of sets sizes c = record { uid = c.uid; flags = c.flags; keywords = set_of sets c.words; parts = cut sizes c.part; modseq = c.modseq }
 
--- rows, and the sizes of their parts
+-- the row at a place, and the keywords that are held for it
+pub record Due : Type 0 where
+  pub at : ℕ
+  pub keywords : List ℕ
+
+abbrev pub due_of : List Held → Pending → Due
+due_of sets p = record { at = p.at; keywords = set_of sets p.words }
+
+-- rows, the sizes of their parts, and keywords that are held for rows
 pub record Rows : Type 0 where
   pub sizes : List ℕ
   pub rows : List Row
+  pub held : List Due
+
+-- the row with these keywords and this modification sequence
+abbrev pub with_keywords : ℕ → List ℕ → Row → Row
+with_keywords modseq places r = record { uid = r.uid; flags = r.flags; keywords = places; parts = r.parts; modseq = modseq }
+
+-- a row gets the keywords that are held for it, and this modification sequence
+abbrev pub with_due : ℕ → List Row → Due → List Row
+with_due modseq rows due = with_item due.at (with_keywords modseq due.keywords) rows
 
 -- the row with these flags, this modification sequence and these keywords
 abbrev pub with_set : ℕ → ℕ → List ℕ → Row → Row
@@ -87,8 +112,8 @@ abbrev pub with_parts : List (List ℕ) → Row → Row
 with_parts parts r = record { uid = r.uid; flags = r.flags; keywords = r.keywords; parts = parts; modseq = r.modseq }
 
 -- how many rows have each set is counted, and each row has its parts
-pub record AreKept (sets : List Held) (sizes : List ℕ) (cells : Cells) : Type 0 where
-  pub shared : AreShared sets cells.cells
+pub record AreKept (held : List Pending) (sets : List Held) (sizes : List ℕ) (cells : Cells) : Type 0 where
+  pub shared : AreShared held sets cells.cells
   pub width : cells.width ≡ sum sizes
 
 -- so many rows less have these sets

@@ -1,6 +1,6 @@
 ghost use Rattle.std.specs.Prelude.{◌≡◌, ◌+◌, ◌-◌, ◌<◌, ◌^◌, [], ◌∷◌, ◌++◌, All, length, true, OnErr, OnOk};
 ghost use Rattle.dv_model.specs.Effects.{with_item};
-ghost use Rattle.dv_blocks.specs.Chunks.{AreChunks, IsChunk, cell_of, cells_of, with_rows};
+ghost use Rattle.dv_blocks.specs.Chunks.{AreBlocks, IsChunk, cell_of, cells_of, with_rows};
 
 use crate::block::Block;
 use crate::chunk::{Chunk, Entry};
@@ -8,8 +8,8 @@ use crate::finding::count;
 use dv_model::NoMemory;
 use std::alloc::Global;
 
-// A block has at most so many rows.
-const CAPACITY: usize = 256;
+/// A block has at most so many rows.
+pub const CAPACITY: usize = 256;
 
 // Whether the last block can have a row more.
 fn has_room(chunks: &[Chunk]) -> bool
@@ -40,14 +40,12 @@ fn push_last(chunks: &mut [Chunk], row: Entry, part: &[u8]) -> Result<(), NoMemo
 fn push_block(
     alloc: Global,
     chunks: &mut Vec<Chunk>,
-    start: u32,
     row: Entry,
     part: &[u8],
 ) -> Result<(), NoMemory>
     ensures ok { OnOk result (chunks.new.items
         ≡ chunks.old.items
         ++ record {
-          start = start;
           first = row.uid;
           block = record { width = length part.now; cells = cell_of row part.now ∷ [] };
         } ∷ []) }
@@ -56,7 +54,6 @@ fn push_block(
     let mut block = Block::new(alloc, part.len());
     block.push(row.uid, row.flags, row.modseq, row.words, part)?;
     chunks.push(Chunk {
-        start,
         first: row.uid,
         block,
     })?;
@@ -64,18 +61,28 @@ fn push_block(
 }
 
 /// Adds a row at the end. After `NoMemory` all is as before.
-pub fn push(alloc: Global, chunks: &mut Vec<Chunk>, row: Entry, part: &[u8]) -> Result<(), NoMemory>
-    requires are { AreChunks (length part.now) chunks.old.items }
+pub fn push(
+    alloc: Global,
+    starts: &mut Vec<u32>,
+    chunks: &mut Vec<Chunk>,
+    row: Entry,
+    part: &[u8],
+) -> Result<(), NoMemory>
+    requires are { AreBlocks (length part.now) starts.old.items chunks.old.items }
     requires above { All (λ c. c.uid < row.uid) (cells_of chunks.old.items) }
     requires below { row.uid < 2 ^ 32 - 1 }
     ensures cells { OnOk result (cells_of chunks.new.items
         ≡ cells_of chunks.old.items ++ cell_of row part.now ∷ []) }
-    ensures are { OnOk result (AreChunks (length part.now) chunks.new.items) }
-    ensures err { OnErr result (chunks.new.items ≡ chunks.old.items) }
+    ensures are { OnOk result (AreBlocks (length part.now) starts.new.items chunks.new.items) }
+    ensures starts { OnErr result (starts.new.items ≡ starts.old.items) }
+    ensures chunks { OnErr result (chunks.new.items ≡ chunks.old.items) }
 {
     if has_room(chunks) {
         return push_last(chunks.as_mut_slice(), row, part);
     }
-    let start = count(chunks) as u32;
-    push_block(alloc, chunks, start, row, part)
+    let start = count(starts, chunks) as u32;
+    starts.reserve(1)?;
+    push_block(alloc, chunks, row, part)?;
+    starts.push_reserved(start);
+    Ok(())
 }

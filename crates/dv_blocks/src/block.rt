@@ -71,6 +71,31 @@ impl Block {
         }
     }
 
+    /// No rows, with memory for so many.
+    pub fn with_room(alloc: Global, width: usize, rows: usize) -> Result<Block, NoMemory>
+        ensures { IfOk result (λ made. made ≡ record { width = width; cells = [] }) }
+    {
+        Ok(Block {
+            uids: Vec::with_capacity(alloc, rows)?,
+            flags: Vec::with_capacity(alloc, rows)?,
+            modseqs: Vec::with_capacity(alloc, rows)?,
+            words: Vec::with_capacity(alloc, rows)?,
+            parts: Parts::with_room(alloc, width, rows)?,
+        })
+    }
+
+    /// Whether the rows could do with four fifths of the memory.
+    pub fn is_loose(&self) -> bool {
+        self.uids.capacity() / 5 > self.uids.len() / 4
+    }
+
+    /// How many bytes of parts each row has.
+    pub fn width(&self) -> usize
+        ensures { result ≡ self.now.width }
+    {
+        self.parts.width()
+    }
+
     /// The UIDs of the rows.
     pub fn uids(&self) -> &[u32]
         ensures { result.now ≡ map (λ c. c.uid) self.now.cells }

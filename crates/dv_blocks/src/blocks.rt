@@ -8,6 +8,7 @@ use crate::adding::push;
 use crate::changing::{set, set_part};
 use crate::chunk::{Chunk, Entry};
 use crate::finding::{count, place_from};
+use crate::joining::settle;
 use crate::reading::{entry, part};
 use crate::removing::remove;
 use dv_model::NoMemory;
@@ -20,6 +21,8 @@ use std::marker::Model;
 pub struct Blocks {
     alloc: Global,
     width: usize,
+    // The number of rows before each block.
+    starts: Vec<u32>,
     chunks: Vec<Chunk>,
 }
 
@@ -28,11 +31,11 @@ impl Model for Blocks {
 
     ghost Value = { Cells };
 
-    ghost use Rattle.dv_blocks.specs.Chunks.{AreChunks, cells_of};
+    ghost use Rattle.dv_blocks.specs.Chunks.{AreBlocks, cells_of};
 
     ghost view = { λ b. record { width = b.width; cells = cells_of b.chunks.items } };
 
-    ghost invariant = { λ b. AreChunks b.width b.chunks.items };
+    ghost invariant = { λ b. AreBlocks b.width b.starts.items b.chunks.items };
 }
 
 impl Blocks {
@@ -43,6 +46,7 @@ impl Blocks {
         Blocks {
             alloc,
             width,
+            starts: Vec::new(alloc),
             chunks: Vec::new(alloc),
         }
     }
@@ -59,7 +63,7 @@ impl Blocks {
         ensures is { result ≡ length self.now.cells }
         ensures rising { AreRising (map (λ c. c.uid) self.now.cells) }
     {
-        count(&self.chunks) as u32
+        count(&self.starts, &self.chunks) as u32
     }
 
     /// The row at a place, counted from 0, without its parts.
@@ -67,7 +71,7 @@ impl Blocks {
         requires { at < length self.now.cells }
         ensures { (d : Cell) → IsEntry result (get_or self.now.cells at d) }
     {
-        entry(&self.chunks, at as usize)
+        entry(&self.starts, &self.chunks, at as usize)
     }
 
     /// The parts of the row at a place, one after another.
@@ -76,7 +80,7 @@ impl Blocks {
         ensures is { (d : Cell) → result.now ≡ (get_or self.now.cells at d).part }
         ensures width { length result.now ≡ self.now.width }
     {
-        part(&self.chunks, at as usize)
+        part(&self.starts, &self.chunks, at as usize)
     }
 
     /// The place of the first row whose UID isn't below this, found by halves.
@@ -84,7 +88,7 @@ impl Blocks {
         ensures is { IsPlace (map (λ c. c.uid) self.now.cells) uid result }
         ensures inside { result ≤ length self.now.cells }
     {
-        place_from(&self.chunks, uid) as u32
+        place_from(&self.starts, &self.chunks, uid) as u32
     }
 
     /// Adds a row at the end. After `NoMemory` all is as before.
@@ -98,7 +102,7 @@ impl Blocks {
         }) }
         ensures err { OnErr result (self.new ≡ self.old) }
     {
-        push(self.alloc, &mut self.chunks, row, part)
+        push(self.alloc, &mut self.starts, &mut self.chunks, row, part)
     }
 
     /// Gives the row at a place these flags, this modification sequence and this set of keywords.
@@ -109,7 +113,14 @@ impl Blocks {
           cells = with_item at (with_values flags modseq words) self.old.cells;
         } }
     {
-        set(&mut self.chunks, at as usize, flags, modseq, words);
+        set(
+            &self.starts,
+            &mut self.chunks,
+            at as usize,
+            flags,
+            modseq,
+            words,
+        );
     }
 
     /// Gives the row at a place these parts.
@@ -121,11 +132,12 @@ impl Blocks {
           cells = with_item at (with_part part.now) self.old.cells;
         } }
     {
-        set_part(&mut self.chunks, at as usize, part);
+        set_part(&self.starts, &mut self.chunks, at as usize, part);
     }
 
-    /// Removes the rows from one place to another, without memory. It costs by their blocks and the
-    /// number of blocks.
+    /// Removes the rows from one place to another, without memory. It costs by their blocks, and
+    /// one pass over the numbers of rows before the blocks. Where there is memory, a block that has
+    /// much room left is made anew, and two neighbours that one block can hold become one.
     pub fn remove(&mut self, from: u32, to: u32)
         requires { from ≤ to }
         ensures { self.new ≡ record {
@@ -133,7 +145,18 @@ impl Blocks {
           cells = remove_range self.old.cells from to;
         } }
     {
-        remove(&mut self.chunks, from as usize, to as usize);
+        remove(
+            &mut self.starts,
+            &mut self.chunks,
+            from as usize,
+            to as usize,
+        );
+        settle(
+            self.alloc,
+            &mut self.starts,
+            &mut self.chunks,
+            from as usize,
+        );
     }
 
     // The same rows in blocks that are full.

@@ -8,6 +8,8 @@ mod changing;
 mod chunk;
 mod columns;
 mod finding;
+mod holding;
+mod joining;
 mod numbers;
 mod parts;
 mod reading;

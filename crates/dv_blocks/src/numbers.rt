@@ -1,7 +1,8 @@
 ghost use Rattle.std.specs.Prelude.{◌≡◌, ◌≤◌, ◌<◌, ◌^◌, ◌-◌, ℕ, List, [], ◌∷◌, ◌++◌, All, OnErr, OnOk, length, map};
 ghost use Rattle.std.specs.List.{between, remove_range};
 ghost use Rattle.dv_model.specs.Effects.{with_item};
-ghost use Rattle.dv_blocks.specs.Shared.{AreLess, AreShared, cut, row_of, with_flags, with_parts, with_set};
+ghost use Rattle.dv_blocks.specs.Shared.{AreLess, AreShared, cut, due_of, row_of, with_flags, with_parts, with_set};
+ghost use Rattle.dv_blocks.specs.declared.chunk.Pending.{Pending};
 ghost use Rattle.dv_blocks.specs.declared.sets.Held.{Held};
 
 use crate::blocks::Blocks;
@@ -20,11 +21,14 @@ pub fn push_row(
     keywords: &[u32],
     part: &[u8],
 ) -> Result<(), NoMemory>
-    requires shared { AreShared sets.old.items blocks.old.cells }
+    requires shared { (hs : List Pending) × AreShared hs sets.old.items blocks.old.cells }
     requires above { All (λ c. c.uid < row.uid) blocks.old.cells }
     requires below { row.uid < 2 ^ 32 - 1 }
     requires width { length part.now ≡ blocks.old.width }
-    ensures shared { AreShared sets.new.items blocks.new.cells }
+    ensures shared { (hs : List Pending) → AreShared hs sets.old.items blocks.old.cells →
+        AreShared hs sets.new.items blocks.new.cells }
+    ensures held { (hs : List Pending) → AreShared hs sets.old.items blocks.old.cells →
+        map (due_of sets.new.items) hs ≡ map (due_of sets.old.items) hs }
     ensures width { blocks.new.width ≡ blocks.old.width }
     ensures ok { OnOk result ((sizes : List ℕ) →
         map (row_of sets.new.items sizes) blocks.new.cells
@@ -40,9 +44,6 @@ pub fn push_row(
         map (row_of sets.new.items sizes) blocks.new.cells
         ≡ map (row_of sets.old.items sizes) blocks.old.cells) }
 {
-    if blocks.len() == u32::MAX {
-        return Err(NoMemory);
-    }
     let number = hold(alloc, sets, free, keywords)?;
     let row = Entry {
         uid: row.uid,
@@ -71,9 +72,12 @@ pub fn set_row(
     modseq: u64,
     keywords: &[u32],
 ) -> Result<(), NoMemory>
-    requires shared { AreShared sets.old.items blocks.old.cells }
+    requires shared { (hs : List Pending) × AreShared hs sets.old.items blocks.old.cells }
     requires inside { at < length blocks.old.cells }
-    ensures shared { AreShared sets.new.items blocks.new.cells }
+    ensures shared { (hs : List Pending) → AreShared hs sets.old.items blocks.old.cells →
+        AreShared hs sets.new.items blocks.new.cells }
+    ensures held { (hs : List Pending) → AreShared hs sets.old.items blocks.old.cells →
+        map (due_of sets.new.items) hs ≡ map (due_of sets.old.items) hs }
     ensures width { blocks.new.width ≡ blocks.old.width }
     ensures ok { OnOk result ((sizes : List ℕ) →
         map (row_of sets.new.items sizes) blocks.new.cells
@@ -83,9 +87,6 @@ pub fn set_row(
         map (row_of sets.new.items sizes) blocks.new.cells
         ≡ map (row_of sets.old.items sizes) blocks.old.cells) }
 {
-    if blocks.len() == u32::MAX {
-        return Err(NoMemory);
-    }
     let number = hold(alloc, sets, free, keywords)?;
     let old = blocks.entry(at).words;
     blocks.set(at, flags, modseq, number);
@@ -97,8 +98,8 @@ pub fn set_row(
 pub fn set_flags(blocks: &mut Blocks, at: u32, flags: u8, modseq: u64)
     requires { at < length blocks.old.cells }
     ensures width { blocks.new.width ≡ blocks.old.width }
-    ensures shared { (sets : List Held) →
-        AreShared sets blocks.old.cells → AreShared sets blocks.new.cells }
+    ensures shared { (hs : List Pending) (sets : List Held) →
+        AreShared hs sets blocks.old.cells → AreShared hs sets blocks.new.cells }
     ensures rows { (sets : List Held) (sizes : List ℕ) →
         map (row_of sets sizes) blocks.new.cells
         ≡ with_item at (with_flags flags modseq) (map (row_of sets sizes) blocks.old.cells) }
@@ -112,8 +113,8 @@ pub fn set_parts(blocks: &mut Blocks, at: u32, part: &[u8])
     requires inside { at < length blocks.old.cells }
     requires width { length part.now ≡ blocks.old.width }
     ensures width { blocks.new.width ≡ blocks.old.width }
-    ensures shared { (sets : List Held) →
-        AreShared sets blocks.old.cells → AreShared sets blocks.new.cells }
+    ensures shared { (hs : List Pending) (sets : List Held) →
+        AreShared hs sets blocks.old.cells → AreShared hs sets blocks.new.cells }
     ensures rows { (sets : List Held) (sizes : List ℕ) →
         map (row_of sets sizes) blocks.new.cells
         ≡ with_item at (with_parts (cut sizes part.now))
@@ -131,7 +132,7 @@ fn release_rows(
     from: u32,
     to: u32,
 )
-    requires shared { AreShared sets.old blocks.now.cells }
+    requires shared { (hs : List Pending) × AreShared hs sets.old blocks.now.cells }
     requires order { from ≤ to }
     requires inside { to ≤ length blocks.now.cells }
     ensures { AreLess sets.old sets.new (between from to blocks.now.cells) }
@@ -151,10 +152,13 @@ pub fn remove_rows(
     from: u32,
     to: u32,
 )
-    requires shared { AreShared sets.old blocks.old.cells }
+    requires shared { (hs : List Pending) × AreShared hs sets.old blocks.old.cells }
     requires order { from ≤ to }
     requires inside { to ≤ length blocks.old.cells }
-    ensures shared { AreShared sets.new blocks.new.cells }
+    ensures shared { (hs : List Pending) → AreShared hs sets.old blocks.old.cells →
+        AreShared hs sets.new blocks.new.cells }
+    ensures held { (hs : List Pending) → AreShared hs sets.old blocks.old.cells →
+        map (due_of sets.new) hs ≡ map (due_of sets.old) hs }
     ensures width { blocks.new.width ≡ blocks.old.width }
     ensures rows { (sizes : List ℕ) → map (row_of sets.new sizes) blocks.new.cells
         ≡ remove_range (map (row_of sets.old sizes) blocks.old.cells) from to }

@@ -78,6 +78,24 @@ impl Parts {
         }
     }
 
+    /// No strings, with memory for so many.
+    pub fn with_room(alloc: Global, width: usize, count: usize) -> Result<Parts, NoMemory>
+        ensures { IfOk result (λ made. made ≡ record { width = width; items = [] }) }
+    {
+        Ok(Parts {
+            bytes: Vec::with_capacity(alloc, count.saturating_mul(width))?,
+            width,
+            count: 0,
+        })
+    }
+
+    /// The length of each string.
+    pub fn width(&self) -> usize
+        ensures { result ≡ self.now.width }
+    {
+        self.width
+    }
+
     /// The string at a place.
     pub fn get(&self, at: usize) -> &[u8]
         requires { at < length self.now.items }

@@ -6,12 +6,12 @@ use crate::chunk::{Chunk, Entry};
 use crate::finding::place_in;
 
 /// The row at a place, without its parts.
-pub fn entry(chunks: &[Chunk], at: usize) -> Entry
-    requires counted { AreCounted chunks.now }
+pub fn entry(starts: &[u32], chunks: &[Chunk], at: usize) -> Entry
+    requires counted { AreCounted starts.now chunks.now }
     requires inside { at < length (cells_of chunks.now) }
     ensures { (d : Cell) → IsEntry result (get_or (cells_of chunks.now) at d) }
 {
-    let (block, offset) = place_in(chunks, at);
+    let (block, offset) = place_in(starts, at);
     let block = &chunks[block].block;
     Entry {
         uid: block.uids()[offset],
@@ -22,12 +22,12 @@ pub fn entry(chunks: &[Chunk], at: usize) -> Entry
 }
 
 /// The parts of the row at a place.
-pub fn part(chunks: &[Chunk], at: usize) -> &[u8]
-    requires counted { AreCounted chunks.now }
+pub fn part<'a>(starts: &[u32], chunks: &'a [Chunk], at: usize) -> &'a [u8]
+    requires counted { AreCounted starts.now chunks.now }
     requires inside { at < length (cells_of chunks.now) }
     ensures is { (d : Cell) → result.now ≡ (get_or (cells_of chunks.now) at d).part }
     ensures width { (w : ℕ) → All (IsChunk w) chunks.now → length result.now ≡ w }
 {
-    let (block, offset) = place_in(chunks, at);
+    let (block, offset) = place_in(starts, at);
     chunks[block].block.part(offset)
 }

@@ -1,11 +1,12 @@
-ghost use Rattle.std.specs.Prelude.{◌≡◌, ◌≤◌, ◌<◌, ◌^◌, ◌-◌, [], ◌∷◌, ◌++◌, ℕ, All, IfOk, OnErr, OnOk, Some, length, map, slice_get, sum, true};
+ghost use Rattle.std.specs.Prelude.{◌≡◌, ◌≤◌, ◌<◌, ◌^◌, ◌-◌, [], ◌∷◌, ◌++◌, ℕ, All, IfOk, OnErr, OnOk, Some, fold, length, map, slice_get, sum, true};
 ghost use Rattle.std.specs.List.{remove_range};
 ghost use Rattle.dv_model.specs.Effects.{with_item};
 ghost use Rattle.dv_blocks.specs.Chunks.{AreRising, IsPlace};
-ghost use Rattle.dv_blocks.specs.Shared.{Rows, cut, with_flags, with_parts, with_set};
+ghost use Rattle.dv_blocks.specs.Shared.{Rows, cut, with_due, with_flags, with_parts, with_set};
 
 use crate::blocks::Blocks;
-use crate::chunk::Entry;
+use crate::chunk::{Entry, Pending};
+use crate::holding::{hold_row, let_go, put_rows};
 use crate::numbers::{push_row, remove_rows, set_flags, set_parts, set_row};
 use crate::row::RowView;
 use crate::sets::{Held, places_of};
@@ -22,27 +23,29 @@ pub struct BlockRows {
     blocks: Blocks,
     sets: Vec<Held>,
     free: Vec<u32>,
+    held: Vec<Pending>,
 }
 
 impl Model for BlockRows {
     ghost use Rattle.std.specs.Prelude.{map};
-    ghost use Rattle.dv_blocks.specs.Shared.{AreKept, Rows, row_of};
+    ghost use Rattle.dv_blocks.specs.Shared.{AreKept, Rows, due_of, row_of};
 
     ghost Value = { Rows };
 
     ghost view = { λ r. record {
       sizes = r.sizes.items;
       rows = map (row_of r.sets.items r.sizes.items) r.blocks.cells;
+      held = map (due_of r.sets.items) r.held.items;
     } };
 
-    ghost invariant = { λ r. AreKept r.sets.items r.sizes.items r.blocks };
+    ghost invariant = { λ r. AreKept r.held.items r.sets.items r.sizes.items r.blocks };
 }
 
 impl BlockRows {
     /// No rows, with one part of each of these sizes. Takes no memory.
     pub fn new(alloc: Global, sizes: Vec<u16>) -> BlockRows
         requires { sum sizes.items < 2 ^ 32 }
-        ensures { result ≡ record { sizes = sizes.items; rows = [] } }
+        ensures { result ≡ record { sizes = sizes.items; rows = []; held = [] } }
     {
         let width = total(&sizes);
         BlockRows {
@@ -51,6 +54,7 @@ impl BlockRows {
             blocks: Blocks::new(alloc, width),
             sets: Vec::new(alloc),
             free: Vec::new(alloc),
+            held: Vec::new(alloc),
         }
     }
 
@@ -115,6 +119,7 @@ impl BlockRows {
         requires width { length parts.now ≡ sum self.old.sizes }
         ensures ok { OnOk result (self.new ≡ record {
           sizes = self.old.sizes;
+          held = self.old.held;
           rows = self.old.rows ++ record {
             uid = uid;
             flags = flags;
@@ -148,6 +153,7 @@ impl BlockRows {
         requires { at < length self.old.rows }
         ensures ok { OnOk result (self.new ≡ record {
           sizes = self.old.sizes;
+          held = self.old.held;
           rows = with_item at (with_set flags modseq keywords.now) self.old.rows;
         }) }
         ensures err { OnErr result (self.new ≡ self.old) }
@@ -164,11 +170,69 @@ impl BlockRows {
         )
     }
 
+    /// Holds these keywords for the row at a place: all memory that the row takes with them. After
+    /// `NoMemory` all is as before.
+    pub fn hold(&mut self, at: u32, keywords: &[u32]) -> Result<(), NoMemory>
+        ensures ok { OnOk result (self.new ≡ record {
+          sizes = self.old.sizes;
+          rows = self.old.rows;
+          held = self.old.held ++ record { at = at; keywords = keywords.now } ∷ [];
+        }) }
+        ensures err { OnErr result (self.new ≡ self.old) }
+    {
+        hold_row(
+            self.alloc,
+            &mut self.sets,
+            &mut self.free,
+            &mut self.held,
+            at,
+            keywords,
+        )
+    }
+
+    /// Gives rows the keywords that are held for them, in their order, and this modification
+    /// sequence, without memory.
+    pub fn put(&mut self, modseq: u64)
+        ensures { self.new ≡ record {
+          sizes = self.old.sizes;
+          rows = fold (with_due modseq) self.old.rows self.old.held;
+          held = [];
+        } }
+    {
+        put_rows(
+            self.alloc,
+            &mut self.blocks,
+            self.sets.as_mut_slice(),
+            &mut self.free,
+            &self.held,
+            modseq,
+        );
+        self.held = Vec::new(self.alloc);
+    }
+
+    /// Lets go of the keywords that are held for rows, without memory.
+    pub fn let_go(&mut self)
+        ensures { self.new ≡ record {
+          sizes = self.old.sizes;
+          rows = self.old.rows;
+          held = [];
+        } }
+    {
+        let_go(
+            self.alloc,
+            self.sets.as_mut_slice(),
+            &mut self.free,
+            &self.held,
+        );
+        self.held = Vec::new(self.alloc);
+    }
+
     /// Gives the row at a place these flags and this modification sequence, without memory.
     pub fn set_flags(&mut self, at: u32, flags: u8, modseq: u64)
         requires { at < length self.old.rows }
         ensures { self.new ≡ record {
           sizes = self.old.sizes;
+          held = self.old.held;
           rows = with_item at (with_flags flags modseq) self.old.rows;
         } }
     {
@@ -181,6 +245,7 @@ impl BlockRows {
         requires width { length parts.now ≡ sum self.old.sizes }
         ensures { self.new ≡ record {
           sizes = self.old.sizes;
+          held = self.old.held;
           rows = with_item at (with_parts (cut self.old.sizes parts.now)) self.old.rows;
         } }
     {
@@ -202,6 +267,7 @@ impl BlockRows {
         requires inside { to ≤ length self.old.rows }
         ensures { self.new ≡ record {
           sizes = self.old.sizes;
+          held = self.old.held;
           rows = remove_range self.old.rows from to;
         } }
     {

@@ -28,11 +28,12 @@ pub fn places_of(sets: &[Held], number: u32) -> &[u32]
     sets[at].places.as_slice()
 }
 
-// Whether rows have the set, and it is this one.
+// Whether rows have the set, one more can have it, and it is this one.
 fn is_same(set: &Held, places: &[u32]) -> bool
-    ensures { result ≡ true → (0 < set.now.uses) × (set.now.places ≡ places.now) }
+    ensures { result ≡ true → (0 < set.now.uses) × (set.now.uses + 1 < 2 ^ 32)
+        × (set.now.places ≡ places.now) }
 {
-    set.uses > 0 && set.places.as_slice() == places
+    set.uses > 0 && set.uses < u32::MAX && set.places.as_slice() == places
 }
 
 // The place of a set that rows have, among the first ones.
@@ -118,7 +119,6 @@ pub fn hold(
     free: &mut Vec<u32>,
     places: &[u32],
 ) -> Result<u32, NoMemory>
-    requires { (k : ℕ) → uses_of sets.old.items k + 1 < 2 ^ 32 }
     ensures ok { IfOk result (λ n. IsHeld sets.old.items sets.new.items n places.now) }
     ensures err { OnErr result (sets.new.items ≡ sets.old.items) }
 {

@@ -12,6 +12,8 @@ enum Action {
     Remove(u32, u32),
     // the row at a place gets these flags, this modification sequence and these keywords
     Set(u32, u8, u64, &'static [u32]),
+    // these keywords are held for the row at a place, and put with this modification sequence
+    Put(u32, u64, &'static [u32]),
 }
 
 // A row of a plain list. Its parts are made of its UID.
@@ -82,6 +84,24 @@ fn set(
     Ok(())
 }
 
+fn put(both: &mut Both, at: u32, modseq: u64, keywords: &'static [u32]) -> Result<(), NoMemory> {
+    if at as usize >= both.plain.len() {
+        return Err(NoMemory);
+    }
+    both.rows.hold(at, &[3, 5])?;
+    both.rows.let_go();
+    both.rows.hold(at, keywords)?;
+    both.rows.put(modseq);
+    let old = both.plain[at as usize];
+    both.plain[at as usize] = Plain {
+        uid: old.uid,
+        flags: old.flags,
+        modseq,
+        keywords,
+    };
+    Ok(())
+}
+
 fn act(both: &mut Both, action: Action) -> Result<(), NoMemory> {
     match action {
         Action::Push(rows, keywords) => {
@@ -92,6 +112,7 @@ fn act(both: &mut Both, action: Action) -> Result<(), NoMemory> {
         }
         Action::Remove(from, to) => remove(both, from, to),
         Action::Set(at, flags, modseq, keywords) => set(both, at, flags, modseq, keywords),
+        Action::Put(at, modseq, keywords) => put(both, at, modseq, keywords),
     }
 }
 
@@ -122,13 +143,15 @@ fn are_same(rows: &BlockRows, plain: &[Plain]) -> bool {
 
 // More rows than a block has, of which some leave from within a block, over several of them, and at
 // both ends; and keywords that rows share.
-const ACTIONS: [Action; 14] = [
+const ACTIONS: [Action; 16] = [
     Action::Push(700, &[]),
     Action::Set(3, 8, 5000, &[1, 4]),
     Action::Set(600, 9, 5001, &[1, 4]),
     Action::Set(3, 0, 5002, &[2]),
     Action::Remove(5, 9),
     Action::Remove(100, 600),
+    Action::Put(4, 6000, &[1, 4]),
+    Action::Put(4, 6001, &[]),
     Action::Push(300, &[1, 4]),
     Action::Remove(0, 1),
     Action::Set(490, 4, 5003, &[]),

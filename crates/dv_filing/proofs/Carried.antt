@@ -1,11 +1,11 @@
 -- A write as a whole: what comes before its files, these, and the group.
-use Rattle.std.proofs.Common.{◌≡◌, ◌≢◌, ◌⊎◌, inl, inr, ⊎_elim, ℕ, List, Option, Some, None, Result, Ok, Err, OnOk, refl, sym, ◌∙◌, ap, subst}
-use Rattle.std.specs.Prelude.{IsSome}
+use Rattle.std.proofs.Common.{◌≡◌, ◌≢◌, ◌⊎◌, inl, inr, ⊎_elim, ℕ, List, [], Option, Some, None, Result, Ok, Err, OnOk, refl, sym, ◌∙◌, ap, subst}
+use Rattle.std.specs.Prelude.{IsSome, unwrap_or}
 use Rattle.dv_model.specs.declared.types.Mailbox.{Mailbox}
 use Rattle.dv_shelf.specs.declared.shelf.Name.{Name}
 use Rattle.dv_shelf.specs.declared.shelf.Name.TheVariants as name
 use Rattle.dv_shelf.specs.Crashes.{LeavesOnly}
-use Rattle.dv_shelf.specs.Folders.{Folder}
+use Rattle.dv_shelf.specs.Folders.{Folder, patched}
 use Rattle.dv_shelf.specs.Sees.{SeesFolder}
 use Rattle.dv_shelf.proofs.Moments.{joined, weaker}
 use Rattle.dv_logfile.specs.Gates.{FromOneOf}
@@ -22,8 +22,9 @@ use Rattle.dv_writing.specs.Ways.{IsDue, IsOfLog, KeepsBeside, MakesWay, held, r
 use Rattle.dv_writing.proofs.Opened.{may_open}
 use Rattle.dv_writing.proofs.Ready.{repaired_indexid, repaired_live, same_indexid, same_live}
 use Rattle.dv_filing.specs.declared.steps.Files.{Files}
+use Rattle.dv_filing.specs.declared.steps.Files.TheVariants as kind
 use Rattle.dv_filing.specs.declared.steps.Steps.{Steps}
-use Rattle.dv_filing.specs.Files.{IsNamed, IsWriting, WritesFiles}
+use Rattle.dv_filing.specs.Files.{HasWritten, IsNamed, IsWriting, IsWritten, WritesFiles}
 use Rattle.dv_filing.specs.Standing.{Fits, Gives, MayGive, Stands}
 use Rattle.dv_filing.specs.Ways.{MakesWayQuietly, MayGiveOn}
 use Rattle.dv_filing.specs.Writes.{CarriesOut, IsWriteOf, KeepsThrough, KeepsUnnamed, MayGiveWrite, WritesStorage}
@@ -113,6 +114,18 @@ module _ (steps : Steps) (old way : Folder) (keeps : KeepsBeside steps.turn old 
     pub unnamed_behind : (new : Folder) → KeepsOthers between new → KeepsUnnamed steps old new
     unnamed_behind new log n free other = log n (of_log_not steps.turn n other) ∙ others n free ∙ keeps n other
 
+  -- the file that was written stays so behind the group
+  pub written_behind : (d between new : Folder) → IsWritten steps.files way d between → KeepsOthers between new → HasWritten steps.files old new
+  written_behind d between new is log = by_files steps.files is
+    where
+      stays : (n : ℕ) → new (name.Mail n) ≡ between (name.Mail n)
+      stays n = log (name.Mail n) (λ e. cc)
+
+      by_files : (files : Files) → IsWritten files way d between → HasWritten files old new
+      by_files kind.Nothing is = tt
+      by_files (kind.Text file at text) is = stays file ∙ is.there ∙ ap (λ (o : Option (List ℕ)). Some (patched (unwrap_or o []) at text)) (keeps (name.Mail file) (λ e. e))
+      by_files (kind.File file text) is = stays file ∙ is.there
+
 -- ---- what a folder gives
 
 -- at the ready chain's place
@@ -140,6 +153,7 @@ module _ {S : Type 0} (sees : SeesFolder S) (messages next : Messages) (debt : O
     ok = tt;
     err = (quiet.err.0, quiet.err.2, inl (quiet.err.1, quiet.err.3));
     any_moment = weaker sees old way (MayGiveOn messages debt steps.turn chain) May quiet.since (λ c gives. inl gives);
+    written = tt;
     others = others;
   }
 
@@ -185,6 +199,7 @@ module _ {S : Type 0} (sees : SeesFolder S) (messages next : Messages) (debt : O
         ok = tt;
         err = (Nothing, fits_none, inl (inr (inl refl), stands_between));
         any_moment = since_between;
+        written = tt;
         others = others;
       }
 
@@ -201,8 +216,9 @@ module _ {S : Type 0} (sees : SeesFolder S) (messages next : Messages) (debt : O
         since_new = joined sees old between new May since_between (weaker sees between new _ May since group_gives)
 
         -- the group was committed
-        pub storage_done : {F : Type 0} (done : Committed) → Stands sees next Nothing new_chain new → KeepsUnnamed steps (sees.files old) (sees.files new) → WritesStorage sees messages next debt after text steps (held old chain owed) (held new new_chain left) {E = F} (Ok done)
-        storage_done done stands others = record { ok = stands; err = tt; any_moment = since_new; others = others }
+        pub storage_done : {F : Type 0} (done : Committed) → Stands sees next Nothing new_chain new → HasWritten steps.files (sees.files old) (sees.files new) → KeepsUnnamed steps (sees.files old) (sees.files new)
+            → WritesStorage sees messages next debt after text steps (held old chain owed) (held new new_chain left) {E = F} (Ok done)
+        storage_done done stands written others = record { ok = stands; err = tt; any_moment = since_new; written = written; others = others }
 
         -- or that failed
         pub storage_failed : {F : Type 0} (f : F)
@@ -212,5 +228,6 @@ module _ {S : Type 0} (sees : SeesFolder S) (messages next : Messages) (debt : O
           ok = tt;
           err = (some.0, subst (λ (o : Option Turn). Fits o new_chain.live.mailbox some.0) (sym value.ok.1) some.1, ⊎_elim (λ none. inl (inr (inl none.0), none.1)) (λ pending. inr pending) some.2);
           any_moment = since_new;
+          written = tt;
           others = others;
         }

@@ -38,6 +38,14 @@ IsWritten files.Nothing read d c = c ≡ d
 IsWritten (files.Text file at text) read d c = HasText file at text read d c
 IsWritten (files.File file text) read d c = HasFile file text d c
 
+-- what was written stands in a folder: a text at its place in the file from before, whose other
+-- bytes are as they were, or a whole file
+abbrev pub HasWritten : Files → Folder → Folder → Type 0
+HasWritten files.Nothing old new = ⊤
+HasWritten (files.Text file at text) old new =
+    new (name.Mail file) ≡ Some (patched (contents old (name.Mail file)) at text)
+HasWritten (files.File file text) old new = new (name.Mail file) ≡ Some text
+
 -- it is the file that is written
 abbrev pub IsNamed : Files → Name → Type 0
 IsNamed files.Nothing n = ⊥

@@ -18,7 +18,7 @@ use Rattle.dv_writing.specs.Repairing.{IsOwing}
 use Rattle.dv_writing.specs.Ways.{Held, IsDue, IsOfLog, StopsOnWay, ready}
 use Rattle.dv_filing.specs.declared.steps.Files.{Files}
 use Rattle.dv_filing.specs.declared.steps.Steps.{Steps}
-use Rattle.dv_filing.specs.Files.{HasRoom, IsNamed, IsWriting, IsWritten}
+use Rattle.dv_filing.specs.Files.{HasRoom, HasWritten, IsNamed, IsWriting, IsWritten}
 use Rattle.dv_filing.specs.Standing.{Fits, Gives, Stands}
 use Rattle.dv_filing.specs.Ways.{IsOwedOnWay, MayGiveOn}
 use Rattle.dv_maps.specs.Texts.{KeepsTexts, Messages}
@@ -96,7 +96,7 @@ KeepsUnnamed steps old new = (n : Name) → (IsNamed steps.files n → ⊥)
 
 -- From rest to rest: behind Ok with the group, and nothing is owed; behind an error as before, with
 -- what is left. A crash at any moment leaves the map from before or with the group, whole.
--- Files that no step names stay.
+-- Behind Ok the steps' file is written; files that no step names stay.
 pub record WritesStorage {S : Type 0} (sees : SeesFolder S) (messages next : Messages)
     (owed : Owed) (after : Mailbox) (text : List ℕ) (steps : Steps) (old new : Held S)
     {T E : Type 0} (result : Result T E) : Type 0 where
@@ -106,4 +106,6 @@ pub record WritesStorage {S : Type 0} (sees : SeesFolder S) (messages next : Mes
       × StandsLeft sees messages next owed text old.chain.live.mailbox after now new)
   pub any_moment : LeavesOnly sees old.shelf new.shelf
       (MayGiveWrite messages next owed after old.owed text steps old.chain)
+  pub written : OnOk result
+      (HasWritten steps.files (sees.files old.shelf) (sees.files new.shelf))
   pub others : KeepsUnnamed steps (sees.files old.shelf) (sees.files new.shelf)

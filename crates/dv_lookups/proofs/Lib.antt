@@ -8,3 +8,5 @@ pub mod Holding
 pub mod RowSteps
 pub mod Told
 pub mod Picking
+pub mod Fielded
+pub mod Renewing

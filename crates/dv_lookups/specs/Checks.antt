@@ -16,11 +16,14 @@ use Rattle.dv_openings.specs.TrueCaches.{cached_rows, known_in}
 abbrev pub has_sizes : Known → Bool
 has_sizes known = nat_le known.physical 2147483648 && nat_le known.virtual_size 2147483648
 
+-- what is known of a message is held with such sizes alone
+abbrev pub kept_of : Known → Option Known
+kept_of known = if has_sizes known then Some known else None
+
 -- what is held of a message until it is written
 abbrev pub held_of : Mail → Option Known
 held_of Damaged = None
-held_of (Held message) =
-    if has_sizes (known_in message) then Some (known_in message) else None
+held_of (Held message) = kept_of (known_in message)
 
 -- the row of a message
 abbrev pub held_row : (ℕ → Mail) → ℕ → CacheRow
@@ -33,6 +36,10 @@ held_rows mail rows = map (λ row. held_row mail row.uid) rows
 -- the text of a file of so many rows, of which the rows of these messages were added
 abbrev pub held_text : (ℕ → Mail) → ℕ → List Row → Begun
 held_text mail count rows = begun (32 + 16 * count) (held_rows mail rows)
+
+-- the UIDs of the mailbox's rows
+abbrev pub row_uids : Mailbox → List ℕ
+row_uids m = map (λ row. row.uid) m.rows
 
 -- ---- the file
 

@@ -1,5 +1,5 @@
 -- What a command asks of many messages.
-use Rattle.std.specs.Prelude.{◌≡◌, ℕ, ◌&&◌, Bool, true, false, not, List, [], count_by, if◌then◌else◌, ⊤}
+use Rattle.std.specs.Prelude.{◌≡◌, ℕ, ◌&&◌, Bool, true, not, List, [], count_by, if◌then◌else◌, ⊤}
 use Rattle.dv_model.specs.declared.types.Command.{Command}
 use Rattle.dv_model.specs.declared.types.Mailbox.{Mailbox}
 use Rattle.dv_model.specs.Sessions.{has_uid, reads_mail, uids_looked_at}
@@ -24,13 +24,13 @@ IsNamed uid other = ⊤
 abbrev pub uids_read : Command → View → List ℕ
 uids_read c view = if reads_mail c then uids_looked_at c view else []
 
--- all that it asks of a message can stand in the cache file
-abbrev pub CanStand : Command → Type 0
-CanStand c = (asked : Asked) → Asks c asked → can_stand asked ≡ true
+-- whether all that is asked can stand in the cache file
+abbrev pub AskedStands : Asked → Bool → Type 0
+AskedStands asked can = can_stand asked ≡ can
 
--- not all of it can
-abbrev pub CannotStand : Command → Type 0
-CannotStand c = (asked : Asked) → Asks c asked → can_stand asked ≡ false
+-- whether all that a command asks of a message can
+abbrev pub CommandStands : Command → Bool → Type 0
+CommandStands c can = (asked : Asked) → Asks c asked → AskedStands asked can
 
 -- for each UID that the mailbox has one message file at most is read, but for these
 abbrev pub ReadsBut : (ℕ → Bool) → Mailbox → List ℕ → ℕ → ℕ → Type 0

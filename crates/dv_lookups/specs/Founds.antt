@@ -7,6 +7,7 @@ use Rattle.dv_model.specs.Journals.{Mail, Held, Damaged}
 use Rattle.dv_model.specs.Sessions.{has_uid}
 use Rattle.dv_shelf.specs.declared.shelf.Name.TheVariants as name
 use Rattle.dv_shelf.specs.Folders.{Folder}
+use Rattle.dv_cache.specs.Caches.{HasFive}
 use Rattle.dv_files.specs.Reading.{IsTakenAs, mail_at}
 use Rattle.dv_files.specs.declared.reading.MailFile.TheVariants as file
 use Rattle.dv_openings.specs.TrueCaches.{known_in}
@@ -69,6 +70,11 @@ IsSourceOf (Some Damaged) source.Damaged = ⊤
 IsSourceOf (Some (Held message)) (source.Cached known) = known ≡ known_in message
 IsSourceOf (Some (Held message)) (source.Held m) = m.bytes ≡ message
 IsSourceOf mail other = ⊥
+
+-- what the cache file has, has its five fields
+abbrev pub IsWhole : Source → Type 0
+IsWhole (source.Cached known) = HasFive (Some known)
+IsWhole other = ⊤
 
 -- the cache file is the source only where it may be
 abbrev pub IsFrom : Bool → Source → Type 0

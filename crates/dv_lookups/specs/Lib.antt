@@ -6,3 +6,5 @@ pub mod Memory
 pub mod Commands
 pub mod Checks
 pub mod Reads
+pub mod Headers
+pub mod Lookups

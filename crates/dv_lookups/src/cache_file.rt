@@ -2,6 +2,7 @@
 
 ghost use Rattle.std.specs.Prelude.{◌≡◌, None, Some, false, true, IfErr, IfOk, OnOk};
 ghost use Rattle.std.specs.Option.{option_copied};
+ghost use Rattle.dv_cache.specs.Caches.{HasFive};
 ghost use Rattle.dv_shelf.specs.Causes.{HasCauseOf};
 ghost use Rattle.dv_shelf.specs.declared.shelf.ShelfFault.TheVariants as fault;
 ghost use Rattle.dv_chain.specs.Openings.{OnlyLooks};
@@ -72,6 +73,7 @@ impl CacheFile {
         uid: u32,
     ) -> Result<Option<Known>, ShelfFault>
         ensures found { IfOk result (IsFoundIn (bytes_of self.now) indexid (look_seen look) uid) }
+        ensures five { IfOk result HasFive }
         ensures err { IfErr result (λ e. e ≡ fault.NoMemory) }
     {
         match self.bytes() {
@@ -96,6 +98,7 @@ impl CacheFile {
             IfOk result (IsLookedUp (S.sees.files shelf.old) chain.now.indexid
             chain.now.live.mailbox row.now) }
         ensures none { may_look ≡ false → IfOk result (λ known. known ≡ None) }
+        ensures five { IfOk result HasFive }
         // The file is as it was read, and it isn't read without need.
         ensures file { S.sees.tells → IsFileOf (S.sees.files shelf.old) self.old →
             IsFileOf (S.sees.files shelf.old) self.new }
@@ -129,6 +132,7 @@ fn find_in(
     uid: u32,
 ) -> Result<Option<Known>, ShelfFault>
     ensures found { IfOk result (IsFoundIn (Some bytes.now) indexid (look_seen look) uid) }
+    ensures five { IfOk result HasFive }
     ensures err { IfErr result (λ e. e ≡ fault.NoMemory) }
 {
     match find(alloc, bytes, indexid, look.seq, uid, look.offset) {

@@ -1,9 +1,10 @@
 //! What a command asks of messages, row by row.
 
-ghost use Rattle.std.specs.Prelude.{◌≡◌, IfOk, Option, true};
+ghost use Rattle.std.specs.Prelude.{◌≡◌, IfOk, None, Option, Some, cond, true};
 ghost use Rattle.dv_model.specs.Journals.{Mail as Message};
 ghost use Rattle.dv_shelf.specs.Causes.{HasCauseOf};
 ghost use Rattle.dv_chain.specs.Openings.{OnlyLooks};
+ghost use Rattle.dv_responses.specs.Supplied.{facts_from};
 ghost use Rattle.dv_openings.specs.TrueCaches.{HasTrueCache};
 ghost use Rattle.dv_lookups.specs.Commands.{IsNamed};
 ghost use Rattle.dv_lookups.specs.Founds.{IsFrom, IsSourceOf, facts_found, mail_of};
@@ -11,14 +12,39 @@ ghost use Rattle.dv_lookups.specs.Kept.{Economy, IsFileOf, IsSpared, Spares, can
 
 use crate::cache_file::CacheFile;
 use crate::found::FactsFound;
+use crate::headers::fields_of;
 use crate::known::{can_stand, facts_known};
 use crate::memory::in_memory;
 use crate::source::Source;
 use dv_chain::Chain;
-use dv_model::NoMemory;
-use dv_responses::{Asked, facts_from};
+use dv_fields::virtual_size;
+use dv_model::{Bytes, NoMemory};
+use dv_responses::Asked;
+use dv_search::MailFacts;
 use dv_shelf::{Shelf, ShelfFault};
 use std::alloc::Global;
+
+// The message's bytes, where they are asked.
+fn body_if(asked: bool, message: Bytes) -> Option<Bytes>
+    ensures { result ≡ cond asked (Some message) None }
+{
+    if asked { Some(message) } else { None }
+}
+
+// The facts of a message, as far as they are asked. Its header is read once, and its bytes aren't
+// copied.
+fn facts_held(alloc: Global, asked: &Asked, uid: u32, message: Bytes) -> Result<MailFacts, NoMemory>
+    ensures is { IfOk result (λ facts. facts ≡ facts_from asked.now uid message) }
+{
+    let size = virtual_size(message.as_slice());
+    let fields = fields_of(alloc, message.as_slice(), asked.fields.as_slice())?;
+    Ok(MailFacts {
+        uid,
+        size,
+        body: body_if(asked.body, message),
+        fields,
+    })
+}
 
 // What is asked, from what is known of the message.
 fn facts_in(alloc: Global, asked: &Asked, uid: u32, source: Source) -> Result<FactsFound, NoMemory>
@@ -32,7 +58,7 @@ fn facts_in(alloc: Global, asked: &Asked, uid: u32, source: Source) -> Result<Fa
         Source::Damaged => Ok(FactsFound::Damaged),
         Source::Cached(known) => Ok(FactsFound::Known(facts_known(alloc, asked, uid, &known)?)),
         Source::Held(message) => {
-            let facts = facts_from(alloc, asked, uid, message.bytes)?;
+            let facts = facts_held(alloc, asked, uid, message.bytes)?;
             Ok(FactsFound::Known(facts))
         }
     }

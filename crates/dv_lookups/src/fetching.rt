@@ -1,20 +1,20 @@
 //! The lines of a FETCH that reads messages.
 
-ghost use Rattle.std.specs.Prelude.{◌≡◌, ◌++◌, ℕ, All, IfOk, OnErr, OnOk, Option, count_by, false, min, sum_by, true};
+ghost use Rattle.std.specs.Prelude.{◌≡◌, ◌++◌, ℕ, All, IfOk, OnErr, OnOk, Option, min, sum_by, true};
 ghost use Rattle.dv_model.specs.declared.types.Command.TheVariants as command;
 ghost use Rattle.dv_model.specs.Journals.{Mail as Message};
-ghost use Rattle.dv_model.specs.Sessions.{data_of, has_uid, reads_mail};
+ghost use Rattle.dv_model.specs.Sessions.{reads_mail};
 ghost use Rattle.dv_shelf.specs.Causes.{HasCauseOf};
 ghost use Rattle.dv_chain.specs.Openings.{OnlyLooks};
-ghost use Rattle.dv_openings.specs.TrueCaches.{HasTrueCache};
 ghost use Rattle.dv_view.specs.Taken.{HasTaken};
 ghost use Rattle.dv_responses.specs.Asked.{fetch_asks};
-ghost use Rattle.dv_responses.specs.Damaged.{damaged_uids};
+ghost use Rattle.dv_responses.specs.Damaged.{IsRead};
 ghost use Rattle.dv_responses.specs.Rows.{IsNumber, rows_at};
-ghost use Rattle.dv_lookups.specs.Commands.{SparesEach, uids_read};
-ghost use Rattle.dv_lookups.specs.Founds.{AreMessages, facts_found, mail_of};
-ghost use Rattle.dv_lookups.specs.Kept.{CountsUpTo, Economy, IsFileOf, IsSpared, Spares, can_stand, is_read};
-ghost use Rattle.dv_lookups.specs.Reads.{damaged_in, damaged_of, item_room, line_of, lines_of, uids_of};
+ghost use Rattle.dv_lookups.specs.Commands.{AskedStands, uids_read};
+ghost use Rattle.dv_lookups.specs.Founds.{facts_found, mail_of};
+ghost use Rattle.dv_lookups.specs.Kept.{Economy, IsFileOf, IsSpared, Spares, can_stand};
+ghost use Rattle.dv_lookups.specs.Lookups.{KnowsCache, KnowsMessages, LooksUp};
+ghost use Rattle.dv_lookups.specs.Reads.{IsFetched, damaged_in, item_room, line_of, uids_of};
 
 use crate::cache_file::CacheFile;
 use crate::found::FactsFound;
@@ -97,13 +97,13 @@ impl CacheFile {
         lines: &mut R,
     ) -> Result<(), ShelfFault>
         requires asks { asked.now ≡ fetch_asks items.now }
-        ensures line { S.sees.tells → IsFileOf (S.sees.files shelf.old) self.old →
-            HasTrueCache (S.sees.files shelf.old) chain.now.indexid chain.now.live.mailbox →
+        ensures line { S.sees.tells →
+            KnowsCache (S.sees.files shelf.old) chain.now self.old →
             OnOk result (lines.new ≡ R.with lines.old
             (line_of chain.now.live.mailbox items.now (number, s.now)
             (mail_of (S.sees.files shelf.old) chain.now.live.mailbox s.now.uid))) }
-        ensures damaged { S.sees.tells → IsFileOf (S.sees.files shelf.old) self.old →
-            HasTrueCache (S.sees.files shelf.old) chain.now.indexid chain.now.live.mailbox →
+        ensures damaged { S.sees.tells →
+            KnowsCache (S.sees.files shelf.old) chain.now self.old →
             OnOk result (damaged.new ≡ damaged.old ++ damaged_in s.now.uid
             (mail_of (S.sees.files shelf.old) chain.now.live.mailbox s.now.uid)) }
         ensures err { OnErr result (lines.new ≡ lines.old) }
@@ -140,31 +140,18 @@ impl CacheFile {
     ) -> Result<List<u32>, ShelfFault>
         requires numbers { All (IsNumber rows.now) numbers.now }
         requires asks { asked.now ≡ fetch_asks items.now }
-        ensures found { S.sees.tells → IsFileOf (S.sees.files shelf.old) self.old →
-            HasTrueCache (S.sees.files shelf.old) chain.now.indexid chain.now.live.mailbox →
-            OnOk result (lines.new ≡ R.with lines.old (lines_of (S.sees.files shelf.old)
-            chain.now.live.mailbox items.now (rows_at rows.now numbers.now))) ×
-            IfOk result (λ damaged. damaged ≡ damaged_of (S.sees.files shelf.old)
-            chain.now.live.mailbox (uids_of (rows_at rows.now numbers.now))) }
+        ensures found { S.sees.tells →
+            KnowsCache (S.sees.files shelf.old) chain.now self.old →
+            IfOk result (IsFetched R.with lines.old lines.new (S.sees.files shelf.old)
+            chain.now.live.mailbox items.now (rows_at rows.now numbers.now)) }
         // What was taken before is kept.
-        ensures replies { S.sees.tells → IsFileOf (S.sees.files shelf.old) self.old →
-            HasTrueCache (S.sees.files shelf.old) chain.now.indexid chain.now.live.mailbox →
+        ensures replies { S.sees.tells →
+            KnowsCache (S.sees.files shelf.old) chain.now self.old →
             OnErr result (HasTaken R.with lines.old lines.new) }
-        ensures file { S.sees.tells → IsFileOf (S.sees.files shelf.old) self.old →
-            IsFileOf (S.sees.files shelf.old) self.new }
-        ensures again { is_read self.old ≡ true → self.new ≡ self.old }
-        ensures aside { can_stand asked.now ≡ false → self.new ≡ self.old }
         // Nothing is changed, and message files are read no more than is due.
-        ensures looks { S.sees.tells →
-            OnlyLooks S.sees shelf.old shelf.new }
-        ensures most { CountsUpTo (count_by (has_uid chain.now.live.mailbox)
-            (uids_of (rows_at rows.now numbers.now)))
-            (S.sees.mail_reads shelf.old) (S.sees.mail_reads shelf.new) }
-        ensures spares { S.sees.tells → IsFileOf (S.sees.files shelf.old) self.old →
-            can_stand asked.now ≡ true →
-            SparesEach (S.sees.files shelf.old) chain.now.indexid chain.now.live.mailbox
+        ensures looks { LooksUp S.sees chain.now (AskedStands asked.now)
             (uids_of (rows_at rows.now numbers.now))
-            (S.sees.mail_reads shelf.old) (S.sees.mail_reads shelf.new) }
+            self.old self.new shelf.old shelf.new }
         ensures cause { HasCauseOf ShelfFault.Failed
             (S.sees.fault_count shelf.old) (S.sees.fault_count shelf.new) result }
     {
@@ -201,33 +188,18 @@ impl CacheFile {
     ) -> Result<List<u32>, ShelfFault>
         requires asks { asked.now ≡ fetch_asks items.now }
         requires reads { reads_mail (command.Fetch by_uid set.now items.now) ≡ true }
-        ensures found { S.sees.tells → IsFileOf (S.sees.files shelf.old) self.old →
-            HasTrueCache (S.sees.files shelf.old) chain.now.indexid chain.now.live.mailbox →
-            (mail : ℕ → Message) →
-            AreMessages (S.sees.files shelf.old) chain.now.live.mailbox mail →
-            OnOk result (lines.new ≡ R.with lines.old (data_of mail
-            (command.Fetch by_uid set.now items.now) view.now chain.now.live.mailbox)) ×
-            IfOk result (λ damaged. damaged ≡ damaged_uids mail
+        ensures found { S.sees.tells → (mail : ℕ → Message) →
+            KnowsMessages (S.sees.files shelf.old) chain.now self.old mail →
+            IfOk result (IsRead R.with lines.old lines.new mail
             (command.Fetch by_uid set.now items.now) view.now chain.now.live.mailbox) }
         // What was taken before is kept.
-        ensures replies { S.sees.tells → IsFileOf (S.sees.files shelf.old) self.old →
-            HasTrueCache (S.sees.files shelf.old) chain.now.indexid chain.now.live.mailbox →
+        ensures replies { S.sees.tells →
+            KnowsCache (S.sees.files shelf.old) chain.now self.old →
             OnErr result (HasTaken R.with lines.old lines.new) }
-        ensures file { S.sees.tells → IsFileOf (S.sees.files shelf.old) self.old →
-            IsFileOf (S.sees.files shelf.old) self.new }
-        ensures again { is_read self.old ≡ true → self.new ≡ self.old }
-        ensures aside { can_stand asked.now ≡ false → self.new ≡ self.old }
         // Nothing is changed, and message files are read no more than is due.
-        ensures looks { S.sees.tells →
-            OnlyLooks S.sees shelf.old shelf.new }
-        ensures most { CountsUpTo (count_by (has_uid chain.now.live.mailbox)
-            (uids_read (command.Fetch by_uid set.now items.now) view.now))
-            (S.sees.mail_reads shelf.old) (S.sees.mail_reads shelf.new) }
-        ensures spares { S.sees.tells → IsFileOf (S.sees.files shelf.old) self.old →
-            can_stand asked.now ≡ true →
-            SparesEach (S.sees.files shelf.old) chain.now.indexid chain.now.live.mailbox
+        ensures looks { LooksUp S.sees chain.now (AskedStands asked.now)
             (uids_read (command.Fetch by_uid set.now items.now) view.now)
-            (S.sees.mail_reads shelf.old) (S.sees.mail_reads shelf.new) }
+            self.old self.new shelf.old shelf.new }
         ensures cause { HasCauseOf ShelfFault.Failed
             (S.sees.fault_count shelf.old) (S.sees.fault_count shelf.new) result }
     {

@@ -1,17 +1,13 @@
 //! The data lines of a command that reads messages, one message after another.
 
-ghost use Rattle.std.specs.Prelude.{◌≡◌, ℕ, IfOk, OnErr, OnOk, count_by, true};
+ghost use Rattle.std.specs.Prelude.{◌≡◌, ℕ, IfOk, OnErr, true};
 ghost use Rattle.dv_model.specs.Journals.{Mail as Message};
-ghost use Rattle.dv_model.specs.Sessions.{data_of, has_uid, reads_mail};
+ghost use Rattle.dv_model.specs.Sessions.{reads_mail};
 ghost use Rattle.dv_shelf.specs.Causes.{HasCauseOf};
-ghost use Rattle.dv_chain.specs.Openings.{OnlyLooks};
-ghost use Rattle.dv_openings.specs.TrueCaches.{HasTrueCache};
 ghost use Rattle.dv_view.specs.Taken.{HasTaken};
-ghost use Rattle.dv_responses.specs.Damaged.{damaged_uids};
+ghost use Rattle.dv_responses.specs.Damaged.{IsRead};
 ghost use Rattle.dv_responses.specs.Depth.{IsShallow};
-ghost use Rattle.dv_lookups.specs.Commands.{CanStand, CannotStand, SparesEach, uids_read};
-ghost use Rattle.dv_lookups.specs.Founds.{AreMessages};
-ghost use Rattle.dv_lookups.specs.Kept.{CountsUpTo, IsFileOf, is_read};
+ghost use Rattle.dv_lookups.specs.Lookups.{KnowsCache, KnowsMessages, ReadsFor};
 
 use crate::cache_file::CacheFile;
 use crate::memory::in_memory;
@@ -41,35 +37,19 @@ impl CacheFile {
         requires reads { reads_mail c.now ≡ true }
         // The lines and the damaged UIDs are those of the messages in their files, where the cache
         // file is true.
-        ensures found { S.sees.tells → IsFileOf (S.sees.files shelf.old) self.old →
-            HasTrueCache (S.sees.files shelf.old) chain.now.indexid chain.now.live.mailbox →
-            (mail : ℕ → Message) →
-            AreMessages (S.sees.files shelf.old) chain.now.live.mailbox mail →
-            OnOk result (lines.new ≡ R.with lines.old
-            (data_of mail c.now view.now chain.now.live.mailbox)) ×
-            IfOk result (λ damaged. damaged
-            ≡ damaged_uids mail c.now view.now chain.now.live.mailbox) }
+        ensures found { S.sees.tells → (mail : ℕ → Message) →
+            KnowsMessages (S.sees.files shelf.old) chain.now self.old mail →
+            IfOk result (IsRead R.with lines.old lines.new mail c.now view.now
+            chain.now.live.mailbox) }
         // What was taken before is kept, also where memory or the disk failed.
-        ensures replies { S.sees.tells → IsFileOf (S.sees.files shelf.old) self.old →
-            HasTrueCache (S.sees.files shelf.old) chain.now.indexid chain.now.live.mailbox →
+        ensures replies { S.sees.tells →
+            KnowsCache (S.sees.files shelf.old) chain.now self.old →
             OnErr result (HasTaken R.with lines.old lines.new) }
-        // The cache file is as it was read, and isn't read again, or without need.
-        ensures file { S.sees.tells → IsFileOf (S.sees.files shelf.old) self.old →
-            IsFileOf (S.sees.files shelf.old) self.new }
-        ensures again { is_read self.old ≡ true → self.new ≡ self.old }
-        ensures aside { CannotStand c.now → self.new ≡ self.old }
-        // Nothing is changed.
-        ensures looks { S.sees.tells →
-            OnlyLooks S.sees shelf.old shelf.new }
-        // A message file is read at most for each row that the mailbox has, and none for one that
-        // is found in the cache file.
-        ensures most { CountsUpTo (count_by (has_uid chain.now.live.mailbox)
-            (uids_read c.now view.now)) (S.sees.mail_reads shelf.old)
-            (S.sees.mail_reads shelf.new) }
-        ensures spares { S.sees.tells → IsFileOf (S.sees.files shelf.old) self.old →
-            CanStand c.now →
-            SparesEach (S.sees.files shelf.old) chain.now.indexid chain.now.live.mailbox
-            (uids_read c.now view.now) (S.sees.mail_reads shelf.old) (S.sees.mail_reads shelf.new) }
+        // Nothing is changed. The cache file is as it was read, and isn't read again, or without
+        // need. A message file is read at most for each row that the mailbox has, and none for one
+        // that is found in the cache file.
+        ensures looks { ReadsFor S.sees chain.now c.now view.now
+            self.old self.new shelf.old shelf.new }
         // A fault of the disk has its cause.
         ensures cause { HasCauseOf ShelfFault.Failed
             (S.sees.fault_count shelf.old) (S.sees.fault_count shelf.new) result }

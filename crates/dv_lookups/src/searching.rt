@@ -1,10 +1,10 @@
 //! The line of a SEARCH that reads messages.
 
-ghost use Rattle.std.specs.Prelude.{◌≡◌, ◌++◌, ◌∷◌, [], ◌^◌, ◌<◌, ◌≤◌, ℕ, IfOk, OnErr, OnOk, Option, cond, count_by, false, length, true};
+ghost use Rattle.std.specs.Prelude.{◌≡◌, ◌++◌, ◌∷◌, [], ◌^◌, ◌<◌, ◌≤◌, ℕ, IfOk, OnErr, OnOk, Option, cond, length, true};
 ghost use Rattle.dv_model.specs.declared.types.Command.TheVariants as command;
 ghost use Rattle.dv_model.specs.declared.types.Key.{Key as Searched};
 ghost use Rattle.dv_model.specs.Journals.{Mail as Message};
-ghost use Rattle.dv_model.specs.Sessions.{candidate, data_of, has_uid, number_of, reads_mail};
+ghost use Rattle.dv_model.specs.Sessions.{candidate, number_of, reads_mail};
 ghost use Rattle.dv_model.specs.Sets.{numbered};
 ghost use Rattle.dv_model.specs.Views.{View as Seen};
 ghost use Rattle.dv_shelf.specs.Causes.{HasCauseOf};
@@ -12,13 +12,13 @@ ghost use Rattle.dv_search.specs.Facts.{is_found};
 ghost use Rattle.dv_search.specs.Nesting.{levels_of, most_levels};
 ghost use Rattle.dv_search.specs.Sought.{IsSought};
 ghost use Rattle.dv_chain.specs.Openings.{OnlyLooks};
-ghost use Rattle.dv_openings.specs.TrueCaches.{HasTrueCache};
 ghost use Rattle.dv_responses.specs.Asked.{SearchAsks};
-ghost use Rattle.dv_responses.specs.Damaged.{damaged_uids};
+ghost use Rattle.dv_responses.specs.Damaged.{IsRead};
 ghost use Rattle.dv_responses.specs.declared.asking.Asked.{Asked as Wanted};
-ghost use Rattle.dv_lookups.specs.Commands.{SparesEach, uids_read};
-ghost use Rattle.dv_lookups.specs.Founds.{AreMessages, facts_found, mail_of};
-ghost use Rattle.dv_lookups.specs.Kept.{CountsUpTo, Economy, IsFileOf, IsSpared, Spares, can_stand, is_read};
+ghost use Rattle.dv_lookups.specs.Commands.{AskedStands, uids_read};
+ghost use Rattle.dv_lookups.specs.Founds.{facts_found, mail_of};
+ghost use Rattle.dv_lookups.specs.Kept.{Economy, IsFileOf, IsSpared, Spares, can_stand};
+ghost use Rattle.dv_lookups.specs.Lookups.{KnowsCache, KnowsMessages, LooksUp};
 ghost use Rattle.dv_lookups.specs.Reads.{damaged_in, damaged_of, held_in, numbers_found, uids_of};
 
 use crate::cache_file::CacheFile;
@@ -140,15 +140,15 @@ impl CacheFile {
         s: &Shown,
         picked: &mut Picked,
     ) -> Result<(), ShelfFault>
-        ensures numbers { S.sees.tells → IsFileOf (S.sees.files shelf.old) self.old →
-            HasTrueCache (S.sees.files shelf.old) chain.now.indexid chain.now.live.mailbox →
+        ensures numbers { S.sees.tells →
+            KnowsCache (S.sees.files shelf.old) chain.now self.old →
             (k : Searched) (view : Seen) → IsSought k view sought.now → SearchAsks k asked.now →
             OnOk result (picked.new.numbers ≡ picked.old.numbers ++ cond
             (is_found k (candidate view chain.now.live.mailbox s.now)
             (held_in (mail_of (S.sees.files shelf.old) chain.now.live.mailbox s.now.uid)))
             (number_of by_uid (number, s.now) ∷ []) []) }
-        ensures damaged { S.sees.tells → IsFileOf (S.sees.files shelf.old) self.old →
-            HasTrueCache (S.sees.files shelf.old) chain.now.indexid chain.now.live.mailbox →
+        ensures damaged { S.sees.tells →
+            KnowsCache (S.sees.files shelf.old) chain.now self.old →
             OnOk result (picked.new.damaged ≡ picked.old.damaged ++ damaged_in s.now.uid
             (mail_of (S.sees.files shelf.old) chain.now.live.mailbox s.now.uid)) }
         ensures file { S.sees.tells → IsFileOf (S.sees.files shelf.old) self.old →
@@ -189,30 +189,19 @@ impl CacheFile {
         by_uid: bool,
         view: &View,
     ) -> Result<Picked, ShelfFault>
-        ensures numbers { S.sees.tells → IsFileOf (S.sees.files shelf.old) self.old →
-            HasTrueCache (S.sees.files shelf.old) chain.now.indexid chain.now.live.mailbox →
+        ensures numbers { S.sees.tells →
+            KnowsCache (S.sees.files shelf.old) chain.now self.old →
             (k : Searched) → IsSought k view.now sought.now → SearchAsks k asked.now →
             IfOk result (λ picked. picked.numbers ≡ numbers_found (S.sees.files shelf.old)
             chain.now.live.mailbox k view.now by_uid (numbered view.now)) }
-        ensures damaged { S.sees.tells → IsFileOf (S.sees.files shelf.old) self.old →
-            HasTrueCache (S.sees.files shelf.old) chain.now.indexid chain.now.live.mailbox →
+        ensures damaged { S.sees.tells →
+            KnowsCache (S.sees.files shelf.old) chain.now self.old →
             IfOk result (λ picked. picked.damaged ≡ damaged_of (S.sees.files shelf.old)
             chain.now.live.mailbox (uids_of (numbered view.now))) }
-        ensures file { S.sees.tells → IsFileOf (S.sees.files shelf.old) self.old →
-            IsFileOf (S.sees.files shelf.old) self.new }
-        ensures again { is_read self.old ≡ true → self.new ≡ self.old }
-        ensures aside { can_stand asked.now ≡ false → self.new ≡ self.old }
         // Nothing is changed, and message files are read no more than is due.
-        ensures looks { S.sees.tells →
-            OnlyLooks S.sees shelf.old shelf.new }
-        ensures most { CountsUpTo (count_by (has_uid chain.now.live.mailbox)
-            (uids_of (numbered view.now))) (S.sees.mail_reads shelf.old)
-            (S.sees.mail_reads shelf.new) }
-        ensures spares { S.sees.tells → IsFileOf (S.sees.files shelf.old) self.old →
-            can_stand asked.now ≡ true →
-            SparesEach (S.sees.files shelf.old) chain.now.indexid chain.now.live.mailbox
-            (uids_of (numbered view.now)) (S.sees.mail_reads shelf.old)
-            (S.sees.mail_reads shelf.new) }
+        ensures looks { LooksUp S.sees chain.now (AskedStands asked.now)
+            (uids_of (numbered view.now))
+            self.old self.new shelf.old shelf.new }
         ensures cause { HasCauseOf ShelfFault.Failed
             (S.sees.fault_count shelf.old) (S.sees.fault_count shelf.new) result }
     {
@@ -253,31 +242,16 @@ impl CacheFile {
         requires shallow { levels_of key.now ≤ most_levels }
         requires asks { SearchAsks key.now asked.now }
         requires reads { reads_mail (command.Search by_uid key.now) ≡ true }
-        ensures found { S.sees.tells → IsFileOf (S.sees.files shelf.old) self.old →
-            HasTrueCache (S.sees.files shelf.old) chain.now.indexid chain.now.live.mailbox →
-            (mail : ℕ → Message) →
-            AreMessages (S.sees.files shelf.old) chain.now.live.mailbox mail →
-            OnOk result (lines.new ≡ R.with lines.old (data_of mail
-            (command.Search by_uid key.now) view.now chain.now.live.mailbox)) ×
-            IfOk result (λ damaged. damaged ≡ damaged_uids mail
+        ensures found { S.sees.tells → (mail : ℕ → Message) →
+            KnowsMessages (S.sees.files shelf.old) chain.now self.old mail →
+            IfOk result (IsRead R.with lines.old lines.new mail
             (command.Search by_uid key.now) view.now chain.now.live.mailbox) }
         // What was taken before is all there is.
         ensures err { OnErr result (lines.new ≡ lines.old) }
-        ensures file { S.sees.tells → IsFileOf (S.sees.files shelf.old) self.old →
-            IsFileOf (S.sees.files shelf.old) self.new }
-        ensures again { is_read self.old ≡ true → self.new ≡ self.old }
-        ensures aside { can_stand asked.now ≡ false → self.new ≡ self.old }
         // Nothing is changed, and message files are read no more than is due.
-        ensures looks { S.sees.tells →
-            OnlyLooks S.sees shelf.old shelf.new }
-        ensures most { CountsUpTo (count_by (has_uid chain.now.live.mailbox)
-            (uids_read (command.Search by_uid key.now) view.now))
-            (S.sees.mail_reads shelf.old) (S.sees.mail_reads shelf.new) }
-        ensures spares { S.sees.tells → IsFileOf (S.sees.files shelf.old) self.old →
-            can_stand asked.now ≡ true →
-            SparesEach (S.sees.files shelf.old) chain.now.indexid chain.now.live.mailbox
+        ensures looks { LooksUp S.sees chain.now (AskedStands asked.now)
             (uids_read (command.Search by_uid key.now) view.now)
-            (S.sees.mail_reads shelf.old) (S.sees.mail_reads shelf.new) }
+            self.old self.new shelf.old shelf.new }
         ensures cause { HasCauseOf ShelfFault.Failed
             (S.sees.fault_count shelf.old) (S.sees.fault_count shelf.new) result }
     {

@@ -7,7 +7,7 @@ ghost use Rattle.dv_shelf.specs.Folders.{counted};
 ghost use Rattle.dv_chain.specs.Openings.{OnlyLooks};
 ghost use Rattle.dv_openings.specs.TrueCaches.{HasTrueCache};
 ghost use Rattle.dv_files.specs.Reading.{mail_at};
-ghost use Rattle.dv_lookups.specs.Founds.{IsFrom, IsSourceOf, mail_of};
+ghost use Rattle.dv_lookups.specs.Founds.{IsFrom, IsSourceOf, IsWhole, mail_of};
 ghost use Rattle.dv_lookups.specs.Kept.{Economy, IsFileOf, IsSpared, Spares, row_of};
 
 use crate::cache_file::CacheFile;
@@ -37,6 +37,7 @@ fn read_source<S: Shelf>(alloc: Global, shelf: &mut S, uid: u32) -> Result<Sourc
     ensures found { S.sees.tells →
         IfOk result (IsSourceOf (Some (mail_at (S.sees.files shelf.old) uid))) }
     ensures from { (kept : Bool) → IfOk result (IsFrom kept) }
+    ensures whole { IfOk result IsWhole }
     // Nothing is changed; one message file is read; a fault of the disk has its cause.
     ensures looks { S.sees.tells →
         OnlyLooks S.sees shelf.old shelf.new }
@@ -51,8 +52,9 @@ fn read_source<S: Shelf>(alloc: Global, shelf: &mut S, uid: u32) -> Result<Sourc
 }
 
 impl CacheFile {
-    // The message of a row of the mailbox: what is known in the cache file, or else its file.
-    fn row_source<S: Shelf>(
+    /// The message of a row of the mailbox: what is known in the cache file, where it may be looked
+    /// at, or else its file.
+    pub(crate) fn row_source<S: Shelf>(
         &mut self,
         alloc: Global,
         shelf: &mut S,
@@ -67,6 +69,7 @@ impl CacheFile {
             IfOk result (IsSourceOf (mail_of (S.sees.files shelf.old) chain.now.live.mailbox
             row.now.uid)) }
         ensures from { IfOk result (IsFrom may_look) }
+        ensures whole { IfOk result IsWhole }
         ensures file { S.sees.tells → IsFileOf (S.sees.files shelf.old) self.old →
             IsFileOf (S.sees.files shelf.old) self.new }
         // Nothing is changed, and the shelf is called no more than is due.

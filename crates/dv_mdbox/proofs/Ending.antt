@@ -16,17 +16,17 @@ use Rattle.dv_mdbox.specs.Tails.{IsBefore, IsEndBehind, IsFreeFrom, IsTail, Keep
 -- ---- by the places alone
 
 module _ {X Y : Type 0} (f : X → Y) where
-  all_mapped : (P : Y → Type 0) (xs : List X) → All P (map f xs) → All (λ x. P (f x)) xs
+  pub all_mapped : (P : Y → Type 0) (xs : List X) → All P (map f xs) → All (λ x. P (f x)) xs
   all_mapped P [] all = All-nil (λ x. P (f x))
   all_mapped P (x ∷ xs) all = All-cons (λ x. P (f x)) x xs (All-head P (f x) (map f xs) all) (all_mapped P xs (All-tail P (f x) (map f xs) all))
 
-  mapped_contains : (xs : List X) (x : X) → Contains xs x → Contains (map f xs) (f x)
+  pub mapped_contains : (xs : List X) (x : X) → Contains xs x → Contains (map f xs) (f x)
   mapped_contains xs x has = All-contains (λ x. Contains (map f xs) (f x)) xs x (all_mapped (Contains (map f xs)) xs (All-contains_itself (map f xs))) has
 
-  abbrev IsOf : List X → Y → Type 0
+  abbrev pub IsOf : List X → Y → Type 0
   IsOf xs y = (x : X) × Contains xs x × (f x ≡ y)
 
-  contains_mapped : (xs : List X) (y : Y) → Contains (map f xs) y → IsOf xs y
+  pub contains_mapped : (xs : List X) (y : Y) → Contains (map f xs) y → IsOf xs y
   contains_mapped xs y has =
       All-contains (IsOf xs) (map f xs) y (All-map (IsOf xs) f xs (All-weaker (Contains xs) (λ x. IsOf xs (f x)) (λ x own. (x, own, refl)) xs (All-contains_itself xs))) has
 

@@ -20,3 +20,5 @@ pub mod Orphaned
 pub mod Finished
 pub mod Moved
 pub mod Purged
+pub mod Listed
+pub mod Ended

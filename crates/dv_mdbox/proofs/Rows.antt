@@ -1,11 +1,14 @@
 -- The row of an id is the only one of that id.
-use Rattle.std.proofs.Common.{◌≡◌, ⊎_elim, ℕ, ◌<◌, ◌≤◌, Bool, true, false, cond, List, length, get_or, nat_eq, nat_lt, Some, None, refl, sym, ◌∙◌, ap, arith}
+use Rattle.std.proofs.Common.{◌≡◌, ⊎_elim, ℕ, ◌<◌, ◌≤◌, Bool, true, false, cond, List, length, get_or, nat_eq, nat_lt, Some, None, refl, sym, ◌∙◌, ap, arith, eq-eqb}
 use Rattle.std.specs.Prelude.{All, map, position, slice_get}
-use Rattle.std.proofs.lemmas.Bool.{cases_lt, eqb-true, ltb-true}
+use Rattle.std.specs.List.{position_or_len}
+use Rattle.std.specs.Option.{option_and_then}
+use Rattle.std.proofs.lemmas.Bool.{cases_lt, eqb-true, lt-ltb, ltb-true, ne_eqb}
 use Rattle.std.proofs.lemmas.List.{get_or-map, get_or_default, length-map}
 use Rattle.std.proofs.lemmas.List.Kept.{AllPairs-from_increasing}
 use Rattle.std.proofs.lemmas.List.Quantifiers.{position-Some}
-use Rattle.std.proofs.lemmas.Option.{get_or_from_slice_get, option_and_then_some}
+use Rattle.std.proofs.lemmas.List.Sums.{position_or_len_is}
+use Rattle.std.proofs.lemmas.Option.{get_or_from_slice_get, option_and_then_some, slice_get-get_or}
 use Rattle.dv_model.specs.declared.types.Mailbox.{Mailbox}
 use Rattle.dv_model.specs.declared.types.Row.{Row}
 use Rattle.dv_model.specs.Mailboxes.{IsValid}
@@ -85,3 +88,14 @@ module _ (m : Mailbox) (valid : IsValid m) (id : ℕ) where
 
   pub count_of_only : (reference : Reference) → IsReference reference → HasCount m id reference.count
   count_of_only reference is = λ k d inside uid. ap (row_count m) (is.is.only k d inside uid) ∙ is.count
+
+-- ---- a row is found by its id
+
+pub row_found : (m : Mailbox) (valid : IsValid m) (d : Row) (k : ℕ) → k < length m.rows → row_of m (get_or m.rows k d).uid ≡ Some (get_or m.rows k d)
+row_found m valid d k inside =
+    let id : ℕ = (get_or m.rows k d).uid in
+    let first : position_or_len (is_of id) m.rows ≡ k =
+    position_or_len_is (is_of id) m.rows k d (omega (arith, inside)) (λ j less. ne_eqb (get_or m.rows j d).uid id (λ e. let rises = below m valid id d j k less inside in absurd (omega (arith, rises, e)))) (λ here. eq-eqb id id refl) in
+    ap (λ (n : ℕ). option_and_then (slice_get m.rows) (cond (nat_lt n (length m.rows)) (Some n) None)) first
+    ∙ ap (λ (b : Bool). option_and_then (slice_get m.rows) (cond b (Some k) None)) (lt-ltb k (length m.rows) inside)
+    ∙ slice_get-get_or m.rows k d inside

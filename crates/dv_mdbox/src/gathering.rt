@@ -83,7 +83,7 @@ pub(crate) struct FileRows {
 }
 
 /// Adds a row to those of a file, where it is one.
-fn add_row(rows: &mut FileRows, file: u32, row: Mapped) -> Result<(), NoMemory>
+pub(crate) fn add_row(rows: &mut FileRows, file: u32, row: Mapped) -> Result<(), NoMemory>
     ensures { OnOk result (AddsRow file row rows.old rows.new) }
 {
     let here = row.place.file == file;

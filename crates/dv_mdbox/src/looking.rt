@@ -31,7 +31,7 @@ pub struct Reference {
 }
 
 /// The row of an id.
-fn row_of(live: &Live, id: u32) -> Option<&Row>
+pub(crate) fn row_of(live: &Live, id: u32) -> Option<&Row>
     ensures { option_copied result ≡ row_of live.now.mailbox id }
 {
     match live.position(id) {

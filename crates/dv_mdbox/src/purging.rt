@@ -6,29 +6,35 @@ ghost use Rattle.dv_shelf.specs.declared.shelf.Name.TheVariants as name;
 ghost use Rattle.dv_shelf.specs.Folders.{Folder};
 ghost use Rattle.dv_chain.specs.Openings.{OnlyLooks};
 ghost use Rattle.dv_chain.specs.Rest.{Nothing, Owed};
-ghost use Rattle.dv_maps.specs.Purges.{StandsIn, size_of, texts_in};
+ghost use Rattle.dv_maps.specs.Laws.{IsMap};
+ghost use Rattle.dv_maps.specs.Purges.{StandsIn, all_mapped, size_of, texts_in};
+ghost use Rattle.dv_maps.specs.Tables.{IsTableFrom, IsTableOf, all_listed, listed_of, rows_in};
 ghost use Rattle.dv_maps.specs.Texts.{Messages};
 ghost use Rattle.dv_mdbox.specs.Answers.{HasStorageCause, IsFailure};
 ghost use Rattle.dv_mdbox.specs.Gathering.{AreRowsOf, Gathers};
 ghost use Rattle.dv_mdbox.specs.Purged.{IsPurged, KeepsNamed};
 ghost use Rattle.dv_mdbox.specs.Purging.{AllNamed, FitsKnown, IsCleared, IsNextGone, IsTaken, IsTakenAway, KnowsFile, KnowsFiles, NoneGoneFrom, NumbersFile, PurgesMap, PurgesQuietly, TakesFile, TakesSome};
 ghost use Rattle.dv_mdbox.specs.States.{IsAtRest, IsLookedAt};
+ghost use Rattle.dv_mdbox.specs.Tails.{KeepsEnd};
 
 use crate::fault::told;
-use crate::gathering::{FileRows, next_gone, read_kept, rows_of};
-use crate::tails::{number_behind, tail_of};
+use crate::gathering::{FileRows, read_kept};
+use crate::listing::{file_rows, first_gone, map_table};
+use crate::tails::{Tail, last_tail, number_behind};
 use crate::{Storage, StorageFault};
 use dv_apply::Live;
 use dv_filing::Files;
-use dv_maps::thinnings_are;
+use dv_maps::{FileTable, tables_stay, thinnings_are};
 use dv_model::{Bytes, NoMemory};
 use dv_shelf::{Clock, Shelf};
 
-/// The number behind the highest that a map names.
-fn next_file(live: &Live) -> Result<u32, StorageFault>
+/// The number behind the highest that a map names. Time by the rows where the end of the last file
+/// isn't known.
+fn next_file(live: &Live, known: Option<Tail>) -> Result<u32, StorageFault>
+    requires { KeepsEnd live.now.mailbox known }
     ensures { NumbersFile live.now.mailbox result }
 {
-    let named = match tail_of(live) {
+    let named = match last_tail(live, known) {
         Some(tail) => Some(tail.file),
         None => None,
     };
@@ -46,26 +52,38 @@ impl<S, C> Storage<S, C> {
         self.chain.live.count()
     }
 
+    /// The rows by file, where the mailbox is a map and there is memory for them.
+    fn table(&self) -> Option<FileTable>
+        ensures { IfSome result (λ table. IsMap self.now.chain.live.mailbox
+            × IsTableOf (all_mapped self.now.chain.live.mailbox) table) }
+    {
+        map_table(self.alloc, &self.chain.live)
+    }
+
     /// The first file from a number on that has an id without references.
-    fn next_gone(&self, from: u64) -> Option<u32>
+    fn next_gone(&self, table: &Option<FileTable>, from: u64) -> Option<u32>
+        requires { IfSome table.now (λ t.
+            IsTableFrom from (all_mapped self.now.chain.live.mailbox) t) }
         ensures { MatchOption result (NoneGoneFrom self.now.chain.live.mailbox from)
             (IsNextGone self.now.chain.live.mailbox from) }
     {
-        next_gone(&self.chain.live, from)
+        first_gone(&self.chain.live, table, from)
     }
 
     /// The rows of a file.
-    fn file_rows(&self, file: u32) -> Result<FileRows, NoMemory>
+    fn rows_of(&self, table: &Option<FileTable>, file: u32) -> Result<FileRows, NoMemory>
+        requires { IfSome table.now (λ t. listed_of file t
+            ≡ all_listed (rows_in file (all_mapped self.now.chain.live.mailbox))) }
         ensures { IfOk result (AreRowsOf self.now.chain.live.mailbox file) }
     {
-        rows_of(self.alloc, &self.chain.live, file)
+        file_rows(self.alloc, &self.chain.live, table, file)
     }
 
     /// The number of the next new file.
     fn next_number(&self) -> Result<u32, StorageFault>
         ensures { NumbersFile self.now.chain.live.mailbox result }
     {
-        next_file(&self.chain.live)
+        next_file(&self.chain.live, self.tail)
     }
 }
 
@@ -148,8 +166,10 @@ impl<S: Shelf, C: Clock> Storage<S, C> {
 
     /// Rewrites a file that has a row without references, or passes it over: where a text that it
     /// keeps is damaged, or where those have 4 GiB or more.
-    fn take_file(&mut self, file: u32) -> Result<(), StorageFault>
-        requires { (from : ℕ) × IsNextGone self.old.chain.live.mailbox from file }
+    fn take_file(&mut self, table: &Option<FileTable>, file: u32) -> Result<(), StorageFault>
+        requires next { (from : ℕ) × IsNextGone self.old.chain.live.mailbox from file }
+        requires table { IfSome table.now (λ t. listed_of file t
+            ≡ all_listed (rows_in file (all_mapped self.old.chain.live.mailbox))) }
         ensures value { (from : ℕ) (known : Option Folder) →
             IsNextGone self.old.chain.live.mailbox from file →
             KnowsFile S.sees known file self.old →
@@ -167,7 +187,7 @@ impl<S: Shelf, C: Clock> Storage<S, C> {
             (S.sees.fault_count self.new.shelf) result }
     {
         thinnings_are();
-        let rows = self.file_rows(file)?;
+        let rows = self.rows_of(table, file)?;
         if rows.kept.as_slice().is_empty() {
             self.rewrite_file(file, 0, rows, Files::Nothing)
         } else {
@@ -198,9 +218,11 @@ impl<S: Shelf, C: Clock> Storage<S, C> {
             (S.sees.fault_count self.new.shelf) result }
     {
         thinnings_are();
+        tables_stay();
+        let table = self.table();
         let mut from: u64 = 0;
-        while let Some(file) = self.next_gone(from) {
-            self.take_file(file)?;
+        while let Some(file) = self.next_gone(&table, from) {
+            self.take_file(&table, file)?;
             from = u64::from(file) + 1;
         }
         Ok(())
@@ -212,10 +234,10 @@ impl<S: Shelf, C: Clock> Storage<S, C> {
     /// group removes the ids and says the new places, and the file is removed. A file in which such
     /// a text is damaged is passed over, and so is one where they have 4 GiB or more, and no other:
     /// their ids stay. `Files` comes exactly where the next file that isn't passed over needs a new
-    /// one and no number is left for it, and `TooLong` exactly where its group has more than 64 MiB,
-    /// or where the log is full and no file can follow it. `Disk` comes only where the shelf's count
-    /// of faults rose. After an error the ids are as before, but that those that went with a group
-    /// stay gone.
+    /// one and no number is left for it, and `TooLong` exactly where its group has more than 64
+    /// MiB, or where the log is full and no file can follow it. `Disk` comes only where the shelf's
+    /// count of faults rose. After an error the ids are as before, but that those that went with a
+    /// group stay gone.
     pub fn purge(&mut self) -> Result<u32, StorageFault>
         // How many ids went, and what becomes of the map, file by file, over any shelf.
         ensures count { IfOk result (λ n. n ≡ length self.old.chain.live.mailbox.rows

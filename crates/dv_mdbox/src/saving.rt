@@ -153,8 +153,8 @@ impl<S: Shelf, C: Clock> Storage<S, C> {
     /// only where the shelf's count of faults rose: where it doesn't, the answer is one of the
     /// others, whatever was owed. After an error the ids are as before. The clock is read once
     /// where the log is rotated, and then once for the message. The end of the last file is known
-    /// behind a save that is done: only those behind an opening or a purge, up to the first that is
-    /// done, take time by the number of ids to find it.
+    /// behind a save that is done: only those behind an opening, or behind a purge that removed the
+    /// last file, up to the first that is done, take time by the number of ids to find it.
     pub fn save(&mut self, message: &[u8]) -> Result<u32, StorageFault>
         // Which answer it is, what becomes of the map, and where the text goes, over any shelf.
         ensures answers { AnswersSave S.sees.tells (S.sees.files self.old.shelf)

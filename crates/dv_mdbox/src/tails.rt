@@ -1,7 +1,8 @@
 //! Where the text of the next message goes.
 
-ghost use Rattle.std.specs.Prelude.{◌≡◌, ◌<◌, IfOk, MatchOption, Some};
+ghost use Rattle.std.specs.Prelude.{◌≡◌, ◌<◌, IfOk, MatchBool, MatchOption, Some};
 ghost use Rattle.dv_chain.specs.Openings.{OnlyLooks};
+ghost use Rattle.dv_maps.specs.Laws.{IsMap};
 ghost use Rattle.dv_mdbox.specs.Answers.{HasStorageCause};
 ghost use Rattle.dv_mdbox.specs.Tails as tails;
 ghost use Rattle.dv_mdbox.specs.Tails.{Extends, FindsFile, FindsTarget, GoesBehind, IsEndBehind, IsFreeFrom, IsHighest, IsTailOf, KeepsEnd, larger, mail_number};
@@ -58,7 +59,7 @@ fn extended(tail: Option<Tail>, place: Place) -> Tail
 
 /// The file with the highest number that the map names, and where its last text ends; none where it
 /// names none. Takes no memory, and time by the rows.
-pub(crate) fn tail_of(live: &Live) -> Option<Tail>
+fn tail_of(live: &Live) -> Option<Tail>
     ensures { IsTailOf live.now.mailbox live.now.mailbox.rows result }
 {
     let extensions = live.extensions().list().as_slice();
@@ -72,7 +73,7 @@ pub(crate) fn tail_of(live: &Live) -> Option<Tail>
 }
 
 /// The same, which isn't looked for where it is known.
-fn last_tail(live: &Live, known: Option<Tail>) -> Option<Tail>
+pub(crate) fn last_tail(live: &Live, known: Option<Tail>) -> Option<Tail>
     requires { KeepsEnd live.now.mailbox known }
     ensures { IsTailOf live.now.mailbox live.now.mailbox.rows result }
 {
@@ -82,12 +83,19 @@ fn last_tail(live: &Live, known: Option<Tail>) -> Option<Tail>
     }
 }
 
+/// Whether the mailbox is the map of a storage.
+pub(crate) fn has_map(live: &Live) -> bool
+    ensures { MatchBool result (IsMap live.now.mailbox) (IsMap live.now.mailbox → ⊥) }
+{
+    is_map(live.extensions().list().as_slice(), live.count())
+}
+
 /// The end of the last file once a text stands at this place, behind all others. It is known where
 /// the mailbox is a map.
 pub(crate) fn end_behind(live: &Live, place: Place) -> Option<Tail>
     ensures { IsEndBehind live.now.mailbox place result }
 {
-    if !is_map(live.extensions().list().as_slice(), live.count()) {
+    if !has_map(live) {
         return None;
     }
     Some(Tail {

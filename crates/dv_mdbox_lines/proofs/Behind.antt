@@ -1,7 +1,6 @@
 -- A storage behind any calls.
-use Rattle.std.proofs.Common.{◌≡◌, ◌⊎◌, inl, inr, ℕ, ◌+◌, ◌-◌, ◌<◌, ◌≤◌, Bool, true, false, List, [], ◌∷◌, ◌++◌, Option, Some, None, nat_eq, refl, sym, ◌∙◌, ap, subst, arith}
-use Rattle.std.specs.Prelude.{count_by, fold, ⊤}
-use Rattle.std.specs.List.{list_any}
+use Rattle.std.proofs.Common.{◌≡◌, ℕ, ◌+◌, ◌<◌, ◌≤◌, List, [], ◌∷◌, ◌++◌, Option, Some, None, refl, sym, ◌∙◌, ap, subst, arith}
+use Rattle.std.specs.Prelude.{count_by}
 use Rattle.std.specs.Option.{option_and_then}
 use Rattle.std.proofs.lemmas.Bool.{eq-eqb}
 use Rattle.std.proofs.lemmas.List.Sums.{fold-append, sum_by-cons}
@@ -9,7 +8,7 @@ use Rattle.dv_maps.specs.Storages.{Item, Storage, saved}
 use Rattle.dv_mdbox_lines.specs.declared.answers.Answer.{Answer}
 use Rattle.dv_mdbox_lines.specs.declared.answers.Answer.TheVariants as answer
 use Rattle.dv_mdbox_lines.specs.Scripts.{Call, Get, Save}
-use Rattle.dv_mdbox_lines.specs.Playing.{AreBelow, MayAnswer, MayCome, MayGo, Tried, behind, behind_call, count_in, item_with, message_of, references}
+use Rattle.dv_mdbox_lines.specs.Playing.{AreBelow, MayAnswer, MayCome, MayGo, Tried, behind, behind_call, message_of, references}
 use Rattle.dv_mdbox_lines.specs.Laws.{CountsAreTrue, IdsAreNew, IsGot, IsSaved, MessagesAreKept, dropped_one, made, new_storage}
 use Rattle.dv_mdbox_lines.proofs.Items.{with_last}
 use Rattle.dv_mdbox_lines.proofs.Counting.{Goes, goes, once}

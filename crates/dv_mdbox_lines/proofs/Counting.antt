@@ -1,14 +1,14 @@
 -- What one call does to the ids of a storage.
-use Rattle.std.proofs.Common.{◌≡◌, ◌⊎◌, inl, inr, ℕ, ◌+◌, ◌-◌, ◌<◌, ◌≤◌, Bool, true, false, cond, List, [], ◌∷◌, ◌++◌, Option, Some, None, nat_eq, refl, sym, ◌∙◌, ap, subst, arith}
-use Rattle.std.specs.Prelude.{All, ◌&&◌, map, ⊤}
+use Rattle.std.proofs.Common.{◌≡◌, ℕ, ◌+◌, ◌-◌, ◌<◌, ◌≤◌, Bool, true, false, cond, List, [], ◌∷◌, Option, Some, None, nat_eq, refl, sym, ◌∙◌, ap, subst, arith}
+use Rattle.std.specs.Prelude.{All, ◌&&◌, map}
 use Rattle.std.specs.List.{list_any}
 use Rattle.std.specs.Option.{option_and_then}
-use Rattle.std.proofs.lemmas.Bool.{eq-eqb, eqb-false, eqb-true, ne_eqb}
+use Rattle.std.proofs.lemmas.Bool.{eqb-true, ne_eqb}
 use Rattle.dv_maps.specs.Storages.{Item, Storage, copied, counted, dropped, saved}
 use Rattle.dv_mdbox_lines.specs.declared.answers.Answer.{Answer}
 use Rattle.dv_mdbox_lines.specs.declared.answers.Answer.TheVariants as answer
 use Rattle.dv_mdbox_lines.specs.Scripts.{Call, Copy, Drop, Get, Purge, Save}
-use Rattle.dv_mdbox_lines.specs.Playing.{AreBelow, MayAnswer, after_call, count_in, done_by, done_id, item_with, message_of, references, without}
+use Rattle.dv_mdbox_lines.specs.Playing.{AreBelow, MayAnswer, after_call, count_in, done_id, item_with, message_of, references, without}
 use Rattle.dv_mdbox_lines.specs.Laws.{drops, is_done_with, makes}
 use Rattle.dv_mdbox_lines.proofs.Items.{below_append, below_counted, below_filter, below_more, gone_item, kept_item, messages_counted, of_all, stays, others_counted, same_counted, with_last}
 

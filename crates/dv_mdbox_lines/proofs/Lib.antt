@@ -1,5 +1,8 @@
 pub mod Takes
 pub mod Says
+pub mod Words
+pub mod GoodLines
+pub mod GoodScripts
 pub mod Items
 pub mod Counting
 pub mod Behind

@@ -1,5 +1,5 @@
 -- What bytes say, line by line.
-use Rattle.std.proofs.Common.{◌≡◌, ℕ, zero, suc, ◌+◌, ◌-◌, ◌<◌, ◌≤◌, Bool, true, false, List, [], ◌∷◌, ◌++◌, length, Option, Some, None, Result, Ok, Err, nat_lt, is_ok, refl, sym, ◌∙◌, ap, subst, arith, append_assoc}
+use Rattle.std.proofs.Common.{◌≡◌, ℕ, zero, suc, ◌+◌, ◌-◌, ◌<◌, ◌≤◌, true, false, List, [], ◌∷◌, ◌++◌, length, Option, Some, None, Result, Ok, Err, is_ok, refl, sym, ◌∙◌, ap, arith, append_assoc}
 use Rattle.std.proofs.lemmas.Bool.{le-ltb, lt-ltb}
 use Rattle.std.proofs.lemmas.List.{append-nil, length-append}
 use Rattle.dv_formats.specs.Scripts.{script_limit}
@@ -13,7 +13,7 @@ use Rattle.dv_mdbox_lines.proofs.Takes.{shorter}
 
 -- ---- one line more
 
-no_bytes : (most : ℕ) → said_within most [] ≡ Ok []
+pub no_bytes : (most : ℕ) → said_within most [] ≡ Ok []
 unfolding said_within
 no_bytes zero = refl
 no_bytes (suc most) = refl
@@ -67,11 +67,11 @@ ended (x ∷ b) empty = absurd (omega (arith, empty))
 
 -- ---- up to a place
 
-abbrev before : List Call → Said → Said
+abbrev pub before : List Call → Said → Said
 before calls (Ok others) = Ok (calls ++ others)
 before calls (Err fault) = Err fault
 
-before_none : (said : Said) → before [] said ≡ said
+pub before_none : (said : Said) → before [] said ≡ said
 before_none (Ok calls) = refl
 before_none (Err fault) = refl
 
@@ -101,7 +101,7 @@ goes_on b rest taken so_far some read = record {
   few = omega (arith, so_far.few, shorter rest taken some read, one_at_most taken.0, length-append so_far.calls (as_list taken.0));
 }
 
-within_limit : (b : List ℕ) → length b ≤ 67108864 → parsed b ≡ in_script b (said_in b)
+pub within_limit : (b : List ℕ) → length b ≤ 67108864 → parsed b ≡ in_script b (said_in b)
 within_limit b short = rw (le-ltb script_limit (length b) short) refl
 
 pub beyond_limit : (b : List ℕ) → 67108864 < length b → parsed b ≡ Err ScriptFault.TooLong

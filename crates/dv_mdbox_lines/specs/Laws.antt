@@ -1,10 +1,10 @@
 -- What holds of a storage behind any calls.
-use Rattle.std.specs.Prelude.{◌≡◌, ◌⊎◌, ℕ, ◌+◌, ◌<◌, ◌≤◌, Bool, true, false, ◌&&◌, List, [], ◌∷◌, ◌++◌, count_by, Option, Some, None, nat_eq, ⊤}
+use Rattle.std.specs.Prelude.{◌≡◌, ℕ, ◌+◌, ◌<◌, ◌≤◌, Bool, true, false, ◌&&◌, List, [], ◌∷◌, ◌++◌, count_by, Option, Some, None, nat_eq, ⊤}
 use Rattle.dv_maps.specs.Storages.{Storage}
 use Rattle.dv_mdbox_lines.specs.declared.answers.Answer.{Answer}
 use Rattle.dv_mdbox_lines.specs.declared.answers.Answer.TheVariants as answer
-use Rattle.dv_mdbox_lines.specs.Scripts.{Call, Copy, Drop, Get, Purge, Save}
-use Rattle.dv_mdbox_lines.specs.Playing.{MayAnswer, MayGo, Tried, behind, done_id, message_of, references}
+use Rattle.dv_mdbox_lines.specs.Scripts.{Call, Copy, Drop, Get, Save}
+use Rattle.dv_mdbox_lines.specs.Playing.{MayAnswer, MayGo, Tried, behind, done_id, references}
 
 -- a storage that is made in a new folder
 abbrev pub new_storage : Storage

@@ -1,4 +1,5 @@
 pub mod Scripts
+pub mod Grammar
 pub mod Views
 pub mod Playing
 pub mod Laws

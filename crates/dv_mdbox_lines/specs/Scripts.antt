@@ -1,6 +1,6 @@
--- What a storage's script says, as a function of its bytes: lines, each with one call (own; the
--- literal of a message as in RFC 3501, section 4.3). Lines, comments and numbers are those of a
--- session's script.
+-- What a storage's script says, as a function of its bytes. Which text is of which calls is said by
+-- the grammar (specs/Grammar.antt), with which this agrees: `read_lines_are_of_the_grammar`,
+-- `lines_of_the_grammar_are_read`. Lines, comments and numbers are those of a session's script.
 use Rattle.std.specs.Prelude.{ℕ, zero, suc, ◌+◌, ◌^◌, List, [], ◌∷◌, length, take, drop, Bool, Option, Some, None, Result, Ok, Err, is_ok, codes, nat_lt, bytes_eq, if◌then◌else◌}
 use Rattle.dv_formats.specs.Scripts.{line_limit, script_limit}
 use Rattle.dv_formats.specs.Parsing.{◌>>=◌, LineFault, ScriptFault, after, ahead_of, behind_line_end, fault_at, feeds_before, first_line, is_skipped, number_of}

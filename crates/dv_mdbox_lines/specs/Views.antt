@@ -1,9 +1,10 @@
 -- A storage's lines as the program has them.
-use Rattle.std.specs.Prelude.{◌≡◌, ℕ, List, [], ◌∷◌, Option, Some, None, Result, Ok, Err, option_map}
+use Rattle.std.specs.Prelude.{◌≡◌, ℕ, List, [], ◌∷◌, Option, Some, None, Result, Ok, Err}
 use Rattle.dv_formats.specs.Parsing.{LineFault, ScriptFault}
 use Rattle.dv_script.specs.declared.types.ScriptEnd.{ScriptEnd}
 use Rattle.dv_script.specs.declared.types.ScriptEnd.TheVariants as end
 use Rattle.dv_script.specs.Sources.{ScriptFails}
+use Rattle.dv_mdbox_lines.specs.Grammar.{IsFault, IsScript}
 use Rattle.dv_mdbox_lines.specs.Scripts.{Call, Copy, Drop, Get, Purge, Save, calls_in}
 use Rattle.dv_mdbox_lines.specs.declared.lines.Call as declared
 use Rattle.dv_mdbox_lines.specs.declared.lines.Call.TheVariants as call
@@ -43,3 +44,19 @@ IsNext old (Some call) new = old ≡ said call ∷ new
 abbrev pub OpensAs : Result Calls ScriptEnd → Result (List Call) ScriptFault → Type 0
 OpensAs (Ok calls) read = read ≡ Ok (calls_left calls)
 OpensAs (Err e) read = ScriptFails e read
+
+-- by the grammar the calls left are the script's, or this is its first fault; memory never runs out
+abbrev pub IsOpened : Result Calls ScriptEnd → List ℕ → Type 0
+IsOpened (Ok calls) script = IsScript (calls_left calls) script
+IsOpened (Err (end.BadLine k)) script = IsFault (ScriptFault.BadLine k) script
+IsOpened (Err (end.ShortLiteral k)) script = IsFault (ScriptFault.ShortLiteral k) script
+IsOpened (Err end.TooLong) script = IsFault ScriptFault.TooLong script
+IsOpened (Err end.NoMemory) script = ⊥
+
+-- all these calls are left, or this fault is told
+abbrev pub IsTold : Result (List Call) ScriptFault → Result Calls ScriptEnd → Type 0
+IsTold read (Ok calls) = read ≡ Ok (calls_left calls)
+IsTold read (Err (end.BadLine k)) = read ≡ Err (ScriptFault.BadLine k)
+IsTold read (Err (end.ShortLiteral k)) = read ≡ Err (ScriptFault.ShortLiteral k)
+IsTold read (Err end.TooLong) = read ≡ Err ScriptFault.TooLong
+IsTold read (Err end.NoMemory) = ⊥

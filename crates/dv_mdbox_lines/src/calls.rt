@@ -1,10 +1,12 @@
 //! The lines of a script, one after another.
 
-ghost use Rattle.std.specs.Prelude.{◌≡◌, ◌+◌, ◌≤◌, IfOk, count_by, length};
+ghost use Rattle.std.specs.Prelude.{◌≡◌, ◌+◌, ◌≤◌, IfOk, List, Result, count_by, length};
 ghost use Rattle.dv_formats.specs.Parsing as parsing;
-ghost use Rattle.dv_formats.specs.Parsing.{is_byte};
+ghost use Rattle.dv_formats.specs.Parsing.{ScriptFault, is_byte};
+ghost use Rattle.dv_mdbox_lines.specs.Grammar.{IsOf};
+ghost use Rattle.dv_mdbox_lines.specs.Scripts as scripts;
 ghost use Rattle.dv_mdbox_lines.specs.Scripts.{parsed};
-ghost use Rattle.dv_mdbox_lines.specs.Views.{IsNext, OpensAs, calls_left, end_of};
+ghost use Rattle.dv_mdbox_lines.specs.Views.{IsNext, IsOpened, IsTold, OpensAs, calls_left, end_of};
 
 use crate::Call;
 use crate::cursor::Calls;
@@ -71,6 +73,11 @@ fn script_end(b: &[u8], rest: &[u8], fault: LineFault) -> ScriptEnd
 pub fn open_lines(b: &[u8]) -> Result<Calls<'_>, ScriptEnd>
     // The calls left are those that the script says, and a fault is its first one.
     ensures calls { OpensAs result (parsed b.now) }
+    // By the grammar, too, they are the script's calls, or it is its first fault.
+    ensures found { IsOpened result b.now }
+    // A script of the grammar is opened, and a fault that a text has by it is told.
+    ensures only { (read : Result (List scripts.Call) ScriptFault) → IsOf read b.now
+        → IsTold read result }
     // Each line has a byte.
     ensures few { IfOk result (λ calls. length (calls_left calls) ≤ length b.now) }
 {

@@ -11,6 +11,7 @@ use Rattle.dv_shelf.specs.Sees.{SeesFolder}
 use Rattle.dv_shelf.specs.Streams.{Appends, AppendsFront}
 use Rattle.dv_shelf.proofs.Moments.{joined, started, weaker}
 use Rattle.dv_logfile.specs.Settling.{StaysSettled}
+use Rattle.dv_model.specs.declared.types.Mailbox.{Mailbox}
 use Rattle.dv_model.specs.declared.types.Mark.{Mark}
 use Rattle.dv_model.specs.Counts.{Rose}
 use Rattle.dv_maps.specs.Storages.{Storage}
@@ -22,8 +23,8 @@ use Rattle.dv_files.specs.Texts.{place_of}
 use Rattle.dv_mdbox.specs.States.{StandsAt, State}
 use Rattle.dv_mdbox_lines.specs.declared.answers.Answer.{Answer}
 use Rattle.dv_mdbox_lines.specs.declared.lines.Call as declared
-use Rattle.dv_mdbox_lines.specs.Playing.{Tried}
-use Rattle.dv_mdbox_lines.specs.Scripts.{Call}
+use Rattle.dv_mdbox_lines.specs.Playing.{Tried, behind, behind_call}
+use Rattle.dv_mdbox_lines.specs.Scripts.{Call, Copy, Drop, Get, Purge, Save}
 use Rattle.dv_mdbox_lines.specs.Texts.{answer_text, tried_text, tried_texts}
 use Rattle.dv_mdbox_lines.specs.Views.{IsNext, said}
 use Rattle.dv_serving.specs.Faults.{Faults, faults_between}
@@ -33,11 +34,12 @@ use Rattle.dv_mdbox_serving.specs.declared.ending.CallEnd.TheVariants as call_en
 use Rattle.dv_mdbox_serving.specs.declared.ending.StorageEnd.{StorageEnd}
 use Rattle.dv_mdbox_serving.specs.declared.ending.StorageEnd.TheVariants as end
 use Rattle.dv_mdbox_serving.specs.Calls.{IsCalled, IsCaused, RunsCall, tried_of}
-use Rattle.dv_mdbox_serving.specs.Following.{Follows}
+use Rattle.dv_mdbox_serving.specs.Following.{Follows, Keeps}
 use Rattle.dv_mdbox_serving.specs.Groups.{LogsCalls}
 use Rattle.dv_mdbox_serving.specs.Marks.{EndsAt, IfAnswered}
 use Rattle.dv_mdbox_serving.specs.Opening.{IsBegun}
 use Rattle.dv_mdbox_serving.specs.Places.{GivesBetween, MayGive, MayLeave}
+use Rattle.dv_mdbox_serving.specs.Purges.{HasStorage, PurgeInTurn, PurgesSo}
 use Rattle.dv_mdbox_serving.specs.Runs.{EndCause, EndsServing, IfUnopened, IsAnswered, RunsCalls, Serves, ServesCalls, TakesByEnd, TellsFolderAt, calls_of, end_behind, end_of}
 use Rattle.dv_mdbox_serving.proofs.Giving.{behind_may, between_may, keeps_at, keeps_give, may_longer}
 use Rattle.dv_mdbox_serving.proofs.Logged.{logs_count, logs_more, logs_no_call}
@@ -64,6 +66,26 @@ calls_more calls t = map-append (λ (x : Tried). x.call) calls (t ∷ [])
 no_more : (calls : List Tried) → calls ++ [] ≡ calls
 no_more calls = append-nil calls
 
+-- ---- purges in turn
+
+no_purge : (call : Call) (old : Folder) (m : Mailbox) (new : Folder) (after : Mailbox) → PurgesSo call None old m new after
+no_purge (Save message) old m new after = tt
+no_purge (Copy id) old m new after = tt
+no_purge (Drop id) old m new after = tt
+no_purge (Get id) old m new after = tt
+no_purge Purge old m new after = tt
+
+purges_more : (s : Storage) (calls : List Tried) (t : Tried) (first : Folder) (m : Mailbox) (old : Folder) (mid : Mailbox) (new : Folder) (after : Mailbox) → PurgeInTurn s calls first m old mid → PurgesSo t.call t.answer old mid new after → HasStorage (behind s (calls ++ t ∷ [])) new after
+    → PurgeInTurn s (calls ++ t ∷ []) first m new after
+purges_more s [] t first m old mid new after was one has = (
+  new,
+  after,
+  subst (λ (f : Folder). PurgesSo t.call t.answer f m new after) was.0 (subst (λ (x : Mailbox). PurgesSo t.call t.answer old x new after) was.1 one),
+  has,
+  (refl, refl),
+)
+purges_more s (c ∷ calls) t first m old mid new after was one has = (was.0, was.1, was.2, was.3, purges_more (behind_call s c) calls t was.0 was.1 old mid new after was.4 one has)
+
 -- ---- up to a call
 
 module _ {S C : Type 0} (sees : SeesFolder S) (start : Storage) (base : ℕ) (all : List Call) (told : Type 0) (taken : List ℕ) (initial : State S C) where
@@ -74,6 +96,7 @@ module _ {S C : Type 0} (sees : SeesFolder S) (start : Storage) (base : ℕ) (al
     pub each : All IsAnswered answered
     pub follows : Follows sees start base answered store
     pub logs : LogsCalls answered initial store
+    pub purges : PurgeInTurn start answered (sees.files initial.shelf) initial.chain.live.mailbox (sees.files store.shelf) store.chain.live.mailbox
     pub since : LeavesOnly sees initial.shelf store.shelf (MayGive start answered)
     pub output : told → Appends taken taken_now (tried_texts answered)
 
@@ -84,11 +107,23 @@ module _ {S C : Type 0} (sees : SeesFolder S) (start : Storage) (base : ℕ) (al
     each = All-nil IsAnswered;
     follows = follows;
     logs = logs_no_call initial;
+    purges = (refl, refl);
     since = started sees initial.shelf (MayGive start []) (λ c left. behind_may start [] tt c (keeps_give sees start [] initial follows.keeps c (now c left)));
     output = λ tells. sym (append-nil taken);
   }
 
-  module _ (call : Call) (left : List Call) (mid_taken taken_now : List ℕ) (mid store : State S C) (so_far : ServesTo (call ∷ left) mid_taken mid) where
+  has_storage : (calls : List Tried) (store : State S C) → Keeps sees start calls store → sees.may_leave store.shelf (sees.files store.shelf) → HasStorage (behind start calls) (sees.files store.shelf) store.chain.live.mailbox
+  has_storage calls store keeps there = (keeps.messages, keeps.storage, keeps.rests.stands.keeps (sees.files store.shelf) there)
+
+  module _ (call : Call) (left : List Call) (mid_taken taken_now : List ℕ) (mid store : State S C) (so_far : ServesTo (call ∷ left) mid_taken mid) (there : sees.may_leave store.shelf (sees.files store.shelf)) where
+    abbrev PurgesSoFar : Tried → Type 0
+    PurgesSoFar t = PurgeInTurn start (so_far.answered ++ t ∷ []) (sees.files initial.shelf) initial.chain.live.mailbox (sees.files store.shelf) store.chain.live.mailbox
+
+    purges_on : (t : Tried) → PurgesSo t.call t.answer (sees.files mid.shelf) mid.chain.live.mailbox (sees.files store.shelf) store.chain.live.mailbox → Keeps sees start (so_far.answered ++ t ∷ []) store → PurgesSoFar t
+    purges_on t one keeps =
+        purges_more start so_far.answered t (sees.files initial.shelf) initial.chain.live.mailbox (sees.files mid.shelf) mid.chain.live.mailbox (sees.files store.shelf) store.chain.live.mailbox so_far.purges one
+        (has_storage (so_far.answered ++ t ∷ []) store keeps there)
+
     since_on : (answer : Option Answer) (called : IsCalled sees start base so_far.answered call answer mid store) → LeavesOnly sees initial.shelf store.shelf (MayGive start (so_far.answered ++ tried_of call answer called.gone ∷ []))
     since_on answer called =
         let t = tried_of call answer called.gone in
@@ -111,6 +146,7 @@ module _ {S C : Type 0} (sees : SeesFolder S) (start : Storage) (base : ℕ) (al
           each = All-append IsAnswered so_far.answered (t ∷ []) so_far.each (All-cons IsAnswered t [] refl (All-nil IsAnswered));
           follows = one.called.follows;
           logs = logs_more so_far.answered t initial mid store so_far.logs one.logs;
+          purges = purges_on t one.purges one.called.follows.keeps;
           since = since_on (Some one.told) one.called;
           output = λ tells. text_on one.told one.called.gone tells (one.output tells);
         }
@@ -134,6 +170,7 @@ module _ {S C : Type 0} (sees : SeesFolder S) (start : Storage) (base : ℕ) (al
           };
           keeps = one.0.follows.keeps;
           logs = tt;
+          purges = purges_on t (no_purge call (sees.files mid.shelf) mid.chain.live.mailbox (sees.files store.shelf) store.chain.live.mailbox) one.0.follows.keeps;
           since = since_on None one.0;
         }
     serves_ended (call_end.Sink faults) one =
@@ -152,6 +189,7 @@ module _ {S C : Type 0} (sees : SeesFolder S) (start : Storage) (base : ℕ) (al
           };
           keeps = one.called.follows.keeps;
           logs = tt;
+          purges = purges_on t one.purges one.called.follows.keeps;
           since = since_on (Some one.told) one.called;
         }
 
@@ -174,21 +212,23 @@ module _ {S C : Type 0} (sees : SeesFolder S) (start : Storage) (base : ℕ) (al
         };
         keeps = f.keeps;
         logs = (subst (λ (calls : List Tried). LogsCalls calls initial store) (sym (no_more so_far.answered)) so_far.logs, refl, refl);
+        purges = subst (λ (calls : List Tried). PurgeInTurn start calls (sees.files initial.shelf) initial.chain.live.mailbox (sees.files store.shelf) store.chain.live.mailbox) (sym (no_more so_far.answered)) so_far.purges;
         since = subst (λ (calls : List Tried). LeavesOnly sees initial.shelf store.shelf (MayGive start calls)) (sym (no_more so_far.answered)) so_far.since;
       }
 
 -- ---- a run over a folder
 
 pub serves_folder : {S C : Type 0} (sees : SeesFolder S) (start : Storage) (calls : List Call) (e : StorageEnd) (out : Output) (old : S) (store new : State S C) (shelf : S) → shelf ≡ new.shelf → IsBegun sees start old store → sees.fault_count store.shelf ≤ sees.fault_count new.shelf
-    → StandsAt new.mark (place_of new.chain) new.owed → Serves sees start (faults_between (sees.fault_count old) (sees.fault_count new.shelf)) calls e out store new → StaysSettled sees store.shelf new.shelf → sees.may_leave new.shelf (sees.files new.shelf)
+    → StandsAt new.mark (place_of new.chain) new.owed → Serves sees start (faults_between (sees.fault_count old) (sees.fault_count new.shelf)) calls e out store new → StaysSettled sees store.shelf new.shelf → sees.may_leave store.shelf (sees.files store.shelf) → sees.may_leave new.shelf (sees.files new.shelf)
     → ServesCalls sees start (faults_between (sees.fault_count old) (sees.fault_count shelf)) calls e out old shelf
-serves_folder {S = S} sees start calls e out old store new shelf same begun later stands serves settled there =
+serves_folder {S = S} sees start calls e out old store new shelf same begun later stands serves settled first there =
     subst (λ (s : S). ServesCalls sees start (faults_between (sees.fault_count old) (sees.fault_count s)) calls e out old s) (sym same)
     (let tried = serves.tried.answered ++ serves.tried.left in
     let May : Folder → Type 0 = MayLeave start tried (sees.files old) in
     record {
       tried = serves.tried;
       place = ends_at e serves.logs;
+      purges = (sees.files store.shelf, store.chain.live.mailbox, new.chain.live.mailbox, (begun.follows.keeps.messages, begun.follows.keeps.storage, begun.follows.keeps.rests.stands.keeps (sees.files store.shelf) first), serves.purges);
       folder = keeps_give sees start tried new serves.keeps (sees.files new.shelf) there;
       after = keeps_give sees start tried new serves.keeps;
       crash = joined sees old store.shelf new.shelf May

@@ -18,9 +18,8 @@ use Rattle.dv_mdbox.proofs.Marked.{marks_both}
 use Rattle.dv_mdbox_lines.specs.Playing.{Tried, done_id}
 use Rattle.dv_mdbox_lines.specs.Scripts.{Call, Copy, Drop, Get, Purge, Save}
 use Rattle.dv_mdbox_serving.specs.Calls.{counted_answer, fault_answer, purged_answer, read_answer, saved_answer}
-use Rattle.dv_mdbox_serving.specs.Groups.{IsGroupOf, Logs, LogsCall, LogsCalls, WriteGroups, WritesGroups, WritesOne}
+use Rattle.dv_mdbox_serving.specs.Groups.{IfPurged, IsGroupOf, Logs, LogsCall, LogsCalls, WriteGroups, WritesGroups, WritesOne}
 use Rattle.dv_mdbox_serving.proofs.Counted.{fault_id}
-use Rattle.dv_mdbox_serving.proofs.Purged.{purged_clears}
 
 -- ---- one group, or none
 
@@ -91,11 +90,21 @@ module _ {S C : Type 0} (old new : State S C) where
   get_logs id (Ok got.Damaged) looked = logs_looked (Get id) old new looked
   get_logs id (Err e) looked = logs_fault (Get id) old new e (logs_looked (Get id) old new looked)
 
+  -- a purge that failed says nothing of what is left
+  purge_failed : (P : Type 0) (e : StorageFault) → IfPurged (fault_answer e) P
+  purge_failed P fault.NoMemory = tt
+  purge_failed P (fault.Disk faults) = tt
+  purge_failed P fault.None = tt
+  purge_failed P fault.Full = tt
+  purge_failed P fault.Ids = tt
+  purge_failed P fault.Files = tt
+  purge_failed P (fault.TooLong bytes) = tt
+
   pub purge_logs : (result : Result ℕ StorageFault) → PurgesMap None old new result → LogsCall Purge (purged_answer result) old new
   purge_logs (Ok n) value = record { groups = value.2.groups; writes = (value.0, value.1, value.2.goes, value.3); entries = value.2.entries; mark = value.2.mark }
   purge_logs (Err e) value = record {
     groups = value.2.groups;
-    writes = (value.0, value.1, value.2.goes, purged_clears (NoneGoneFrom new.chain.live.mailbox value.1) (Err e) tt);
+    writes = (value.0, value.1, value.2.goes, purge_failed (NoneGoneFrom new.chain.live.mailbox value.1) e);
     entries = value.2.entries;
     mark = value.2.mark;
   }

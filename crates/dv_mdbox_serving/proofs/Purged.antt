@@ -10,6 +10,7 @@ use Rattle.dv_model.specs.declared.types.Mailbox.{Mailbox}
 use Rattle.dv_model.specs.declared.types.Row.{Row}
 use Rattle.dv_model.specs.Mailboxes.{IsValid}
 use Rattle.dv_shelf.specs.Crashes.{LeavesOnly}
+use Rattle.dv_shelf.specs.Folders.{Folder}
 use Rattle.dv_shelf.specs.Sees.{SeesFolder}
 use Rattle.dv_shelf.proofs.Moments.{weaker}
 use Rattle.dv_chain.specs.Rest.{Nothing, Owed}
@@ -20,7 +21,8 @@ use Rattle.dv_maps.specs.Texts.{Messages}
 use Rattle.dv_mdbox.specs.declared.fault.StorageFault.{StorageFault}
 use Rattle.dv_mdbox.specs.declared.fault.StorageFault.TheVariants as fault
 use Rattle.dv_mdbox.specs.Answers.{HasStorageCause}
-use Rattle.dv_mdbox.specs.Purging.{MayGivePurge, PurgesMap, PurgesQuietly, PurgesTo, StopsAt}
+use Rattle.dv_mdbox.specs.Purged.{IsPurged}
+use Rattle.dv_mdbox.specs.Purging.{IsCleared, MayGivePurge, PurgesMap, PurgesQuietly, PurgesTo, StopsAt}
 use Rattle.dv_mdbox.specs.States.{State}
 use Rattle.dv_mdbox.specs.Writes.{entry_of}
 use Rattle.dv_mdbox_lines.specs.declared.answers.Answer.{Answer}
@@ -30,8 +32,8 @@ use Rattle.dv_mdbox_lines.specs.Scripts.{Call, Purge}
 use Rattle.dv_playing.specs.Laws.{RiseFrom}
 use Rattle.dv_mdbox_serving.specs.Calls.{IsCalled, fault_answer, purged_answer, tried_of}
 use Rattle.dv_mdbox_serving.specs.Following.{Follows, HasGroups, HaveGroups, IsOwedBehind, failure_of}
-use Rattle.dv_mdbox_serving.specs.Groups.{IfPurged}
 use Rattle.dv_mdbox_serving.specs.Places.{GivesBetween, IsWithoutSome, MayMake}
+use Rattle.dv_mdbox_serving.specs.Purges.{PurgesSo}
 use Rattle.dv_mdbox_serving.proofs.Giving.{keeps_may}
 use Rattle.dv_mdbox_serving.proofs.Going.{behind_more, cut_new, groups_more}
 use Rattle.dv_mdbox_serving.proofs.Counted.{called, fault_rises, fault_undone, owed_on, storage_on}
@@ -279,12 +281,13 @@ module _ {S C : Type 0} (sees : SeesFolder S) (start : Storage) (base : ℕ) (ca
   purged_called (Ok n) count quiet value cause = done_called n count quiet value cause
   purged_called (Err e) count quiet value cause = failed_called e quiet value cause
 
-pub purged_clears : (P : Type 0) (result : Result ℕ StorageFault) → OnOk result P → IfPurged (purged_answer result) P
-purged_clears P (Ok n) holds = holds
-purged_clears P (Err fault.NoMemory) holds = tt
-purged_clears P (Err (fault.Disk faults)) holds = tt
-purged_clears P (Err fault.None) holds = tt
-purged_clears P (Err fault.Full) holds = tt
-purged_clears P (Err fault.Ids) holds = tt
-purged_clears P (Err fault.Files) holds = tt
-purged_clears P (Err (fault.TooLong bytes)) holds = tt
+-- which ids went, and what is left
+pub purged_so : (old : Folder) (m : Mailbox) (new : Folder) (after : Mailbox) (result : Result ℕ StorageFault) → IfOk result (IsPurged old new m after) → OnOk result (IsCleared new after) → PurgesSo Purge (purged_answer result) old m new after
+purged_so old m new after (Ok n) purged cleared = (purged, cleared)
+purged_so old m new after (Err fault.NoMemory) purged cleared = tt
+purged_so old m new after (Err (fault.Disk faults)) purged cleared = tt
+purged_so old m new after (Err fault.None) purged cleared = tt
+purged_so old m new after (Err fault.Full) purged cleared = tt
+purged_so old m new after (Err fault.Ids) purged cleared = tt
+purged_so old m new after (Err fault.Files) purged cleared = tt
+purged_so old m new after (Err (fault.TooLong bytes)) purged cleared = tt

@@ -21,6 +21,7 @@ use Rattle.dv_mdbox_serving.specs.declared.ending.CallEnd.TheVariants as call_en
 use Rattle.dv_mdbox_serving.specs.Following.{Follows}
 use Rattle.dv_mdbox_serving.specs.Groups.{LogsCall}
 use Rattle.dv_mdbox_serving.specs.Places.{GivesBetween}
+use Rattle.dv_mdbox_serving.specs.Purges.{PurgesSo}
 
 -- ---- answers
 
@@ -74,13 +75,15 @@ module _ {S C : Type 0} where
     pub since : LeavesOnly sees old.shelf new.shelf
         (GivesBetween start calls (tried_of call told gone))
 
-  -- it was answered, its groups are the last entries, and of the text of that answer this was
-  -- written
+  -- it was answered, its groups are the last entries, a purge that is done left the folder so, and
+  -- of the text of that answer this was written
   pub record IsTold (sees : SeesFolder S) (start : Storage) (base : ℕ) (calls : List Tried)
       (call : Call) (written : List ℕ → Type 0) (old new : State S C) : Type 0 where
     pub told : Answer
     pub called : IsCalled sees start base calls call (Some told) old new
     pub logs : LogsCall call (Some told) old new
+    pub purges : PurgesSo call (Some told) (sees.files old.shelf) old.chain.live.mailbox
+        (sees.files new.shelf) new.chain.live.mailbox
     pub output : written (answer_text told)
 
   -- What becomes of one line: the call is answered, and the answer written; or memory ended it, and

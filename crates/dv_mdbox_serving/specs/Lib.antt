@@ -1,6 +1,7 @@
 pub mod Places
 pub mod Following
 pub mod Groups
+pub mod Purges
 pub mod Calls
 pub mod Opening
 pub mod Marks

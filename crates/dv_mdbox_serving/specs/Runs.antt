@@ -28,6 +28,7 @@ use Rattle.dv_mdbox_serving.specs.Groups.{LogsCalls}
 use Rattle.dv_mdbox_serving.specs.Marks.{EndsAt, IfAnswered}
 use Rattle.dv_mdbox_serving.specs.Opening.{LeavesUnopened}
 use Rattle.dv_mdbox_serving.specs.Places.{GivesBehind, MayGive, MayLeave}
+use Rattle.dv_mdbox_serving.specs.Purges.{PurgeInTurn, PurgeUpTo}
 
 -- ---- how it ends
 
@@ -88,21 +89,24 @@ module _ {S C : Type 0} where
   end_behind result store = end_of result store.mark (length store.entries)
 
   -- What is left keeps the storage behind these calls, and where all were answered it ends with
-  -- their groups; a crash at any moment leaves that behind some
-  -- of them, or what the next one may make.
+  -- their groups; each purge that was done left the folder and the map so. A crash at any moment
+  -- leaves the storage behind some of the calls, or what the next one may make.
   pub record Serves (sees : SeesFolder S) (start : Storage) (faults : Faults) (calls : List Call)
       (e : StorageEnd) (out : Output) (old new : State S C) : Type 0 where
     pub tried : AreTried start faults calls e out
     pub keeps : Keeps sees start (tried.answered ++ tried.left) new
     pub logs : IfAnswered e (λ mark groups. LogsCalls (tried.answered ++ tried.left) old new
         × (mark ≡ new.mark) × (groups ≡ length new.entries))
+    pub purges : PurgeInTurn start (tried.answered ++ tried.left) (sees.files old.shelf)
+        old.chain.live.mailbox (sees.files new.shelf) new.chain.live.mailbox
     pub since : LeavesOnly sees old.shelf new.shelf
         (MayGive start (tried.answered ++ tried.left))
 
 -- ---- a run over a folder
 
 -- The calls were answered in the storage that the folder gives, or a new one. Where all were, the
--- place and the number of groups that are told are those of their groups. The folder gives the
+-- place and the number of groups that are told are those of their groups. Each purge that was done
+-- removed exactly what it may, and left each message file named. The folder gives the
 -- storage behind them, or that with what the last one makes that was cut off; so does what a crash
 -- behind the run leaves, and a crash during it leaves the storage behind some of them, or what the
 -- next one may make. It is settled where the count of faults didn't rise.
@@ -111,6 +115,7 @@ pub record ServesCalls {S : Type 0} (sees : SeesFolder S) (start : Storage) (fau
   pub tried : AreTried start faults calls e out
   pub place : IfAnswered e (λ mark groups.
       EndsAt start (tried.answered ++ tried.left) mark groups (sees.files old) (sees.may_leave new))
+  pub purges : PurgeUpTo start (tried.answered ++ tried.left) (sees.files new)
   pub folder : GivesBehind start (tried.answered ++ tried.left) (sees.files new)
   pub after : (c : Folder) → sees.may_leave new c
       → GivesBehind start (tried.answered ++ tried.left) c

@@ -1,18 +1,18 @@
 //! One call on a storage.
 
-ghost use Rattle.std.specs.Prelude.{◌≡◌, ◌≤◌, ℕ, List, ⊤};
+ghost use Rattle.std.specs.Prelude.{◌≤◌, ℕ, List};
 ghost use Rattle.dv_logfile.specs.Settling.{StaysSettled};
 ghost use Rattle.dv_maps.specs.Storages as storages;
 ghost use Rattle.dv_chain.specs.Rest.{Owed};
 ghost use Rattle.dv_maps.specs.Texts.{Messages};
-ghost use Rattle.dv_mdbox.specs.Purging.{IsCleared};
 ghost use Rattle.dv_mdbox.specs.States.{IsAtRest};
 ghost use Rattle.dv_mdbox_lines.specs.Playing.{Tried};
 ghost use Rattle.dv_mdbox_lines.specs.Scripts as scripts;
 ghost use Rattle.dv_mdbox_lines.specs.Views.{said};
 ghost use Rattle.dv_mdbox_serving.specs.Calls.{IsCalled, told_of};
 ghost use Rattle.dv_mdbox_serving.specs.Following.{Follows};
-ghost use Rattle.dv_mdbox_serving.specs.Groups.{IfPurged, LogsCall};
+ghost use Rattle.dv_mdbox_serving.specs.Groups.{LogsCall};
+ghost use Rattle.dv_mdbox_serving.specs.Purges.{PurgesSo};
 
 use crate::answering::{counted_answer, purged_answer, read_answer, saved_answer};
 use dv_mdbox::Storage;
@@ -77,11 +77,12 @@ fn purge<S: Shelf, C: Clock>(storage: &mut Storage<S, C>) -> Result<Answer, NoMe
     ensures called { S.sees.tells → (start : storages.Storage) (base : ℕ) (calls : List Tried) →
         Follows S.sees start base calls storage.old →
         IsCalled S.sees start base calls scripts.Purge (told_of result) storage.old storage.new }
-    // Answered OK, each message file is named, and no id without references is left, but in files
-    // that were passed over.
-    ensures clears { S.sees.tells → (messages : Messages) (debt : Owed) →
-        IsAtRest S.sees messages debt storage.old → IfPurged (told_of result)
-        (IsCleared (S.sees.files storage.new.shelf) storage.new.chain.live.mailbox) }
+    // Answered OK, which ids went, and what is left.
+    ensures purges { S.sees.tells → (messages : Messages) (debt : Owed) →
+        IsAtRest S.sees messages debt storage.old →
+        PurgesSo scripts.Purge (told_of result) (S.sees.files storage.old.shelf)
+        storage.old.chain.live.mailbox (S.sees.files storage.new.shelf)
+        storage.new.chain.live.mailbox }
     ensures logs { LogsCall scripts.Purge (told_of result) storage.old storage.new }
     ensures settled { S.sees.tells → StaysSettled S.sees storage.old.shelf storage.new.shelf }
     ensures later { S.sees.fault_count storage.old.shelf ≤ S.sees.fault_count storage.new.shelf }
@@ -100,12 +101,13 @@ pub fn answer_call<S: Shelf, C: Clock>(
         Follows S.sees start base calls storage.old →
         IsCalled S.sees start base calls (said call.entry) (told_of result)
         storage.old storage.new }
-    // A purge that is done leaves each message file named, and no id without references, but in
-    // files that were passed over.
-    ensures clears { S.sees.tells → said call.entry ≡ scripts.Purge →
-        (messages : Messages) (debt : Owed) → IsAtRest S.sees messages debt storage.old →
-        IfPurged (told_of result)
-        (IsCleared (S.sees.files storage.new.shelf) storage.new.chain.live.mailbox) }
+    // Of a purge that is done, which ids went; it leaves each message file named, and no id without
+    // references, but in files that were passed over.
+    ensures purges { S.sees.tells → (messages : Messages) (debt : Owed) →
+        IsAtRest S.sees messages debt storage.old →
+        PurgesSo (said call.entry) (told_of result) (S.sees.files storage.old.shelf)
+        storage.old.chain.live.mailbox (S.sees.files storage.new.shelf)
+        storage.new.chain.live.mailbox }
     // Its groups are the last entries, and the mark is behind them, over any shelf.
     ensures logs { LogsCall (said call.entry) (told_of result) storage.old storage.new }
     ensures settled { S.sees.tells → StaysSettled S.sees storage.old.shelf storage.new.shelf }

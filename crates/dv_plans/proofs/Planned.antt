@@ -19,7 +19,7 @@ use Rattle.dv_formats.specs.Snapshots.{IsSnapshot}
 use Rattle.dv_cache.specs.declared.row.CacheRow.{CacheRow}
 use Rattle.dv_cache.specs.Caches.{cache_text}
 use Rattle.dv_cache.specs.Written.{AreWritable}
-use Rattle.dv_openings.specs.TrueCaches.{cached_rows, known_of}
+use Rattle.dv_openings.specs.TrueCaches.{HasTrueCache, cached_rows, known_of}
 use Rattle.dv_view.specs.Orders.{IsOrdered}
 use Rattle.dv_apply.specs.States.{Held}
 use Rattle.dv_chain.specs.declared.chain.Chain.{Chain}
@@ -152,15 +152,16 @@ module _ (log : Log) (chain : Chain) (folder : Folder) (received : ℕ) (named :
   renewal_of : (steps : Files) → IsCheckOf chain folder steps → IsRenewalOf log n steps
   renewal_of steps check =
       let same = cached_same log n folder keeps in
+      let cache = check.cache (subst (λ (i : ℕ). HasTrueCache folder i n) named keeps.cache) in
       record {
         renewal = check.renewal;
         is = check.is;
         cache = record {
           indexid = chain.indexid;
           seq = next_number (cache_number n);
-          wide = check.cache.wide;
-          writable = subst AreWritable same check.cache.writable;
-          is = check.cache.is ∙ ap (cache_text chain.indexid (next_number (cache_number n))) same;
+          wide = cache.wide;
+          writable = subst AreWritable same cache.writable;
+          is = cache.is ∙ ap (cache_text chain.indexid (next_number (cache_number n))) same;
         };
       }
 

@@ -10,6 +10,7 @@ use Rattle.dv_shelf.specs.Folders.{Folder, Lists}
 use Rattle.dv_dbox.specs.BoxTexts.{written}
 use Rattle.dv_chain.specs.declared.chain.Chain.{Chain}
 use Rattle.dv_lookups.specs.Checks.{IsCacheText}
+use Rattle.dv_openings.specs.TrueCaches.{HasTrueCache}
 use Rattle.dv_files.specs.Reading.{mail_at}
 use Rattle.dv_files.specs.Writing.{IsFileOf}
 use Rattle.dv_writing.specs.Removals.{AreUnlisted}
@@ -54,12 +55,14 @@ IsNextCache chain folder text =
     IsCacheText chain.indexid (next_number (cache_number chain.live.mailbox)) (mail_at folder)
     chain.live.mailbox text
 
--- all message files that no row has go, and the cache file is of the rows' messages
+-- all message files that no row has go, and the cache file is of the rows' messages, where the
+-- folder's was true of them
 pub record IsCheckOf (chain : Chain) (folder : Folder) (steps : Files) : Type 0 where
   pub renewal : Renewal
   pub is : steps ≡ files.Check renewal
   pub gone : AreGone chain.live.mailbox folder renewal.gone
-  pub cache : IsNextCache chain folder renewal.cache
+  pub cache : HasTrueCache folder chain.indexid chain.live.mailbox
+      → IsNextCache chain folder renewal.cache
 
 -- ---- any command
 

@@ -5,7 +5,7 @@ ghost use Rattle.dv_chain.specs.Openings.{HasBounds, OnlyLooks};
 ghost use Rattle.dv_writing.specs.Repairing.{IsOwing};
 ghost use Rattle.dv_files.specs.Writing.{IsFileOf};
 ghost use Rattle.dv_files.specs.Leavings.{HasFaultCause};
-ghost use Rattle.dv_plans.specs.Befores.{HasFewRows, IsBefore, IsRead, reads_of};
+ghost use Rattle.dv_plans.specs.Befores.{HasFewRows, IsBefore, IsRead, ReadsFor};
 ghost use Rattle.dv_plans.specs.Begins.{turns};
 ghost use Rattle.dv_plans.specs.Counts.{CountsMails};
 ghost use Rattle.dv_plans.specs.Files.{AreFewFiles, guid_for, new_file};
@@ -99,8 +99,8 @@ fn before_change<S: Shelf>(
 }
 
 /// What comes before the group of a command, where the messages that it changes were found before.
-/// Takes all memory for it; reads message files by rising UID, then the log, where it is rotated,
-/// and for a CHECK lists the folder.
+/// Takes all memory for it; reads for a CHECK the cache file, then message files by rising UID,
+/// then the log, where it is rotated, and for a CHECK lists the folder.
 pub fn read_before<S: Shelf>(
     alloc: Global,
     c: &Command,
@@ -119,9 +119,10 @@ pub fn read_before<S: Shelf>(
     // Nothing is changed.
     ensures looks { S.sees.tells →
         OnlyLooks S.sees shelf.old shelf.new }
-    // Each of these message files is read once; a fault of the disk has its cause.
-    ensures mail_reads { CountsMails (reads_of c.now chain.now.live.mailbox uids.now)
-        (S.sees.mail_reads shelf.old) (S.sees.mail_reads shelf.new) result }
+    // Each of these message files is read once, by a CHECK at most those that the cache file lacks;
+    // a fault of the disk has its cause.
+    ensures mail_reads { ReadsFor S.sees c.now chain.now uids.now shelf.old shelf.new
+        (λ n before now. CountsMails n before now result) }
     ensures cause { HasFaultCause (S.sees.fault_count shelf.old) (S.sees.fault_count shelf.new)
         result }
 {

@@ -7,7 +7,7 @@ ghost use Rattle.dv_writing.specs.Opening.{AreEqual};
 ghost use Rattle.dv_groups.specs.Changes.{changed_uids};
 ghost use Rattle.dv_groups.specs.Groups.{HasFewKeywords};
 ghost use Rattle.dv_writing.specs.Repairing.{IsOwing};
-ghost use Rattle.dv_plans.specs.Befores.{reads_of};
+ghost use Rattle.dv_plans.specs.Befores.{ReadsFor};
 ghost use Rattle.dv_plans.specs.Begins.{AtReading, TakesReadings, readings_of, received_at, turns};
 ghost use Rattle.dv_plans.specs.Counts.{CountsPlanned};
 ghost use Rattle.dv_plans.specs.Faults.{HasStoreCause};
@@ -31,8 +31,9 @@ use std::alloc::Global;
 /// where the command meets that limit first (RFC 5530, LIMIT), `Disk` only where a read or the
 /// listing failed. The clock is read once where the log is rotated, and then once for the message
 /// of an APPEND. Message files are read by rising UID: of messages that are removed, for their
-/// GUIDs, and of all rows for a CHECK; then the log, where it is rotated; then a CHECK lists the
-/// folder. All memory that the write needs is taken here, and nothing is written.
+/// GUIDs, and for a CHECK of the rows that the cache file lacks; then the log, where it is rotated;
+/// then a CHECK lists the folder. All memory that the write needs is taken here, and nothing is
+/// written.
 pub fn make_ready<S: Shelf, C: Clock>(
     alloc: Global,
     c: &Command,
@@ -62,14 +63,14 @@ pub fn make_ready<S: Shelf, C: Clock>(
     ensures looks { S.sees.tells →
         OnlyLooks S.sees shelf.old shelf.new }
     // The readings of the clock, of which the first is that of a rotation; each of these message
-    // files is read once; a fault has its cause.
+    // files is read once, by a CHECK at most those that the cache file lacks; a fault has its
+    // cause.
     ensures clock { C.sees.tells → TakesReadings (readings_of c.now owed.now chain.old)
         (C.sees.upcoming clock.old) (C.sees.upcoming clock.new) result
         × OnPlan result (TurnsAt chain.old (C.sees.upcoming clock.old 0)) }
-    ensures mail_reads { CountsPlanned
-        (reads_of c.now chain.old.live.mailbox
-        (changed_uids c.now view.now chain.old.live.mailbox))
-        (S.sees.mail_reads shelf.old) (S.sees.mail_reads shelf.new) result }
+    ensures mail_reads { ReadsFor S.sees c.now chain.old
+        (changed_uids c.now view.now chain.old.live.mailbox) shelf.old shelf.new
+        (λ n before now. CountsPlanned n before now result) }
     ensures cause { HasStoreCause (S.sees.fault_count shelf.old) (S.sees.fault_count shelf.new)
         result }
 {

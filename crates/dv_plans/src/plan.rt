@@ -8,7 +8,7 @@ ghost use Rattle.dv_writing.specs.Opening.{AreEqual};
 ghost use Rattle.dv_groups.specs.Changes.{changed_uids};
 ghost use Rattle.dv_writing.specs.Repairing.{IsOwing};
 ghost use Rattle.dv_files.specs.Leavings.{HasFaultCause};
-ghost use Rattle.dv_plans.specs.Befores.{reads_of};
+ghost use Rattle.dv_plans.specs.Befores.{ReadsFor};
 ghost use Rattle.dv_plans.specs.Begins.{AtReading, readings_of, received_at, turns};
 ghost use Rattle.dv_plans.specs.Counts.{CountsMails};
 ghost use Rattle.dv_plans.specs.Overs.{IsWrittenOver};
@@ -68,12 +68,13 @@ pub fn make_plan<S: Shelf, C: Clock>(
     ensures looks { S.sees.tells →
         OnlyLooks S.sees shelf.old shelf.new }
     // The readings of the clock, of which the first is that of a rotation; each of these message
-    // files is read once; a fault has its cause.
+    // files is read once, by a CHECK at most those that the cache file lacks; a fault has its
+    // cause.
     ensures clock { C.sees.tells → (C.sees.upcoming clock.new
         ≡ behind (C.sees.upcoming clock.old) (readings_of c.now owed.now chain.old))
         × IfOk result (TurnsAt chain.old (C.sees.upcoming clock.old 0)) }
-    ensures mail_reads { CountsMails (reads_of c.now chain.old.live.mailbox uids.now)
-        (S.sees.mail_reads shelf.old) (S.sees.mail_reads shelf.new) result }
+    ensures mail_reads { ReadsFor S.sees c.now chain.old uids.now shelf.old shelf.new
+        (λ n before now. CountsMails n before now result) }
     ensures cause { HasFaultCause (S.sees.fault_count shelf.old) (S.sees.fault_count shelf.new)
         result }
 {

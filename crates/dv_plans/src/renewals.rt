@@ -2,12 +2,15 @@
 
 ghost use Rattle.std.specs.Prelude.{◌≡◌, ◌≤◌, All, IfOk, List as Listed, is_some, length, ℕ};
 ghost use Rattle.dv_chain.specs.Openings.{OnlyLooks};
+ghost use Rattle.dv_openings.specs.TrueCaches.{HasTrueCache};
+ghost use Rattle.dv_lookups.specs.Checks.{row_uids};
+ghost use Rattle.dv_lookups.specs.Commands.{SparesEach};
 ghost use Rattle.dv_writing.specs.Repairing.{IsOwing};
 ghost use Rattle.dv_writing.specs.Removals.{IsFree};
 ghost use Rattle.dv_files.specs.Leavings.{HasFaultCause};
 ghost use Rattle.dv_plans.specs.Befores.{IsBefore, IsRead};
 ghost use Rattle.dv_plans.specs.Begins.{turns};
-ghost use Rattle.dv_plans.specs.Counts.{CountsMails, CountsReads};
+ghost use Rattle.dv_plans.specs.Counts.{CountsReads, CountsUpTo};
 ghost use Rattle.dv_plans.specs.Files.{AreGone, IsNextCache};
 
 use crate::before::Before;
@@ -45,17 +48,25 @@ fn gone_uids<S: Shelf>(alloc: Global, live: &Live, shelf: &mut S) -> Result<List
     Ok(unlisted(alloc, live, &names)?)
 }
 
-/// The cache file of the messages of a chain's rows, under its next sequence. Reads each message
-/// file once, by rising UID, and writes nothing.
+/// The cache file of the messages of a chain's rows, under its next sequence: what the folder's
+/// cache file has of them, or else by their files, each read once, by rising UID. Writes nothing.
 fn next_cache<S: Shelf>(alloc: Global, chain: &Chain, shelf: &mut S) -> Result<Bytes, ChainFault>
     requires { length chain.now.live.mailbox.rows ≤ 8388608 }
-    ensures text { S.sees.tells → IfOk result (IsNextCache chain.now (S.sees.files shelf.old)) }
+    // It is of the rows' messages, where the folder's cache file is true.
+    ensures text { S.sees.tells →
+        HasTrueCache (S.sees.files shelf.old) chain.now.indexid chain.now.live.mailbox →
+        IfOk result (IsNextCache chain.now (S.sees.files shelf.old)) }
     // Nothing is changed.
     ensures looks { S.sees.tells →
         OnlyLooks S.sees shelf.old shelf.new }
-    // Each of their message files is read once; a fault of the disk has its cause.
-    ensures mail_reads { CountsMails (length chain.now.live.mailbox.rows)
-        (S.sees.mail_reads shelf.old) (S.sees.mail_reads shelf.new) result }
+    // A message file is read at most for each row, and none for one that the cache file has; a
+    // fault of the disk has its cause.
+    ensures most { CountsUpTo (length chain.now.live.mailbox.rows)
+        (S.sees.mail_reads shelf.old) (S.sees.mail_reads shelf.new) }
+    ensures spares { S.sees.tells →
+        SparesEach (S.sees.files shelf.old) chain.now.indexid chain.now.live.mailbox
+        (row_uids chain.now.live.mailbox)
+        (S.sees.mail_reads shelf.old) (S.sees.mail_reads shelf.new) }
     ensures cause { HasFaultCause (S.sees.fault_count shelf.old) (S.sees.fault_count shelf.new)
         result }
 {
@@ -65,8 +76,8 @@ fn next_cache<S: Shelf>(alloc: Global, chain: &Chain, shelf: &mut S) -> Result<B
     }
 }
 
-/// What comes before the group of a CHECK: reads the rows' messages by rising UID, then the log,
-/// where it is rotated, and lists the folder.
+/// What comes before the group of a CHECK: reads the cache file, and by rising UID the messages of
+/// the rows that it lacks, then the log, where it is rotated, and lists the folder.
 pub fn before_check<S: Shelf>(
     alloc: Global,
     chain: &Chain,
@@ -84,9 +95,14 @@ pub fn before_check<S: Shelf>(
     // Nothing is changed.
     ensures looks { S.sees.tells →
         OnlyLooks S.sees shelf.old shelf.new }
-    // Each of their message files is read once; a fault of the disk has its cause.
-    ensures mail_reads { CountsMails (length chain.now.live.mailbox.rows)
-        (S.sees.mail_reads shelf.old) (S.sees.mail_reads shelf.new) result }
+    // A message file is read at most for each row, and none for one that the cache file has; a
+    // fault of the disk has its cause.
+    ensures most { CountsUpTo (length chain.now.live.mailbox.rows)
+        (S.sees.mail_reads shelf.old) (S.sees.mail_reads shelf.new) }
+    ensures spares { S.sees.tells →
+        SparesEach (S.sees.files shelf.old) chain.now.indexid chain.now.live.mailbox
+        (row_uids chain.now.live.mailbox)
+        (S.sees.mail_reads shelf.old) (S.sees.mail_reads shelf.new) }
     ensures cause { HasFaultCause (S.sees.fault_count shelf.old) (S.sees.fault_count shelf.new)
         result }
 {

@@ -26,6 +26,7 @@ use Rattle.dv_writing.specs.declared.committing.Committed.{Committed}
 use Rattle.dv_writing.specs.Opening.{AreEqual, mark_behind}
 use Rattle.dv_files.specs.declared.texts.Turn.{Turn}
 use Rattle.dv_files.specs.Texts.{next_log, place_of}
+use Rattle.dv_openings.specs.TrueCaches.{HasTrueCache}
 use Rattle.dv_writing.specs.Debts.{Debt, Fits, Last, MayGive, Nothing, Pending, Stands}
 use Rattle.dv_writing.specs.Keeping.{Gives}
 use Rattle.dv_writing.proofs.Resting.{rests_give}
@@ -53,6 +54,7 @@ use Rattle.dv_store.specs.Commits.{Checks, CommitsQuietly, HasChecked, IsLeftAt,
 use Rattle.dv_store.specs.Rest.{IsAtRest}
 use Rattle.dv_store.specs.States.{State}
 use Rattle.dv_store.proofs.Equal.{equal_path, stands_equal}
+use Rattle.dv_store.proofs.Known.{rest_knows}
 use Rattle.dv_store.proofs.Looked.{file_stays, stands_seen}
 use Rattle.dv_store.proofs.Places.{mark_same, place_same, ready_begins, snapshot_same, turns_same}
 use Rattle.dv_shelf.specs.Sees.{SeesFolder}
@@ -113,9 +115,9 @@ file_behind log received m (command.UidRemove _) steps file d e are keeps is = f
 
 module _ (owed turn : Option Turn) (chain before : Chain) (same : AreEqual chain before) (due : IsDue owed chain turn) (made : is_some turn ≡ turns owed chain) where
   -- what it leaves
-  check_left : (steps : Files) (old mid new : Folder) → mid ≡ old → IsCheckOf before old steps → AreFilesFor (ready owed turn chain) steps → HoldsFiles chain.live.mailbox steps new
+  check_left : (steps : Files) (old mid new : Folder) → mid ≡ old → HasTrueCache old before.indexid before.live.mailbox → IsCheckOf before old steps → AreFilesFor (ready owed turn chain) steps → HoldsFiles chain.live.mailbox steps new
       → ((n : Name) → (IsNamed chain.live.mailbox steps n → ⊥) → (IsOfLog turn n → ⊥) → new n ≡ mid n) → HasChecked owed before old new
-  check_left steps old mid new looked is for holds others =
+  check_left steps old mid new looked true_cache is for holds others =
       by_renewal (subst (AreFilesFor (ready owed turn chain)) is.is for) (subst (λ (k : Files). HoldsFiles chain.live.mailbox k new) is.is holds)
       (subst (λ (k : Files). (n : Name) → (IsNamed chain.live.mailbox k n → ⊥) → (IsOfLog turn n → ⊥) → new n ≡ mid n) is.is others)
     where
@@ -125,7 +127,7 @@ module _ (owed turn : Option Turn) (chain before : Chain) (same : AreEqual chain
         index = is.renewal.index;
         snapshot = snapshot_same chain before same owed turn due made is.renewal.index are.1;
         cache = is.renewal.cache;
-        renewed = is.cache;
+        renewed = is.cache true_cache;
         there = (has.1, has.2);
       }
         where
@@ -138,17 +140,17 @@ module _ (owed turn : Option Turn) (chain before : Chain) (same : AreEqual chain
               has.0 uid ((is.gone.are.are uid).1 (record { there = (is.gone.lists.each (name.Mail uid)).0 (subst IsSome (sym some) refl); given = given; free = free }))
 
   -- so it is behind any command
-  checked : (received : ℕ) (steps : Files) (old mid new : Folder) (c : Command) → mid ≡ old → AreFilesMade before received old c steps → AreFilesFor (ready owed turn chain) steps → HoldsFiles chain.live.mailbox steps new
+  checked : (received : ℕ) (steps : Files) (old mid new : Folder) (c : Command) → mid ≡ old → HasTrueCache old before.indexid before.live.mailbox → AreFilesMade before received old c steps → AreFilesFor (ready owed turn chain) steps → HoldsFiles chain.live.mailbox steps new
       → ((n : Name) → (IsNamed chain.live.mailbox steps n → ⊥) → (IsOfLog turn n → ⊥) → new n ≡ mid n) → Checks c owed before old new
-  checked received steps old mid new command.Select looked files_made for holds others = tt
-  checked received steps old mid new command.Noop looked files_made for holds others = tt
-  checked received steps old mid new command.Check looked files_made for holds others = check_left steps old mid new looked files_made for holds others
-  checked received steps old mid new command.Expunge looked files_made for holds others = tt
-  checked received steps old mid new (command.Append _ _ _) looked files_made for holds others = tt
-  checked received steps old mid new (command.Fetch _ _ _) looked files_made for holds others = tt
-  checked received steps old mid new (command.Store _ _ _ _ _ _) looked files_made for holds others = tt
-  checked received steps old mid new (command.Search _ _) looked files_made for holds others = tt
-  checked received steps old mid new (command.UidRemove _) looked files_made for holds others = tt
+  checked received steps old mid new command.Select looked true_cache files_made for holds others = tt
+  checked received steps old mid new command.Noop looked true_cache files_made for holds others = tt
+  checked received steps old mid new command.Check looked true_cache files_made for holds others = check_left steps old mid new looked true_cache files_made for holds others
+  checked received steps old mid new command.Expunge looked true_cache files_made for holds others = tt
+  checked received steps old mid new (command.Append _ _ _) looked true_cache files_made for holds others = tt
+  checked received steps old mid new (command.Fetch _ _ _) looked true_cache files_made for holds others = tt
+  checked received steps old mid new (command.Store _ _ _ _ _ _) looked true_cache files_made for holds others = tt
+  checked received steps old mid new (command.Search _ _) looked true_cache files_made for holds others = tt
+  checked received steps old mid new (command.UidRemove _) looked true_cache files_made for holds others = tt
 
 -- a CHECK has records
 idle_checks : (c : Command) (view : View) (owed : Option Turn) (chain : Chain) (old new : Folder) (guid : ℕ → List ℕ) → (group_over c view chain guid).records ≡ [] → Checks c owed chain old new
@@ -396,8 +398,8 @@ module _ {S C : Type 0} (sees : SeesFolder S) (log : Log) (debt : Debt) (write :
           checks = tt;
         }
 
-    quiet_done : (receipt : Receipt) (uid : Option ℕ) → HasPlan plan uid receipt → left ≡ None → Stores (Ok receipt) → CommitsQuietly sees log debt write store behind_all (Ok receipt)
-    quiet_done receipt uid has paid stores = record {
+    quiet_done : sees.may_leave store.shelf (sees.files store.shelf) → (receipt : Receipt) (uid : Option ℕ) → HasPlan plan uid receipt → left ≡ None → Stores (Ok receipt) → CommitsQuietly sees log debt write store behind_all (Ok receipt)
+    quiet_done may receipt uid has paid stores = record {
       group = λ sizes. has.group ∙ group_is;
       received = λ append more. has.received ∙ came append;
       ok = λ more. record {
@@ -409,9 +411,9 @@ module _ {S C : Type 0} (sees : SeesFolder S) (log : Log) (debt : Debt) (write :
       unwritten = λ none. absurd (let more : 1 ≤ length receipt.group.records = subst (λ (g : Group). 1 ≤ length g.records) (sym has.group) is_plan.some in omega (arith, more, ap length none));
       any_moment = since_stored (Ok receipt) stores;
       others = others_stored (Ok receipt) stores;
-      checks = checked store.owed turn chain store.chain same is_plan.steps.due is_plan.turn write.received plan.steps.files (sees.files store.shelf) (sees.files shelf) (sees.files new) write.command looks.same made is_plan.steps.files stores.written.ok stores.written.others;
+      checks = checked store.owed turn chain store.chain same is_plan.steps.due is_plan.turn write.received plan.steps.files (sees.files store.shelf) (sees.files shelf) (sees.files new) write.command looks.same (rest_knows sees log debt store may rest).knows.is_true made is_plan.steps.files stores.written.ok stores.written.others;
     }
 
-    pub quiet_written : (uid : Option ℕ) (result : Result Receipt StoreFault) → IfOk result (HasPlan plan uid) → OnOk result (left ≡ None) → IfErr result (λ e. IsUnwritten (Err e) → ⊥) → Stores result → CommitsQuietly sees log debt write store behind_all result
-    quiet_written uid (Ok receipt) has paid disk stores = quiet_done receipt uid has paid stores
-    quiet_written uid (Err e) has paid disk stores = quiet_failed e disk stores
+    pub quiet_written : sees.may_leave store.shelf (sees.files store.shelf) → (uid : Option ℕ) (result : Result Receipt StoreFault) → IfOk result (HasPlan plan uid) → OnOk result (left ≡ None) → IfErr result (λ e. IsUnwritten (Err e) → ⊥) → Stores result → CommitsQuietly sees log debt write store behind_all result
+    quiet_written may uid (Ok receipt) has paid disk stores = quiet_done may receipt uid has paid stores
+    quiet_written may uid (Err e) has paid disk stores = quiet_failed e disk stores

@@ -4,11 +4,11 @@ use Rattle.dv_model.specs.declared.types.Mailbox.{Mailbox}
 use Rattle.dv_model.specs.Journals.{Log, Mail}
 use Rattle.dv_model.specs.Sessions.{has_uid}
 use Rattle.dv_shelf.specs.Folders.{Folder}
-use Rattle.dv_openings.specs.TrueCaches.{HasTrueCache}
 use Rattle.dv_chain.specs.Openings.{OnlyLooks}
 use Rattle.dv_writing.specs.Debts.{Debt, Fits, Stands}
 use Rattle.dv_lookups.specs.Founds.{mail_of}
 use Rattle.dv_lookups.specs.Kept.{IsFileOf}
+use Rattle.dv_lookups.specs.Lookups.{KnowsCache}
 use Rattle.dv_store.specs.States.{State}
 use Rattle.dv_shelf.specs.Sees.{SeesFolder}
 
@@ -39,13 +39,8 @@ module _ {S C : Type 0} where
     pub rests : (log : Log) (debt : Debt) → IsAtRest sees log debt old
         → IsAtRest sees log debt new
 
-  -- the folder's cache file is true of the mailbox, and what was read of it is that file
-  pub record KnowsCache (folder : Folder) (store : State S C) : Type 0 where
-    pub file : IsFileOf folder store.cache
-    pub is_true : HasTrueCache folder store.chain.indexid store.chain.live.mailbox
-
-  -- so it is of a store at rest, and the messages of its rows are the log's
+  -- of a store at rest the cache file is true, and the messages of its rows are the log's
   pub record RestKnows (folder : Folder) (log : Log) (store : State S C) : Type 0 where
-    pub knows : KnowsCache folder store
+    pub knows : KnowsCache folder store.chain store.cache
     pub messages : (uid : ℕ) → mail_of folder store.chain.live.mailbox uid
         ≡ log_mail log store.chain.live.mailbox uid

@@ -9,7 +9,7 @@ ghost use Rattle.dv_groups.specs.Changes.{changed_uids};
 ghost use Rattle.dv_groups.specs.Groups.{HasFewKeywords};
 ghost use Rattle.dv_writing.specs.Debts.{Debt, Fits, Stands};
 ghost use Rattle.dv_writing.specs.Repairing.{IsOwing};
-ghost use Rattle.dv_plans.specs.Befores.{reads_of};
+ghost use Rattle.dv_plans.specs.Befores.{ReadsFor};
 ghost use Rattle.dv_plans.specs.Begins.{AtReading, readings_of, received_at, turns};
 ghost use Rattle.dv_plans.specs.Faults.{HasStoreCause};
 ghost use Rattle.dv_plans.specs.declared.fault.StoreFault.TheVariants as fault;
@@ -145,7 +145,7 @@ impl<S: Shelf, C: Clock> Store<S, C> {
     /// others, whatever was owed. After `Disk` the mailbox is as before, and what is owed is
     /// repaired by the next write. The clock is read once where the log is rotated, and then once
     /// for the message of an APPEND. Message files are read by rising UID, once each: of messages
-    /// that are removed, for their GUIDs, and of all rows for a CHECK.
+    /// that are removed, for their GUIDs, and for a CHECK of the rows that the cache file lacks.
     pub fn commit_command(&mut self, c: &Command, view: &View) -> Result<Receipt, StoreFault>
         requires command { IsCommand c.now }
         requires few { HasFewKeywords c.now }
@@ -174,10 +174,9 @@ impl<S: Shelf, C: Clock> Store<S, C> {
             × (S.sees.tells → turns self.old.owed self.old.chain ≡ true →
             Rotates (C.sees.upcoming self.old.clock 0) self.old self.new
             (S.sees.files self.new.shelf)) }
-        ensures mail_reads { CountsMails
-            (reads_of c.now self.old.chain.live.mailbox
-            (changed_uids c.now view.now self.old.chain.live.mailbox))
-            (S.sees.mail_reads self.old.shelf) (S.sees.mail_reads self.new.shelf) result }
+        ensures mail_reads { ReadsFor S.sees c.now self.old.chain
+            (changed_uids c.now view.now self.old.chain.live.mailbox)
+            self.old.shelf self.new.shelf (λ n before now. CountsMails n before now result) }
         // A fault of the disk comes only where the count of faults rose.
         ensures cause { HasStoreCause (S.sees.fault_count self.old.shelf)
             (S.sees.fault_count self.new.shelf) result }

@@ -1,15 +1,16 @@
 //! What is looked up of a mailbox's messages.
 
-ghost use Rattle.std.specs.Prelude.{◌≡◌, ℕ, IfErr, IfOk, OnErr, count_by, false, true};
+ghost use Rattle.std.specs.Prelude.{◌≡◌, ℕ, IfErr, IfOk, OnErr, false, true};
 ghost use Rattle.dv_model.specs.Journals.{Log, Mail as Message};
 ghost use Rattle.dv_model.specs.Sessions.{has_uid, reads_mail};
 ghost use Rattle.dv_openings.specs.TrueCaches.{HasTrueCache};
 ghost use Rattle.dv_writing.specs.Debts.{Debt};
 ghost use Rattle.dv_view.specs.Taken.{HasTaken};
 ghost use Rattle.dv_responses.specs.Depth.{IsShallow};
-ghost use Rattle.dv_lookups.specs.Commands.{CanStand, CannotStand, IsNamed, SparesEach, uids_read};
-ghost use Rattle.dv_lookups.specs.Founds.{AreMessages, IsBody, facts_found, field_found, mail_of, sizes_found};
-ghost use Rattle.dv_lookups.specs.Kept.{CountsUpTo, Economy, IsFileOf, IsSpared, Spares, can_stand, is_kept, is_read};
+ghost use Rattle.dv_lookups.specs.Commands.{IsNamed};
+ghost use Rattle.dv_lookups.specs.Founds.{IsBody, facts_found, field_found, mail_of, sizes_found};
+ghost use Rattle.dv_lookups.specs.Kept.{CountsUpTo, Economy, IsFileOf, IsSpared, Spares, can_stand, is_kept};
+ghost use Rattle.dv_lookups.specs.Lookups.{KnowsCache, KnowsMessages, ReadsFor};
 ghost use Rattle.dv_responses.specs.Damaged.{IsRead};
 ghost use Rattle.dv_plans.specs.Faults.{HasStoreCause};
 ghost use Rattle.dv_store.specs.Faults.{IsFailure};
@@ -173,36 +174,24 @@ impl<S: Shelf, C> Store<S, C> {
         requires shallow { IsShallow c.now }
         requires reads { reads_mail c.now ≡ true }
         // They are those of the messages in their files, where the cache file is true.
-        ensures found { S.sees.tells → IsFileOf (S.sees.files self.old.shelf) self.old.cache →
-            HasTrueCache (S.sees.files self.old.shelf) self.old.chain.indexid
-            self.old.chain.live.mailbox →
-            (mail : ℕ → Message) →
-            AreMessages (S.sees.files self.old.shelf) self.old.chain.live.mailbox mail →
+        ensures found { S.sees.tells → (mail : ℕ → Message) →
+            KnowsMessages (S.sees.files self.old.shelf) self.old.chain self.old.cache mail →
             IfOk result (IsRead R.with lines.old lines.new mail c.now view.now
             self.old.chain.live.mailbox) }
         // What was taken before is kept, also where memory or the disk failed.
-        ensures replies { S.sees.tells → IsFileOf (S.sees.files self.old.shelf) self.old.cache →
-            HasTrueCache (S.sees.files self.old.shelf) self.old.chain.indexid
-            self.old.chain.live.mailbox →
+        ensures replies { S.sees.tells →
+            KnowsCache (S.sees.files self.old.shelf) self.old.chain self.old.cache →
             OnErr result (HasTaken R.with lines.old lines.new) }
-        // Nothing is changed; the cache file isn't read again, or without need.
+        // Nothing is changed.
         ensures stays { IsLookedAt self.old self.new }
         ensures reads { S.sees.tells →
             OnlyReads S.sees self.old self.new }
-        ensures again { is_read self.old.cache ≡ true → self.new.cache ≡ self.old.cache }
-        ensures aside { CannotStand c.now → self.new.cache ≡ self.old.cache }
-        // Want of memory and a fault of the disk are the only errors.
+        // The cache file isn't read again, or without need. A message file is read at most for each
+        // row that the mailbox has, and none for one that is found in the cache file.
+        ensures looks { ReadsFor S.sees self.old.chain c.now view.now
+            self.old.cache self.new.cache self.old.shelf self.new.shelf }
+        // Want of memory and a fault of the disk are the only errors, and this has its cause.
         ensures err { IfErr result IsFailure }
-        // A message file is read at most for each row that the mailbox has, and none for one that
-        // is found in the cache file; a fault of the disk has its cause.
-        ensures most { CountsUpTo (count_by (has_uid self.old.chain.live.mailbox)
-            (uids_read c.now view.now))
-            (S.sees.mail_reads self.old.shelf) (S.sees.mail_reads self.new.shelf) }
-        ensures spares { S.sees.tells → IsFileOf (S.sees.files self.old.shelf) self.old.cache →
-            CanStand c.now →
-            SparesEach (S.sees.files self.old.shelf) self.old.chain.indexid
-            self.old.chain.live.mailbox (uids_read c.now view.now)
-            (S.sees.mail_reads self.old.shelf) (S.sees.mail_reads self.new.shelf) }
         ensures cause { HasStoreCause (S.sees.fault_count self.old.shelf)
             (S.sees.fault_count self.new.shelf) result }
     {

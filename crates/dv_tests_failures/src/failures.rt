@@ -135,9 +135,10 @@ const STAGES: &[Stage] = &[
 ];
 
 // The making; two messages, a STORE; a CHECK with two reads, the listing, two files and the commit;
-// an EXPUNGE with a read; a CHECK with a read, the listing, a removal, two files and the commit; a
-// message; a removal with a read; a STORE; a CHECK as the second one.
-const CALLS: u32 = 1 + 10 + 4 + 9 + 5 + 9 + 5 + 5 + 4 + 9;
+// an EXPUNGE with a read; a CHECK with a read of the cache file, the listing, a removal, two files
+// and the commit; a message; a removal with a read; a STORE; a CHECK as the second one, with a read
+// of the message that came since.
+const CALLS: u32 = 1 + 10 + 4 + 9 + 5 + 9 + 5 + 5 + 4 + 10;
 
 fn new_run(alloc: Global) -> Run {
     Run {

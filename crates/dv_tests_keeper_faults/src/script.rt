@@ -46,10 +46,10 @@ pub const WRITES: [usize; 8] = [2, 3, 6, 7, 9, 10, 11, 12];
 pub const OPENING: u32 = 4;
 
 /// How many calls there are with all that is asked: the opening; a read and three files of the
-/// rotation; three messages; a STORE; a CHECK with two reads, the listing, two files and the commit;
-/// an EXPUNGE and a removal with a read; a CHECK with a read, the listing, two removals, two files
-/// and the commit; and three messages that are read.
-pub const CALLS: u64 = 4 + 4 + 3 * 5 + 4 + 9 + 2 * 5 + 10 + 3;
+/// rotation; three messages; a STORE; a CHECK with two reads, the listing, two files and the
+/// commit; an EXPUNGE and a removal with a read; a CHECK with reads of the cache file and of a
+/// message, the listing, two removals, two files and the commit; and three messages that are read.
+pub const CALLS: u64 = 4 + 4 + 3 * 5 + 4 + 9 + 2 * 5 + 11 + 3;
 
 /// What both are told.
 pub const TOLD: &str = "a * 0 EXISTS\na * OK [UIDVALIDITY 1000]\na * OK [UIDNEXT 1]\n\

@@ -32,6 +32,13 @@ const FOREIGN: &[u8] = b"dvca\x01\0\0\0\xe8\x03\0\0\x09\0\0\0\x02\0\0\0\x56\0\0\
     \x02\0\0\0\0\0\0\0\0\0\0\0\0\0\0\0\
     \xff\xff\xff\xff\xff\xff\xff\xff\xff\xff\xff\xff\x02\0\0\0Hi\xff\xff\xff\xff";
 
+// The cache file numbered 1 that has both messages, with the same sizes and fields.
+const FULL: &[u8] = b"dvca\x01\0\0\0\xe8\x03\0\0\x01\0\0\0\x02\0\0\0\x6c\0\0\0\0\0\0\0\0\0\0\0\
+    \x01\0\0\0\x12\0\0\0\x14\0\0\0\x40\0\0\0\
+    \x02\0\0\0\x12\0\0\0\x14\0\0\0\x56\0\0\0\
+    \xff\xff\xff\xff\xff\xff\xff\xff\xff\xff\xff\xff\x02\0\0\0Hi\xff\xff\xff\xff\
+    \xff\xff\xff\xff\xff\xff\xff\xff\xff\xff\xff\xff\x02\0\0\0Hi\xff\xff\xff\xff";
+
 const MESSAGE: &[u8] = b"Subject: Hi\n\nhello";
 
 // The message in a file whose lines Z and V tell other sizes.
@@ -141,6 +148,28 @@ const CASES: &[Case] = &[
         cache: FOREIGN,
         fails: &[],
         looks: &[Look::Made(1, CACHE)],
+        calls: Some(3),
+    },
+    Case {
+        name: "only messages that are not in the old cache file are read for the new one",
+        cache: CACHE,
+        fails: &[],
+        looks: &[Look::Made(1, CACHE)],
+        calls: Some(2),
+    },
+    // The file of UID 2 was emptied behind its entry.
+    Case {
+        name: "no message file is read for a cache file with nothing new",
+        cache: FULL,
+        fails: &[],
+        looks: &[Look::Made(1, FULL)],
+        calls: Some(1),
+    },
+    Case {
+        name: "file that was damaged later is noticed where the message is read",
+        cache: FULL,
+        fails: &[],
+        looks: &[Look::Made(1, FULL), Look::DamagedBody(2)],
         calls: Some(2),
     },
 ];

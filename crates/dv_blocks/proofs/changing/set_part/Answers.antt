@@ -1,8 +1,8 @@
 use Rattle.std.proofs.Common.{◌∙◌, ap, length, refl, subst, sym}
 use Rattle.dv_blocks.specs.Cells.{with_part}
-use Rattle.dv_blocks.specs.Chunks.{AreChunks, cells_of}
+use Rattle.dv_blocks.specs.Chunks.{AreChunks, AreCounted, cells_of}
 use Rattle.dv_blocks.specs.declared.chunk.Chunk.{Chunk}
-use Rattle.dv_blocks.proofs.Items.{are_item, cells_item, changed_list}
+use Rattle.dv_blocks.proofs.Items.{are_item, cells_item, changed_list, counted_item}
 use Rattle.dv_blocks.proofs.changing.set_part.Goals as goal
 
 pub returns-clause-cells : goal.returns-clause-cells
@@ -11,7 +11,7 @@ returns-clause-cells c =
     let i = c.place_in-block.result.0 in
     let o = c.place_in-block.result.1 in
     let x : Chunk = c.index-chunks-block.result in
-    let is = c.place_in-block.ensures in
+    let is = c.place_in-block.ensures cs c.requires.counted c.requires.inside in
     ap cells_of (changed_list (with_part c.args.part.now) cs i o x c.set_part.new.self is.inside c.set_part.ensures)
     ∙ cells_item (with_part c.args.part.now) cs i o c.args.at x is.inside (is.within x) is.sum
 
@@ -21,6 +21,16 @@ returns-clause-are c =
     let i = c.place_in-block.result.0 in
     let o = c.place_in-block.result.1 in
     let x : Chunk = c.index-chunks-block.result in
-    let is = c.place_in-block.ensures in
+    let is = c.place_in-block.ensures cs c.requires.counted c.requires.inside in
     subst (AreChunks (length c.args.part.now)) (sym (changed_list (with_part c.args.part.now) cs i o x c.set_part.new.self is.inside c.set_part.ensures))
     (are_item (length c.args.part.now) (with_part c.args.part.now) cs c.args.at i o x (λ y. refl) is c.requires.width)
+
+pub returns-clause-counted : goal.returns-clause-counted
+returns-clause-counted c =
+    let cs = c.args.chunks.now in
+    let i = c.place_in-block.result.0 in
+    let o = c.place_in-block.result.1 in
+    let x : Chunk = c.index-chunks-block.result in
+    let is = c.place_in-block.ensures cs c.requires.counted c.requires.inside in
+    subst (AreCounted c.args.starts.now) (sym (changed_list (with_part c.args.part.now) cs i o x c.set_part.new.self is.inside c.set_part.ensures))
+    (counted_item c.args.starts.now (with_part c.args.part.now) cs i o c.requires.counted)

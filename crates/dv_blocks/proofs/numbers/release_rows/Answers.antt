@@ -11,7 +11,7 @@ release-requires c =
     let inside : at < length cells = let less = c.loop-at-test.true in let most = c.requires.inside in omega arith in
     let own : c.entry-number.result.words ≡ (get_or cells at no_cell).words = (c.entry-number.ensures no_cell).words in
     subst (λ (n : ℕ). (n ≡ 0) ⊎ (0 < uses_of c.loop-at.sets n)) (sym own)
-    (next_leaves c.args.sets.now c.loop-at.sets cells c.args.from at no_cell c.loop-at.auto.at inside c.requires.shared c.loop-at.invariant)
+    (next_leaves c.args.sets.now c.loop-at.sets cells c.args.from at no_cell c.loop-at.auto.at inside c.requires.shared.1 c.loop-at.invariant)
 
 pub loop-at-preserved : goal.loop-at-preserved
 loop-at-preserved c =

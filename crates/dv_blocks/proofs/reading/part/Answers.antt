@@ -16,11 +16,11 @@ returns-clause-is c d =
     let y : Chunk = get_or cs i x in
     let same : y ≡ get_or cs i y = ap (λ (z : Chunk). get_or cs i z) c.index-chunks-block.is in
     sym (get_or_from_slice_get (map (λ (z : Cell). z.part) y.block.cells) o c.part.result.now [] c.part.ensures.is)
-    ∙ value_in (λ (z : Cell). z.part) cs c.args.at i o y (map (λ (z : Cell). z.part) y.block.cells) [] d c.place_in-block.ensures same refl
+    ∙ value_in (λ (z : Cell). z.part) cs c.args.at i o y (map (λ (z : Cell). z.part) y.block.cells) [] d (c.place_in-block.ensures cs c.requires.counted c.requires.inside) same refl
 
 pub returns-clause-width : goal.returns-clause-width
 returns-clause-width c w all =
     let cs = c.args.chunks.now in
     let i = c.place_in-block.result.0 in
-    let one : IsChunk w (get_or cs i c.index-chunks-block.result) = All-get_or (IsChunk w) cs i c.index-chunks-block.result c.place_in-block.ensures.inside all in
+    let one : IsChunk w (get_or cs i c.index-chunks-block.result) = All-get_or (IsChunk w) cs i c.index-chunks-block.result (c.place_in-block.ensures cs c.requires.counted c.requires.inside).inside all in
     c.part.ensures.width ∙ one.wide

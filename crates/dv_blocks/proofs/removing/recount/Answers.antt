@@ -1,36 +1,21 @@
-use Rattle.std.proofs.Common.{◌≡◌, ◌∙◌, ◌+◌, ◌^◌, ◌<◌, ◌≤◌, ◌++◌, ap, arith, drop, get_or, length, rules, set, sym, true}
-use Rattle.std.proofs.lemmas.Bool.{ltb-true}
-use Rattle.std.proofs.lemmas.List.{append-nil, drop_all, take_all}
-use Rattle.std.proofs.lemmas.List.Elements.{All-get_or}
-use Rattle.dv_blocks.specs.Chunks.{counted_from, has_rows, noted}
+use Rattle.std.proofs.Common.{◌≡◌, ◌∙◌, ◌+◌, ◌^◌, ◌<◌, ◌≤◌, ◌++◌, ◌∷◌, [], ap, arith, get_or, length, rules, sym, take}
+use Rattle.std.proofs.lemmas.List.{length-set, take_all, take_more, take_more_set}
+use Rattle.dv_blocks.specs.Chunks.{cells_of, starts_from}
 use Rattle.dv_blocks.specs.declared.chunk.Chunk.{Chunk}
+use Rattle.dv_blocks.proofs.Coming.{starts_push}
 use Rattle.dv_blocks.proofs.Found.{lies}
-use Rattle.dv_blocks.proofs.Leaving.{counted_more}
 use Rattle.dv_blocks.proofs.Starts.{grows, next_start, whole}
 use Rattle.dv_blocks.proofs.removing.recount.Goals as goal
 
-pub overflow_cast-rows : goal.overflow_cast-rows
-overflow_cast-rows c =
+pub overflow_cast-starts : goal.overflow_cast-starts
+overflow_cast-starts c =
     let cs = c.args.chunks.now in
     let r = c.loop-at.invariant.rows in
-    let i = c.loop-at.invariant.inside in
-    let most = grows cs c.loop-at.at (length cs) i in
+    let most = grows cs c.loop-at.at (length cs) c.loop-at.invariant.inside in
     let all = whole cs (length cs) (omega arith) in
     let few = c.requires.few in
     let small : c.loop-at.rows < 2 ^ 32 = omega arith in
     search rules
-
-pub note-more-requires : goal.note-more-requires
-note-more-requires c =
-    let cs = c.args.chunks.now in
-    let at = c.loop-at.at in
-    let x : Chunk = c.index-chunks-at.result in
-    let less : at < length cs = c.loop-at-test.true in
-    let inv = c.loop-at.invariant in
-    let more = counted_more c.loop-at.rows at cs c.loop-at.chunks x less inv.done inv.rows c.index-chunks-at.is in
-    let filled : has_rows (get_or cs at x) ≡ true = All-get_or (λ (y : Chunk). has_rows y ≡ true) cs at x less c.requires.filled in
-    let has : has_rows (get_or c.loop-at.chunks at x) ≡ true = ap has_rows (sym c.index-chunks-at.is ∙ more.0) ∙ filled in
-    ltb-true 0 (length (get_or c.loop-at.chunks at x).block.cells) has
 
 pub overflow_add-rows : goal.overflow_add-rows
 overflow_add-rows c =
@@ -38,14 +23,11 @@ overflow_add-rows c =
     let at = c.loop-at.at in
     let x : Chunk = c.index-chunks-at.result in
     let less : at < length cs = c.loop-at-test.true in
-    let inv = c.loop-at.invariant in
-    let more = counted_more c.loop-at.rows at cs c.loop-at.chunks x less inv.done inv.rows c.index-chunks-at.is in
-    let same : length (get_or c.loop-at.chunks at x).block.cells ≡ length (get_or cs at x).block.cells = ap (λ (y : Chunk). length y.block.cells) (sym c.index-chunks-at.is ∙ more.0) in
-    let count = c.note-more.ensures.count in
+    let count = c.len-rows.ensures in
     let within = lies cs at x less in
     let few = c.requires.few in
-    let r = inv.rows in
-    let small : c.loop-at.rows + c.note-more.result < 2 ^ 32 = omega arith in
+    let r = c.loop-at.invariant.rows in
+    let small : c.loop-at.rows + c.len-rows.result < 2 ^ 32 = omega arith in
     search rules
 
 pub loop-at-preserved : goal.loop-at-preserved
@@ -55,19 +37,20 @@ loop-at-preserved c =
     let x : Chunk = c.index-chunks-at.result in
     let less : at < length cs = c.loop-at-test.true in
     let inv = c.loop-at.invariant in
-    let more = counted_more c.loop-at.rows at cs c.loop-at.chunks x less inv.done inv.rows c.index-chunks-at.is in
-    let same : length (get_or c.loop-at.chunks at x).block.cells ≡ length (get_or cs at x).block.cells = ap (λ (y : Chunk). length y.block.cells) (sym c.index-chunks-at.is ∙ more.0) in
-    let count = c.note-more.ensures.count in
+    let many = inv.many in
     let next = next_start cs at x less in
+    let sum : c.loop-at.rows ≡ 0 + length (cells_of (take at cs)) = let r = inv.rows in omega arith in
     record {
-      done = ap (λ y. set c.loop-at.chunks at y) (c.note-more.ensures.is ∙ ap (noted c.loop-at.rows) (sym c.index-chunks-at.is)) ∙ more.1;
-      rows = let r = inv.rows in omega arith;
+      done = take_more_set c.loop-at.starts at c.loop-at.rows (omega arith) ∙ ap (λ l. l ++ c.loop-at.rows ∷ []) inv.done
+          ∙ ap (λ n. starts_from 0 (take at cs) ++ n ∷ []) sum ∙ sym (starts_push 0 (take at cs) (get_or cs at x)) ∙ ap (starts_from 0) (sym (take_more cs at x less));
+      rows = let r = inv.rows in let count = c.len-rows.ensures in omega arith;
       inside = omega arith;
+      many = length-set c.loop-at.starts at c.loop-at.rows ∙ many;
     }
 
 pub returns : goal.returns
 returns c =
     let cs = c.args.chunks.now in
     let past : length cs ≤ c.loop-at.at = c.loop-at-test.false in
-    c.loop-at.invariant.done ∙ ap (λ t. counted_from 0 t ++ drop c.loop-at.at cs) (take_all c.loop-at.at cs past)
-    ∙ ap (λ t. counted_from 0 cs ++ t) (drop_all c.loop-at.at cs past) ∙ append-nil (counted_from 0 cs)
+    let many = c.loop-at.invariant.many in
+    sym (take_all c.loop-at.at c.loop-at.starts (omega arith)) ∙ c.loop-at.invariant.done ∙ ap (starts_from 0) (take_all c.loop-at.at cs past)

@@ -7,7 +7,8 @@ use Rattle.dv_blocks.proofs.sets.hold.Goals as goal
 
 pub use_again-requires-clause-fits : goal.use_again-requires-clause-fits
 use_again-requires-clause-fits c =
-    let small = c.requires (suc c.in-Some.at) in
+    let found : IsFound c.args.sets.now.items c.args.places.now c.in-Some.at = subst (λ (l : List Held). IsFound l c.args.places.now c.in-Some.at) c.deref.ensures.value c.in-Some.ensures.0 in
+    let small = found.fits in
     let same : (get_or c.as_mut_slice.result.now c.in-Some.at unheld).uses ≡ (get_or c.args.sets.now.items c.in-Some.at unheld).uses =
     ap (λ (l : List Held). (get_or l c.in-Some.at unheld).uses) c.as_mut_slice.ensures.value in
     omega arith

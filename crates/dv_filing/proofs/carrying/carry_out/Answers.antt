@@ -5,7 +5,7 @@ use Rattle.dv_chain.specs.declared.chain.Chain.{Chain}
 use Rattle.dv_logfile.proofs.Settling.{settled_then}
 use Rattle.dv_writing.specs.Commits.{IsReady}
 use Rattle.dv_writing.proofs.Ready.{no_debt}
-use Rattle.dv_filing.proofs.Carried.{carry_done, carry_failed, carry_halted, carry_stopped, pending_here, stands_between, storage_done, storage_failed, storage_halted, storage_stopped, through_here, unnamed_behind, unnamed_halted, unnamed_stopped}
+use Rattle.dv_filing.proofs.Carried.{carry_done, carry_failed, carry_halted, carry_stopped, pending_here, stands_between, storage_done, storage_failed, storage_halted, storage_stopped, through_here, unnamed_behind, unnamed_halted, unnamed_stopped, written_behind}
 use Rattle.dv_filing.proofs.Grouped.{group_done, group_failed, group_since}
 use Rattle.dv_filing.proofs.carrying.carry_out.Goals as goal
 
@@ -123,6 +123,7 @@ returns-in-Ok-clause-gives g c = λ tells messages next debt after fits stands i
     storage_done S.sees messages next debt after owed text steps chain old is left mid way _ value due fits quiet between _ writes c.commit.new.chain new
     (group_since S.sees text messages next after mid c.commit.new.chain between new standing pending keeps through.same _ c.in-Ok.ensures.value group now) _
     (group_done S.sees text messages next after mid c.commit.new.chain between new standing pending keeps through.same _ c.in-Ok.ensures.value group now)
+    (let last = writes.written (S.sees.files between) (g.met.S.Shelf.leaves_files between tells) in written_behind steps (S.sees.files old) (S.sees.files way) (c.in_ok-make_way.ensures.files tells).others last.0 (S.sees.files between) (S.sees.files new) last.2 group.others)
     (unnamed_behind steps (S.sees.files old) (S.sees.files way) (c.in_ok-make_way.ensures.files tells).others (S.sees.files between) writes.others (S.sees.files new) group.others)
 
 pub returns-in_err-write_files-clause-settled : goal.returns-in_err-write_files-clause-settled

@@ -10,7 +10,7 @@ use Rattle.dv_lookups.proofs.Rows.{if_in_memory, if_ok}
 use Rattle.dv_lookups.proofs.checking.cache_of_messages.Goals as goal
 
 pub returns-clause-text : goal.returns-clause-text
-returns-clause-text g c = λ told mail are.
+returns-clause-text g c = λ told true_cache mail are.
     let folder = g.S.Shelf.sees.files c.args.shelf.now in
     let m = c.args.chain.now.live.mailbox in
     let indexid = c.args.chain.now.indexid in
@@ -19,7 +19,7 @@ returns-clause-text g c = λ told mail are.
     let held = held_rows (mail_at folder) m.rows in
     let count : length held ≡ length m.rows = length-map m.rows (λ (row : Row). held_row (mail_at folder) row.uid) in
     let begins : c.in_ok-text.text ≡ begun (first_place held) held =
-    c.in_ok-text.ensures.rows told ∙ ap (λ (n : ℕ). begun (32 + 16 * n) held) (sym count) in
+    c.in_ok-text.ensures.rows told true_cache ∙ ap (λ (n : ℕ). begun (32 + 16 * n) held) (sym count) in
     if_in_memory (IsCacheText indexid seq mail m) c.text_of.result c.in_memory.result c.in_memory.ensures
     (if_ok (λ text. text ≡ cache_text indexid seq held) (IsCacheText indexid seq mail m) c.text_of.result
     (λ text is. is_text folder m mail are indexid seq text wide.0 wide.1 c.next_uid-next_uid.ensures.valid c.requires.few is)

@@ -21,7 +21,7 @@ returns-clause-runs g c = λ tells start old begun.
     let new = served.new.storage in
     rw (c.end_behind-end.ensures, c.len.ensures, c.mark-mark.ensures.is, c.parts-shelf.ensures)
     (serves_folder S.sees start (calls_left c.args.calls) (end_behind served.result new) (output_of O.sees c.args.out.now served.new.out) old c.args.storage new new.shelf refl begun served.ensures.later (stands_new c.mark-mark.result new.mark (place_of new.chain) new.owed c.mark-mark.ensures.is c.mark-mark.ensures.stands)
-    (served.ensures.serves tells start (S.sees.fault_count old) begun.follows) (served.ensures.settled tells) (g.met.S.Shelf.leaves_files new.shelf tells))
+    (served.ensures.serves tells start (S.sees.fault_count old) begun.follows) (served.ensures.settled tells) (g.met.S.Shelf.leaves_files c.args.storage.shelf tells) (g.met.S.Shelf.leaves_files new.shelf tells))
 
 pub returns-clause-ends : goal.returns-clause-ends
 returns-clause-ends g c = rw c.end_behind-end.ensures (served_ends c.serve_calls-served.result c.mark-mark.result _)

@@ -20,6 +20,7 @@ returns-in-Ok-clause-runs g c = λ tells start base calls follows. record {
   told = c.in_ok-answer.answer;
   called = c.in_ok-answer.ensures.called tells start base calls follows;
   logs = c.in_ok-answer.ensures.logs;
+  purges = let k = follows.keeps in c.in_ok-answer.ensures.purges tells k.messages k.debt k.rests;
   output = λ told. c.in-Ok.ensures.ok told;
 }
 
@@ -29,5 +30,6 @@ returns-clause-runs g c = λ tells start base calls follows. record {
   told = c.in_ok-answer.answer;
   called = c.in_ok-answer.ensures.called tells start base calls follows;
   logs = c.in_ok-answer.ensures.logs;
+  purges = let k = follows.keeps in c.in_ok-answer.ensures.purges tells k.messages k.debt k.rests;
   output = λ told. c.in-Err.ensures.err told;
 }

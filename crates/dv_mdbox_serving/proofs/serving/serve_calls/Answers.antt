@@ -33,7 +33,7 @@ loop-call-preserved g c =
     record {
       serves = λ tells from base follows.
           let so_far = subst (λ (left : List Call). ServesTo S.sees from base (calls_left c.args.calls.now) O.sees.tells (O.sees.taken c.args.out.now) start left (O.sees.taken c.loop-call.out) mid) next (inv.serves tells from base follows) in
-          serves_more S.sees from base (calls_left c.args.calls.now) O.sees.tells (O.sees.taken c.args.out.now) start (said c.in-Some.call) (calls_left c.next.new.self) (O.sees.taken c.loop-call.out) (O.sees.taken c.serve_call.new.out) mid new so_far
+          serves_more S.sees from base (calls_left c.args.calls.now) O.sees.tells (O.sees.taken c.args.out.now) start (said c.in-Some.call) (calls_left c.next.new.self) (O.sees.taken c.loop-call.out) (O.sees.taken c.serve_call.new.out) mid new so_far (g.met.S.Shelf.leaves_files new.shelf tells)
           (served.runs tells from base so_far.answered so_far.follows);
       settled = λ tells. settled_then S.sees start.shelf mid.shelf new.shelf inv.later served.later (inv.settled tells) (served.settled tells);
       later = let one = inv.later in let two = served.later in omega (arith, one, two);
@@ -64,7 +64,7 @@ returns-in_err-serve_call-clause-serves g c = λ tells from base follows.
     let so_far = subst (λ (left : List Call). ServesTo S.sees from base all O.sees.tells (O.sees.taken c.args.out.now) start left (O.sees.taken c.loop-call.out) mid) next (c.loop-call.invariant.serves tells from base follows) in
     of_error (λ r. Serves S.sees from (faults_between base (S.sees.fault_count new.shelf)) all (end_behind r new) (output_of O.sees c.args.out.now c.serve_call.new.out) start new)
     c.from_residual.result c.in_err-serve_call.field-0.0 c.from_residual.ensures.0 c.from_residual.ensures.1
-    (serves_ended S.sees from base all O.sees.tells (O.sees.taken c.args.out.now) start (said c.in-Some.call) (calls_left c.next.new.self) (O.sees.taken c.loop-call.out) (O.sees.taken c.serve_call.new.out) mid new so_far c.in_err-serve_call.field-0.0
+    (serves_ended S.sees from base all O.sees.tells (O.sees.taken c.args.out.now) start (said c.in-Some.call) (calls_left c.next.new.self) (O.sees.taken c.loop-call.out) (O.sees.taken c.serve_call.new.out) mid new so_far (g.met.S.Shelf.leaves_files new.shelf tells) c.in_err-serve_call.field-0.0
     (c.in_err-serve_call.ensures.runs tells from base so_far.answered so_far.follows))
 
 pub returns-in_err-serve_call-clause-settled : goal.returns-in_err-serve_call-clause-settled

@@ -1,11 +1,14 @@
 use Rattle.std.proofs.Common.{ℕ, ◌+◌, Bool, List, refl, sym, ◌∙◌, ap, subst}
+use Rattle.std.proofs.lemmas.Result.{err_from_is_err_and}
 use Rattle.dv_model.specs.declared.types.GuidRow.{GuidRow}
 use Rattle.dv_model.specs.Sessions.{group_of, is_append}
 use Rattle.dv_dbox.specs.Mails.{no_guid}
 use Rattle.dv_shelf.specs.Clocks.{behind}
 use Rattle.dv_files.specs.Texts.{place_of}
 use Rattle.dv_plans.specs.Begins.{count_of, received_at, turns}
+use Rattle.dv_plans.specs.Counts.{CountsReads, CountsUpTo}
 use Rattle.dv_plans.specs.Groups.{AreFound}
+use Rattle.dv_plans.proofs.Counts.{all_counted, reads_also}
 use Rattle.dv_plans.proofs.Dated.{dated_at}
 use Rattle.dv_plans.proofs.Made.{files_at, plan_made, plans_each, read_at, turned_at}
 use Rattle.dv_plans.proofs.Passed.{few_rows, passes}
@@ -75,3 +78,18 @@ returns-clause-clock g c = λ tells.
       times.ensures.clock tells ∙ ap (λ (b : Bool). behind upcoming (count_of b + count_of c.is_append.result)) due ∙ ap (λ (b : Bool). behind upcoming (count_of (turns c.args.owed.now c.args.chain.now) + count_of b)) c.is_append.ensures,
       turned_at c.args.chain.now times.result.turn c.in_ok-before.before.turn (upcoming 0) c.in_ok-before.ensures.is.made c.in_ok-before.ensures.is.turn (times.ensures.time tells),
     )
+
+pub returns-in_err-before-clause-mail_reads : goal.returns-in_err-before-clause-mail_reads
+returns-in_err-before-clause-mail_reads g c =
+    let p = err_from_is_err_and c.from_residual.result c.from_residual.ensures.1 in
+    rw p.1 c.in_err-before.ensures.mail_reads
+
+pub returns-in_err-written-clause-mail_reads : goal.returns-in_err-written-clause-mail_reads
+returns-in_err-written-clause-mail_reads g c =
+    let S = g.S.Shelf in
+    let p = err_from_is_err_and c.from_residual-in_err-written.result c.from_residual-in_err-written.ensures.1 in
+    rw p.1
+    (reads_also S.sees c.args.c.now c.args.chain.now c.args.uids.now c.args.shelf.now c.read_before.new.shelf c.read_before.new.shelf CountsReads CountsUpTo refl (λ n before all. all_counted n before (S.sees.mail_reads c.read_before.new.shelf) all) c.in_ok-before.ensures.mail_reads)
+
+pub returns-clause-mail_reads : goal.returns-clause-mail_reads
+returns-clause-mail_reads g c = c.in_ok-before.ensures.mail_reads

@@ -7,17 +7,17 @@ use Rattle.dv_blocks.proofs.blocks.Blocks.place_from.Goals as goal
 
 pub overflow_cast-result : goal.overflow_cast-result
 overflow_cast-result c =
-    let small : length (cells_of c.self.inside.chunks.items) < 2 ^ 32 = few c.self.inside.chunks.items c.self.invariant.rising in
-    let same : length (cells_of c.deref.result.now) ≡ length (cells_of c.self.inside.chunks.items) = ap (λ l. length (cells_of l)) c.deref.ensures.value in
-    let inside = place_inside (uids_of c.deref.result.now) c.args.uid c.place_from.result c.place_from.ensures in
-    let long = uids_long c.deref.result.now in
+    let small : length (cells_of c.self.inside.chunks.items) < 2 ^ 32 = few c.self.inside.chunks.items c.self.invariant.are.rising in
+    let same : length (cells_of c.deref-2.result.now) ≡ length (cells_of c.self.inside.chunks.items) = ap (λ l. length (cells_of l)) c.deref-2.ensures.value in
+    let inside = place_inside (uids_of c.deref-2.result.now) c.args.uid c.place_from.result c.place_from.ensures in
+    let long = uids_long c.deref-2.result.now in
     let less : c.place_from.result < 2 ^ 32 = omega arith in
     search rules
 
 pub returns-clause-inside : goal.returns-clause-inside
 returns-clause-inside c =
-    let same : length (cells_of c.deref.result.now) ≡ length (cells_of c.self.inside.chunks.items) = ap (λ l. length (cells_of l)) c.deref.ensures.value in
-    let inside = place_inside (uids_of c.deref.result.now) c.args.uid c.place_from.result c.place_from.ensures in
-    let long = uids_long c.deref.result.now in
+    let same : length (cells_of c.deref-2.result.now) ≡ length (cells_of c.self.inside.chunks.items) = ap (λ l. length (cells_of l)) c.deref-2.ensures.value in
+    let inside = place_inside (uids_of c.deref-2.result.now) c.args.uid c.place_from.result c.place_from.ensures in
+    let long = uids_long c.deref-2.result.now in
     let view : length (cells_of c.self.inside.chunks.items) ≡ length c.args.self.now.cells = ap (λ (s : Cells). length s.cells) c.self.view_is in
     omega arith

@@ -32,14 +32,14 @@ pub rewrite_file-requires : goal.rewrite_file-requires
 rewrite_file-requires g c =
     let m = c.args.self.now.chain.live.mailbox in
     let none : length c.as_slice.result.now ≡ 0 = eqb-true _ _ (sym c.is_empty.ensures ∙ c.if-is_empty.true) in
-    nothing_kept m c.args.file c.in_ok-rows.rows c.in_ok-rows.ensures (sym c.as_slice.ensures.value ∙ no_items c.as_slice.result.now none) (some_gone m c.requires.0 c.args.file c.requires.1)
+    nothing_kept m c.args.file c.in_ok-rows.rows c.in_ok-rows.ensures (sym c.as_slice.ensures.value ∙ no_items c.as_slice.result.now none) (some_gone m c.requires.next.0 c.args.file c.requires.next.1)
 
 pub move_texts-requires-clause-some : goal.move_texts-requires-clause-some
 move_texts-requires-clause-some g c =
     let m = c.args.self.now.chain.live.mailbox in
     let some : 1 ≤ length c.as_slice.result.now = grind (arith, nat_tests, c.is_empty.ensures, c.if-is_empty.false) in (
       subst (λ (rs : List Mapped). 1 ≤ length rs) c.as_slice.ensures.value some,
-      subst (λ (ids : List ℕ). 1 ≤ length ids) (sym c.in_ok-rows.ensures.gone) (some_gone m c.requires.0 c.args.file c.requires.1),
+      subst (λ (ids : List ℕ). 1 ≤ length ids) (sym c.in_ok-rows.ensures.gone) (some_gone m c.requires.next.0 c.args.file c.requires.next.1),
     )
 
 pub returns-then-is_empty-clause-value : goal.returns-then-is_empty-clause-value

@@ -2,11 +2,14 @@ use Rattle.std.proofs.Common.{◌≡◌, ℕ, ◌+◌, ◌++◌, ◌∷◌, [], 
 use Rattle.std.proofs.lemmas.Result.{err_from_is_err_and}
 use Rattle.dv_logfile.proofs.Settling.{settled_then}
 use Rattle.dv_chain.specs.Rest.{Nothing}
+use Rattle.dv_maps.specs.Purges.{all_mapped}
+use Rattle.dv_maps.specs.Tables.{IsTableFrom}
 use Rattle.dv_maps.specs.Texts.{Messages}
 use Rattle.dv_mdbox.specs.Purging.{IsClearedTo, PurgesTo}
 use Rattle.dv_mdbox.proofs.Clearing.{cleared_all, cleared_more, cleared_none}
 use Rattle.dv_mdbox.specs.States.{IsAtRest}
 use Rattle.dv_mdbox.proofs.Purged.{KnowsStill, knows_more, knows_next, knows_start}
+use Rattle.dv_mdbox.proofs.Listed.{all_told, some_weaker, table_behind}
 use Rattle.dv_mdbox.proofs.Stepping.{none_taken, taken_last, taken_more}
 use Rattle.dv_mdbox.proofs.Thinning.{quiet_err, quiet_stays, quiet_then, takes_both, takes_none}
 use Rattle.dv_mdbox.proofs.storage.Storage.take_files.Goals as goal
@@ -17,6 +20,7 @@ loop-file-init g c =
     let start = c.args.self.now in
     record {
       from = omega arith;
+      table = some_weaker c.table-table.result (λ t is. (is.0, c.tables_stay.ensures.whole (all_mapped start.chain.live.mailbox) t 0 is.1)) c.table-table.ensures;
       value = λ known knows. (([], none_taken known 0 start start refl refl refl refl refl), knows_start S.sees known start knows);
       gives = λ tells messages rest. quiet_stays S.sees messages c.thinnings_are.ensures start start refl refl refl (λ f left. g.met.S.Shelf.only_now start.shelf f tells left) rest (Ok tt);
       clears = λ tells messages rest named. cleared_none (S.sees.files start.shelf) start.chain.live.mailbox named;
@@ -25,8 +29,16 @@ loop-file-init g c =
       clock = λ tells. takes_none (g.C.Clock.sees.upcoming start.clock);
     }
 
+pub next_gone-requires : goal.next_gone-requires
+next_gone-requires g c = some_weaker c.loop-file.table-1 (λ t is. is.1) c.loop-file.invariant.table
+
 pub take_file-requires : goal.take_file-requires
-take_file-requires g c = (c.loop-file.from, c.in-Some.ensures)
+take_file-requires g c =
+    let next = c.in-Some.ensures in
+    record {
+      next = (c.loop-file.from, next);
+      table = some_weaker c.loop-file.table-1 (λ t is. all_told c.loop-file.from (all_mapped c.loop-file.self.chain.live.mailbox) t is.1 c.in-Some.file next.from_there next.some.0 next.some.1 next.some.2 next.some.3) c.loop-file.invariant.table;
+    }
 
 pub loop-file-preserved : goal.loop-file-preserved
 loop-file-preserved g c =
@@ -42,6 +54,12 @@ loop-file-preserved g c =
     let same : c.from-from.result ≡ file = c.from-from.ensures in
     record {
       from = omega arith;
+      table = some_weaker c.loop-file.table-1
+          (λ t is.
+          let goes = taken.value from None next tt in
+          let after = new.chain.live.mailbox in
+          let behind = table_behind c.tables_stay.ensures mid.chain.live.mailbox after is.0 from file t is.1 goes.groups (file + 1) goes.goes in
+          (behind.0, subst (λ (n : ℕ). IsTableFrom (n + 1) (all_mapped after) t) (sym same) behind.1)) inv.table;
       value = λ known knows.
           let was = inv.value known knows in
           let files = was.0.0 in

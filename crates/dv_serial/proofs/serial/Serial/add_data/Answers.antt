@@ -22,7 +22,7 @@ returns-clause-found g c =
     let knows = (known_here S.sees log debt store there rest).knows in
     elim c.match-read_for.branch [
       | in-Ok w ↦ rw (w.result-is, w.replies-is) (subst (λ (view : View). IsRead g.R.Replies.with c.args.replies.now c.read_for.new.lines log.mail c.args.c.now view store.chain.live.mailbox w.in-Ok.damaged) seen
-          (w.in-Ok.ensures.found tells knows.file knows.is_true log.mail (messages_known S.sees log debt store there rest)))
+          (w.in-Ok.ensures.found tells log.mail (record { knows = knows; held = messages_known S.sees log debt store there rest })))
       | in-Err w ↦ rw w.result-is tt
     ])
 
@@ -36,7 +36,7 @@ returns-clause-failed g c =
     elim c.match-read_for.branch [
       | in-Ok w ↦ absurd (done_failed _ (fault.Disk faults) c.match-read_for.result w.result-is disk)
       | in-Err w ↦
-          let more = w.in-Err.ensures.replies tells knows.file knows.is_true in
+          let more = w.in-Err.ensures.replies tells knows in
           w.replies-is ∙ w.cut.ensures c.args.replies.now more.told more.is c.length-taken.ensures
     ])
 
@@ -58,7 +58,7 @@ returns-clause-replies g c =
     elim c.match-read_for.branch [
       | in-Ok w ↦ rw w.result-is tt
       | in-Err w ↦
-          let more = w.in-Err.ensures.replies tells knows.file knows.is_true in
+          let more = w.in-Err.ensures.replies tells knows in
           let same = w.replies-is ∙ w.cut.ensures c.args.replies.now more.told more.is c.length-taken.ensures in
           rw w.result-is (taken_none g.R.Replies.with g.met.R.Replies.none c.args.replies.now c.match-read_for.replies same)
     ])

@@ -36,7 +36,7 @@ returns-clause-found g c h =
     subst (λ (x : Kept g.row.S.Denot g.row.C.Denot). IfOk c.read_for-result.result (IsRead g.R.Replies.with c.args.lines.now c.read_for-result.new.lines (log_of g.K.Keeping.start (notes_in x)).mail c.args.c.now c.args.s.now.follower.state.view x.store.chain.live.mailbox))
     (ap (λ (l : Locked g.row.S.Denot g.row.C.Denot). l.kept) c.self.view_is)
     (subst (λ (v : View). IfOk c.read_for-result.result (IsRead g.R.Replies.with c.args.lines.now c.read_for-result.new.lines log.mail c.args.c.now v k.store.chain.live.mailbox)) c.view.ensures
-    (c.read_for-result.ensures.found folder.told knows.file knows.is_true log.mail messages))
+    (c.read_for-result.ensures.found folder.told log.mail (record { knows = knows; held = messages })))
 
 pub returns-clause-lines : goal.returns-clause-lines
 returns-clause-lines g c h =
@@ -44,4 +44,4 @@ returns-clause-lines g c h =
     let log : Log = log_of g.K.Keeping.start (notes_in k) in
     let folder = c.self.invariant.0.folder h in
     let knows = (c.knows.ensures folder.told log folder.rests.debt folder.rests.rests).knows in
-    c.read_for-result.ensures.replies folder.told knows.file knows.is_true
+    c.read_for-result.ensures.replies folder.told knows

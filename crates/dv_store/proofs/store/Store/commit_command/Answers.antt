@@ -1,11 +1,13 @@
-use Rattle.std.proofs.Common.{Err, refl, sym, ap, subst}
+use Rattle.std.proofs.Common.{ℕ, [], Err, refl, sym, ap, subst}
 use Rattle.dv_plans.specs.declared.plan.Plan.{Plan}
-use Rattle.dv_plans.specs.Befores.{reads_of}
 use Rattle.dv_plans.specs.Begins.{count_of, readings_of, received_at, turns}
+use Rattle.dv_shelf.specs.Folders.{counted}
+use Rattle.dv_plans.specs.Counts.{CountsReads}
+use Rattle.dv_plans.proofs.Counts.{reads_also, reads_none}
 use Rattle.dv_plans.proofs.Dated.{cut, cut_same, cut_small}
 use Rattle.dv_groups.specs.Changes.{changed_uids}
 use Rattle.dv_writing.specs.Writes.{Write}
-use Rattle.dv_store.specs.Commits.{TakesReadings, write_at}
+use Rattle.dv_store.specs.Commits.{CountsFor, CountsMails, TakesReadings, write_at}
 use Rattle.dv_store.specs.States.{State}
 use Rattle.dv_store.proofs.Committing.{quiet_idle, quiet_refused, quiet_written, rotates_not, rotates_written, stands_readied}
 use Rattle.dv_store.proofs.Equal.{owing_equal}
@@ -71,6 +73,7 @@ returns-in-Ok-Some-clause-gives g c = rw (← c.self.view_is) (λ tells.
           let stands = stands_readied S.sees log debt write _ rest mid.chain same c.forget.new.cache c.forget.ensures mid.shelf mid.clock looks in
           let plans = dated.is.each log author stands.named (stands.keeps (S.sees.files mid.shelf) (g.met.S.Shelf.leaves_files mid.shelf tells)) in
           quiet_written S.sees log debt write _ rest mid.chain same c.forget.new.cache c.forget.ensures mid.shelf mid.clock looks plan c.write_plan.new.owed c.write_plan.new.chain c.write_plan.new.shelf is plans dated.is.files dated.is.came c.write_plan.new.at
+          (g.met.S.Shelf.leaves_files c.self.inside.shelf tells)
           c.appended_uid-uid.result c.write_plan.result c.write_plan.ensures.receipt (carried_paid c.write_plan.result c.write_plan.ensures.value) (disk_written (S.sees.fault_count c.write_plan.new.shelf) c.write_plan.result c.write_plan.ensures.err)
           (c.write_plan.ensures.gives tells log debt write rest.fits stands plans.is);
     })
@@ -120,12 +123,26 @@ returns-in-Ok-None-clause-clock g c = rw (← c.self.view_is, c.idle.ensures) (�
 
 pub returns-in-Ok-Some-clause-mail_reads : goal.returns-in-Ok-Some-clause-mail_reads
 returns-in-Ok-Some-clause-mail_reads g c = rw (← c.self.view_is) (
+    let S = g.S.Shelf in
     let is = rw c.in-Ok-Some.field-0-is at c.in-Ok-Some.ensures.steps in
     let read = rw c.in-Ok-Some.field-0-is at c.in-Ok-Some.ensures.mail_reads in
-    let m = c.self.inside.chain.live.mailbox in
-    let reads = g.S.Shelf.sees.mail_reads in
-    mails_counted c.in-Ok-Some.plan c.appended_uid-uid.result is.some (reads_of c.args.c.now m (changed_uids c.args.c.now c.args.view.now m)) (reads c.self.inside.shelf) (reads c.make_ready.new.shelf) (reads c.write_plan.new.shelf)
-    c.write_plan.result c.write_plan.ensures.receipt read c.write_plan.ensures.mail_reads)
+    let chain = c.self.inside.chain in
+    let mid = c.make_ready.new.shelf in
+    let new = c.write_plan.new.shelf in
+    let same = c.write_plan.ensures.mail_reads in
+    reads_also S.sees c.args.c.now chain (changed_uids c.args.c.now c.args.view.now chain.live.mailbox) c.self.inside.shelf mid new CountsReads (λ n before now. CountsMails n before now c.write_plan.result) (ap (λ (k : ℕ). counted k 0) same)
+    (λ n before some. mails_counted c.in-Ok-Some.plan c.appended_uid-uid.result is.some n before (S.sees.mail_reads mid) (S.sees.mail_reads new) c.write_plan.result c.write_plan.ensures.receipt some same) read)
+
+pub returns-in-Ok-None-clause-mail_reads : goal.returns-in-Ok-None-clause-mail_reads
+returns-in-Ok-None-clause-mail_reads g c = rw (← c.self.view_is, c.idle.ensures) (
+    let S = g.S.Shelf in
+    let untouched = rw c.in-Ok-None.field-0-is at c.in-Ok-None.ensures.untouched in
+    let same = ap S.sees.mail_reads untouched.0 in
+    let chain = c.self.inside.chain in
+    reads_none S.sees c.args.c.now chain (changed_uids c.args.c.now c.args.view.now chain.live.mailbox) c.self.inside.shelf c.make_ready.new.shelf (λ n before now. CountsFor n before now []) (ap (λ (k : ℕ). counted k 0) same) (λ n. same))
+
+pub returns-in-Err-clause-mail_reads : goal.returns-in-Err-clause-mail_reads
+returns-in-Err-clause-mail_reads g c = rw (← c.self.view_is) c.in-Err.ensures.mail_reads
 
 pub returns-in-Ok-Some-clause-cause : goal.returns-in-Ok-Some-clause-cause
 returns-in-Ok-Some-clause-cause g c = rw (← c.self.view_is)
